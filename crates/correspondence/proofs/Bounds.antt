@@ -1,0 +1,291 @@
+-- Every number that a run or a decoded schedule has is below 65,536: the values of lines, the events, the items where blocks end.
+-- Assumes nothing. Met again in Demand3, which speaks of 16-bit numbers only.
+use mathlib.Core.Path.{_≡_}
+use Prim.Native.Nat.{ℕ, zero, suc, _+_, _-_, _*_, _%_, _≤_, _<_}
+use mathlib.Core.Bool.{Bool, true, false, cond, not, _&&_}
+use mathlib.Core.List.{List, [], _∷_, _++_}
+use native.Mathlib.Omega.{arith}
+use native.Mathlib.Nat.{le-refl, mod-lt}
+use lib.Dec.{ltb, eqb}
+use lib.Bits.{and-lt, or-lt}
+use lib.ListN.{getD, set, length, drop, replicate}
+use Rattle.laws.proofs.Below.{below-at, all-below-set, all-below-append, all-below-replicate, all-below-numbersFrom}
+use Rattle.model.specs.Word.{wordSize, AllBelow, bit, nonzero}
+use Rattle.model.specs.Limits.{localCount}
+use Rattle.model.specs.Lists.{numbersFrom}
+use Rattle.model.specs.CaseFile.{Kind, compute, store, load, input, assert, assume, lock, unlock, Line, Case, linesOf, itemCount}
+use Rattle.model.specs.Line.{operandA, operandB, targetName, Reads, guardTrue, apply, expression, guardedInValue, guardedOutValue, valueBy, valueOf, isInput}
+use Rattle.model.specs.Assignment.{Assignment, assignmentOf}
+use Rattle.model.specs.Copies.{readsAfter}
+use Rattle.model.specs.Machine.{Memory, State, look, putLocal, putItem, readsIn, stepped, start, restIn, memoryIn}
+use Rattle.model.specs.Schedule.{allInputLines, valueGiven, linesInBlock, countedLengths, decodedValues, allDecodedValues, decode}
+use Rattle.correspondence.specs.Meaning.{AllLines, WellFormed}
+use Rattle.correspondence.specs.Trace.{Event, blockEvents, memoryAfter, endMemory, nextState, leftEvents, allLeftEvents, events, snapshots}
+use Rattle.correspondence.specs.Fill.{blockIn, valueIn, traced, recordNumbers, blockNumbers, numbersOfAssignment, tracedRun}
+use Rattle.correspondence.proofs.AllLines.{all-dropped}
+use Rattle.correspondence.proofs.Blocks.{turn}
+
+-- A number of 16 bits; lists of such numbers; lists by number whose every list is such a one.
+abbrev IsWord : ℕ → Type 0
+IsWord x = x < wordSize
+
+abbrev Small : List ℕ → Type 0
+Small xs = AllBelow wordSize xs
+
+abbrev EachSmall : List (List ℕ) → Type 0
+EachSmall xss = (j : ℕ) → Small (getD xss j [])
+
+each-small-replicate : (many : ℕ) (xs : List ℕ) → Small xs → EachSmall (replicate many xs)
+each-small-replicate zero xs h j = tt
+each-small-replicate (suc many) xs h zero = h
+each-small-replicate (suc many) xs h (suc j) = each-small-replicate many xs h j
+
+-- What each of a list has, each has after a change of one to another that has it.
+each-after-set : {A : Type 0} (P : A → Type 0) (default : A) (xs : List A) (t : ℕ) (x : A) → ((j : ℕ) → P (getD xs j default)) → P x
+    → (j : ℕ) → P (getD (set xs t x) j default)
+each-after-set P default [] t x h p j = h j
+each-after-set P default (y ∷ xs) zero x h p zero = p
+each-after-set P default (y ∷ xs) zero x h p (suc j) = h (suc j)
+each-after-set P default (y ∷ xs) (suc t) x h p zero = h 0
+each-after-set P default (y ∷ xs) (suc t) x h p (suc j) = each-after-set P default xs t x (λ i. h (suc i)) p j
+
+-- What both have, the one that a test takes has.
+either : {A : Type 0} (P : A → Type 0) (q : Bool) (x y : A) → P x → P y → P (cond q x y)
+either P true x y h g = h
+either P false x y h g = g
+
+below-bit : (q : Bool) → bit q < wordSize
+below-bit true = omega arith
+below-bit false = omega arith
+
+-- The value of a line.
+below-apply : (op x y : ℕ) → x < wordSize → y < wordSize → apply op x y < wordSize
+unfolding apply
+below-apply op x y hx hy =
+    either IsWord (eqb op 0) _ _ hx
+    (either IsWord (eqb op 1) _ _ (mod-lt (x + y) (omega arith))
+    (either IsWord (eqb op 2) _ _ (mod-lt (x + (wordSize - y)) (omega arith))
+    (either IsWord (eqb op 3) _ _ (and-lt 16 x y hx hy)
+    (either IsWord (eqb op 4) _ _ (or-lt 16 x y hx hy)
+    (either IsWord (eqb op 5) _ _ (below-bit (eqb x y)) (below-bit (ltb x y)))))))
+
+record SmallReads (reads : Reads) : Type 0 where
+  a : reads .a < wordSize
+  b : reads .b < wordSize
+  target : reads .target < wordSize
+  given : reads .given < wordSize
+
+below-expression : (l : Line) (reads : Reads) → l .c < wordSize → SmallReads reads → expression l reads < wordSize
+unfolding expression
+below-expression l reads c h = below-apply (l .op) _ _
+    (either IsWord (eqb (l .a) localCount) (l .c) (reads .a) c (h .a)) (either IsWord (eqb (l .b) localCount) (l .c) (reads .b) c (h .b))
+
+below-guarded-in : (kind : Kind) (l : Line) (reads : Reads) → l .c < wordSize → SmallReads reads → guardedInValue kind l reads < wordSize
+unfolding guardedInValue
+below-guarded-in compute l reads c h = below-expression l reads c h
+below-guarded-in store l reads c h = below-expression l reads c h
+below-guarded-in load l reads c h = h .a
+below-guarded-in input l reads c h = h .given
+below-guarded-in assert l reads c h = below-bit (nonzero (expression l reads))
+below-guarded-in assume l reads c h = below-bit (nonzero (expression l reads))
+below-guarded-in lock l reads c h = omega arith
+below-guarded-in unlock l reads c h = omega arith
+
+below-guarded-out : (kind : Kind) (reads : Reads) → SmallReads reads → guardedOutValue kind reads < wordSize
+unfolding guardedOutValue
+below-guarded-out compute reads h = h .target
+below-guarded-out store reads h = h .target
+below-guarded-out load reads h = h .target
+below-guarded-out input reads h = h .target
+below-guarded-out assert reads h = omega arith
+below-guarded-out assume reads h = omega arith
+below-guarded-out lock reads h = h .target
+below-guarded-out unlock reads h = h .target
+
+below-value : (l : Line) (reads : Reads) → l .c < wordSize → SmallReads reads → valueOf l reads < wordSize
+unfolding valueBy
+below-value l reads c h =
+    either IsWord (guardTrue l reads) _ _ (below-guarded-in (l .kind) l reads c h) (below-guarded-out (l .kind) reads h)
+
+-- The machine.
+record SmallMemory (m : Memory) : Type 0 where
+  locals : Small (m .locals)
+  items : Small (m .items)
+
+below-look : (m : Memory) (name : ℕ) → SmallMemory m → look m name < wordSize
+unfolding look
+below-look m name h =
+    either IsWord (ltb name localCount) _ _ (below-at wordSize (m .locals) (omega arith) (h .locals) name)
+    (below-at wordSize (m .items) (omega arith) (h .items) (name - localCount))
+
+small-put-local : (on : Bool) (name x : ℕ) (xs : List ℕ) → Small xs → x < wordSize → Small (putLocal on name x xs)
+unfolding putLocal
+small-put-local on name x xs h small = either Small (on && ltb name localCount) (set xs name x) xs (all-below-set wordSize xs name x h small) h
+
+small-put-item : (on : Bool) (name x : ℕ) (xs : List ℕ) → Small xs → x < wordSize → Small (putItem on name x xs)
+unfolding putItem
+small-put-item on name x xs h small =
+    either Small (on && not (ltb name localCount)) (set xs (name - localCount) x) xs (all-below-set wordSize xs (name - localCount) x h small) h
+
+abbrev SmallConstants : List Line → Type 0
+SmallConstants ls = AllLines (λ l. l .c < wordSize) ls
+
+abbrev SmallEvents : List Event → Type 0
+SmallEvents [] = Unit
+SmallEvents (e ∷ es) = (e .block < wordSize) × (e .value < wordSize) × SmallEvents es
+
+small-events-append : (es fs : List Event) → SmallEvents es → SmallEvents fs → SmallEvents (es ++ fs)
+small-events-append [] fs h g = g
+small-events-append (e ∷ es) fs h g = (h .0, h .1, small-events-append es fs (h .2) g)
+
+small-left : (i : ℕ) (ls : List Line) → i < wordSize → SmallEvents (leftEvents i ls)
+small-left i [] h = tt
+small-left i (l ∷ ls) h = (h, omega arith, small-left i ls h)
+
+small-all-left : (i : ℕ) (rests : List (List Line)) → i < wordSize → SmallEvents (allLeftEvents i rests)
+small-all-left i [] h = tt
+small-all-left i (ls ∷ rests) h = small-events-append (leftEvents i ls) (allLeftEvents i rests) (small-left i ls h) (small-all-left i rests h)
+
+record SmallState (s : State) : Type 0 where
+  constants : (j : ℕ) → SmallConstants (getD (s .rests) j [])
+  locals : EachSmall (s .locals)
+  items : Small (s .items)
+
+module _ (case : Case) (given : ℕ → ℕ) (small-given : (k : ℕ) → given k < wordSize) where
+  below-line : (l : Line) (m : Memory) → l .c < wordSize → SmallMemory m → valueOf l (readsIn case given l m) < wordSize
+  below-line l m c h = below-value l (readsIn case given l m) c (record {
+    a = below-look m (operandA l) h;
+    b = below-look m (operandB l) h;
+    target = below-look m (targetName (case .G) l) h;
+    given = small-given (l .number);
+  })
+
+  small-step : (l : Line) (m : Memory) → l .c < wordSize → SmallMemory m → SmallMemory (stepped case given l m)
+  small-step l m c h = record {
+    locals = small-put-local _ (targetName (case .G) l) _ (m .locals) (h .locals) (below-line l m c h);
+    items = small-put-item _ (targetName (case .G) l) _ (m .items) (h .items) (below-line l m c h);
+  }
+
+  small-steps : (steps : ℕ) (ls : List Line) (m : Memory) → SmallConstants ls → SmallMemory m → SmallMemory (memoryAfter case given steps ls m)
+  small-steps zero ls m c h = h
+  small-steps (suc steps) [] m c h = h
+  small-steps (suc steps) (l ∷ ls) m c h = small-steps steps ls (stepped case given l m) (c .1) (small-step l m (c .0) h)
+
+  small-block : (i steps : ℕ) (ls : List Line) (m : Memory) → i < wordSize → SmallConstants ls → SmallMemory m
+      → SmallEvents (blockEvents case given i steps ls m)
+  small-block i zero ls m few c h = tt
+  small-block i (suc steps) [] m few c h = tt
+  small-block i (suc steps) (l ∷ ls) m few c h =
+      (few, below-line l m (c .0) h, small-block i steps ls (stepped case given l m) few (c .1) (small-step l m (c .0) h))
+
+  small-memory : (i : ℕ) (s : State) → SmallState s → SmallMemory (memoryIn case i s)
+  small-memory i s h = record { locals = h .locals (i % case .T); items = h .items }
+
+  small-next : (i len : ℕ) (s : State) → SmallState s → SmallState (nextState case given i len s)
+  small-next i len s h =
+      let end = small-steps len (restIn case i s) (memoryIn case i s) (h .constants (i % case .T)) (small-memory i s h) in
+      record {
+        constants = each-after-set SmallConstants [] (s .rests) (i % case .T) (drop len (restIn case i s)) (h .constants)
+            (all-dropped (λ l. l .c < wordSize) len (restIn case i s) (h .constants (i % case .T)));
+        locals = each-after-set Small [] (s .locals) (i % case .T) (endMemory case given i len s .locals) (h .locals) (end .locals);
+        items = end .items;
+      }
+
+  small-events : (i : ℕ) (lens : List ℕ) (s : State) → i + length lens < wordSize → SmallState s → SmallEvents (events case given i lens s)
+  small-events i [] s few h = small-all-left i (s .rests) (omega arith)
+  small-events i (len ∷ lens) s few h =
+      small-events-append (blockEvents case given i len (restIn case i s) (memoryIn case i s)) (events case given (suc i) lens (nextState case given i len s))
+      (small-block i len (restIn case i s) (memoryIn case i s) (omega arith) (h .constants (i % case .T)) (small-memory i s h))
+      (small-events (suc i) lens (nextState case given i len s) (omega arith) (small-next i len s h))
+
+  small-snapshots : (i : ℕ) (lens : List ℕ) (s : State) → SmallState s → EachSmall (snapshots case given i lens s)
+  small-snapshots i [] s h j = tt
+  small-snapshots i (len ∷ lens) s h zero = small-next i len s h .items
+  small-snapshots i (len ∷ lens) s h (suc j) = small-snapshots (suc i) lens (nextState case given i len s) (small-next i len s h) j
+
+-- The assignment of a run.
+below-block-in : (k : ℕ) (es : List Event) → SmallEvents es → blockIn k es < wordSize
+below-block-in k [] h = omega arith
+below-block-in k (e ∷ es) h = either IsWord (eqb (e .line .number) k) (e .block) (blockIn k es) (h .0) (below-block-in k es (h .2))
+
+below-value-in : (k : ℕ) (es : List Event) → SmallEvents es → valueIn k es < wordSize
+below-value-in k [] h = omega arith
+below-value-in k (e ∷ es) h = either IsWord (eqb (e .line .number) k) (e .value) (valueIn k es) (h .1) (below-value-in k es (h .2))
+
+record SmallAssignment (α : Assignment) : Type 0 where
+  block : (k : ℕ) → α .block k < wordSize
+  value : (k : ℕ) → α .value k < wordSize
+  blockValue : (i g : ℕ) → α .blockValue i g < wordSize
+
+small-traced : (es : List Event) (items : List (List ℕ)) → SmallEvents es → EachSmall items → SmallAssignment (traced es items)
+small-traced es items h g = record {
+  block = λ k. below-block-in k es h;
+  value = λ k. below-value-in k es h;
+  blockValue = λ i j. below-at wordSize (getD items i []) (omega arith) (g i) j;
+}
+
+below-records : (α : Assignment) (k many : ℕ) → SmallAssignment α → Small (recordNumbers α k many)
+below-records α k zero h = tt
+below-records α k (suc many) h = (h .block k, (h .value k, below-records α (suc k) many h))
+
+below-blocks : (case : Case) (α : Assignment) (i many : ℕ) → SmallAssignment α → Small (blockNumbers case α i many)
+below-blocks case α i zero h = tt
+below-blocks case α i (suc many) h = all-below-append wordSize (numbersFrom (α .blockValue i) 0 (itemCount case)) (blockNumbers case α (suc i) many)
+    (all-below-numbersFrom wordSize (α .blockValue i) 0 (itemCount case) (λ g. h .blockValue i g)) (below-blocks case α (suc i) many h)
+
+below-given : (ls : List Line) (values : List ℕ) (k : ℕ) → Small values → valueGiven ls values k < wordSize
+unfolding valueGiven
+below-given [] values k h = omega arith
+below-given (l ∷ ls) [] k h = omega arith
+below-given (l ∷ ls) (x ∷ values) k h = either IsWord (eqb (l .number) k) x (valueGiven ls values k) (h .0) (below-given ls values k (h .1))
+
+-- Decoding.
+lines-in-block-few : (block : ℕ → ℕ) (i : ℕ) (ls : List Line) → linesInBlock block i ls ≤ length ls
+unfolding linesInBlock
+lines-in-block-few block i [] = le-refl 0
+lines-in-block-few block i (l ∷ ls) = go (eqb (block (l .number)) i) (lines-in-block-few block i ls)
+  where
+    go : (q : Bool) → linesInBlock block i ls ≤ length ls → cond q (suc (linesInBlock block i ls)) (linesInBlock block i ls) ≤ suc (length ls)
+    go true h = omega arith
+    go false h = omega arith
+
+module _ (case : Case) (wf : WellFormed case) where
+  pub filled-below : (values lens : List ℕ) → AllBelow wordSize values → length lens ≡ suc (case .n)
+      → AllBelow wordSize (numbersOfAssignment case (tracedRun case lens (valueGiven (allInputLines (case .threads)) values)))
+  filled-below values lens h all =
+      let given = valueGiven (allInputLines (case .threads)) values in
+      let small-given : (k : ℕ) → given k < wordSize = λ k. below-given (allInputLines (case .threads)) values k h in
+      let begin : SmallState (start case) = record {
+        constants = wf .small-constants;
+        locals = each-small-replicate (case .T) (replicate localCount 0) (all-below-replicate wordSize localCount 0 (omega arith));
+        items = wf .small-initial;
+      } in
+      let small = small-traced (events case given 0 lens (start case)) (snapshots case given 0 lens (start case))
+      (small-events case given small-given 0 lens (start case) (omega (arith, all, wf .few-blocks)) begin)
+      (small-snapshots case given small-given 0 lens (start case) begin) in
+      all-below-append wordSize (recordNumbers (tracedRun case lens given) 1 (case .R)) (blockNumbers case (tracedRun case lens given) 0 (case .n))
+      (below-records (tracedRun case lens given) 1 (case .R) small) (below-blocks case (tracedRun case lens given) 0 (case .n) small)
+
+  module _ (α : Assignment) (small : (k : ℕ) → α .value k < wordSize) where
+    below-decoded : (earlier ls : List Line) → Small (decodedValues case α earlier ls)
+    unfolding decodedValues
+    below-decoded earlier [] = tt
+    below-decoded earlier (l ∷ ls) =
+        let rest = below-decoded (l ∷ earlier) ls in
+        let own = either IsWord (guardTrue l (readsAfter case α earlier l)) (α .value (l .number)) 0 (small (l .number)) (omega arith) in
+        either Small (isInput (l .kind)) _ _ (own, rest) rest
+
+    below-all-decoded : (threads : List (List Line)) → Small (allDecodedValues case α threads)
+    unfolding allDecodedValues
+    below-all-decoded [] = tt
+    below-all-decoded (ls ∷ threads) =
+        all-below-append wordSize (decodedValues case α [] ls) (allDecodedValues case α threads) (below-decoded [] ls) (below-all-decoded threads)
+
+  pub decoded-below : ((t : ℕ) → t < case .T → length (linesOf case t) < wordSize) → (xs : List ℕ) → AllBelow wordSize xs
+      → AllBelow wordSize (decode case (assignmentOf case xs))
+  unfolding decode assignmentOf
+  decoded-below few xs h =
+      all-below-append wordSize (countedLengths case (assignmentOf case xs)) (allDecodedValues case (assignmentOf case xs) (case .threads))
+      (all-below-numbersFrom wordSize _ 0 (suc (case .n))
+      (λ i. omega (arith, lines-in-block-few (assignmentOf case xs .block) i (linesOf case (i % case .T)), few (i % case .T) (turn case wf i))))
+      (below-all-decoded (assignmentOf case xs) (λ k. below-at wordSize xs (omega arith) h (2 * (k - 1) + 1)) (case .threads))

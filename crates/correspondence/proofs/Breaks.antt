@@ -1,0 +1,109 @@
+-- The lines that break an assertion, counted by the assignment and by the events of the run: the counts are equal.
+-- Assumes nothing. Met again in Runs, for constraint 7.
+use mathlib.Core.Path.{_≡_, refl, sym, ap, _∙_}
+use Prim.Native.Nat.{ℕ, zero, suc, _+_, _%_, _≤_}
+use mathlib.Core.List.{List, [], _∷_, _++_}
+use native.Mathlib.Omega.{arith}
+use native.Mathlib.Nat.{zero-add}
+use lib.ListN.{getD, length, drop}
+use Rattle.model.specs.Word.{bit}
+use Rattle.model.specs.CaseFile.{Kind, compute, store, load, input, assert, assume, lock, unlock, Line, Case}
+use Rattle.model.specs.Line.{readsOf, valueOf, breaks}
+use Rattle.model.specs.Machine.{Memory, State, look, readsIn, stepped, restIn, memoryIn}
+use Rattle.model.specs.Assignment.{Assignment}
+use Rattle.model.specs.Copies.{readsAfter}
+use Rattle.correspondence.specs.Meaning.{WellFormed, AllLines, Positive, breaksIn, sumBelow}
+use Rattle.correspondence.specs.Trace.{Event, blockEvents, leftEvents, allLeftEvents, events, nextState, brokenIn, MayBeLeft}
+use Rattle.correspondence.proofs.Sums.{sumBelow-zero, sumBelow-differs-at}
+use Rattle.correspondence.proofs.Step.{MemoryFits, step-fits, Corresponds, step-keeps-correspondence}
+use Rattle.correspondence.proofs.AllLines.{each-thread}
+use Rattle.correspondence.proofs.Order.{runMore, NextIn}
+use Rattle.correspondence.proofs.Block.{BlockRuns, same-readers}
+use Rattle.correspondence.proofs.Blocks.{changed-same, changed-other, restsAfter, earlierAfter, BlocksNext, turn, own-rest-after, other-rest-after}
+use Rattle.correspondence.proofs.Values.{Invariant, BlocksRun, rest-positive, memory-fits, correspondence-at-block}
+use Rattle.correspondence.proofs.Values.{invariant-after-block}
+
+pub brokenIn-append : (es fs : List Event) → brokenIn (es ++ fs) ≡ brokenIn es + brokenIn fs
+brokenIn-append [] fs = sym (zero-add (brokenIn fs))
+brokenIn-append (e ∷ es) fs = omega (arith, brokenIn-append es fs)
+
+left-breaks-nothing : (i : ℕ) (ls : List Line) → brokenIn (leftEvents i ls) ≡ 0
+left-breaks-nothing i [] = refl
+left-breaks-nothing i (l ∷ ls) = omega (arith, left-breaks-nothing i ls)
+
+pub all-left-breaks-nothing : (i : ℕ) (rests : List (List Line)) → brokenIn (allLeftEvents i rests) ≡ 0
+all-left-breaks-nothing i [] = refl
+all-left-breaks-nothing i (ls ∷ rests) =
+    omega (arith, brokenIn-append (leftEvents i ls) (allLeftEvents i rests), left-breaks-nothing i ls, all-left-breaks-nothing i rests)
+
+-- What an input is given does not matter.
+breaks-whatever-given : (G : ℕ) (reader : ℕ → ℕ) (kind : Kind) (l : Line) (x y value : ℕ)
+    → breaks kind l (readsOf G reader l x) value ≡ breaks kind l (readsOf G reader l y) value
+unfolding breaks
+breaks-whatever-given G reader compute l x y value = refl
+breaks-whatever-given G reader store l x y value = refl
+breaks-whatever-given G reader load l x y value = refl
+breaks-whatever-given G reader input l x y value = refl
+breaks-whatever-given G reader assert l x y value = refl
+breaks-whatever-given G reader assume l x y value = refl
+breaks-whatever-given G reader lock l x y value = refl
+breaks-whatever-given G reader unlock l x y value = refl
+
+module _ (case : Case) (wf : WellFormed case) (given : ℕ → ℕ) (α : Assignment) where
+  line-breaks-alike : (i : ℕ) (l : Line) (earlier : List Line) (m : Memory) → α .block (l .number) ≡ i → Corresponds case α i earlier m
+      → α .value (l .number) ≡ valueOf l (readsIn case given l m)
+      → breaks (l .kind) l (readsAfter case α earlier l) (α .value (l .number))
+      ≡ breaks (l .kind) l (readsIn case given l m) (valueOf l (readsIn case given l m))
+  line-breaks-alike i l earlier m in-block corresponds has-value =
+      ap (λ (reader : ℕ → ℕ). breaks (l .kind) l (readsOf (case .G) reader l (α .value (l .number))) (α .value (l .number)))
+      (sym (same-readers case α i l earlier m in-block corresponds))
+      ∙ breaks-whatever-given (case .G) (look m) (l .kind) l (α .value (l .number)) (given (l .number)) (α .value (l .number))
+      ∙ ap (breaks (l .kind) l (readsIn case given l m)) has-value
+
+  block-breaks-alike : (i steps : ℕ) (ls earlier : List Line) (m : Memory) → MemoryFits case m → AllLines Positive ls
+      → NextIn (α .block) i steps ls
+      → Corresponds case α i earlier m → BlockRuns case given α steps ls m
+      → breaksIn case α earlier ls
+      ≡ brokenIn (blockEvents case given i steps ls m) + breaksIn case α (runMore steps ls earlier) (drop steps ls)
+  block-breaks-alike i zero ls earlier m fits positive next corresponds runs = sym (zero-add (breaksIn case α earlier ls))
+  block-breaks-alike i (suc steps) [] earlier m fits positive next corresponds runs = absurd next
+  block-breaks-alike i (suc steps) (l ∷ ls) earlier m fits positive next corresponds runs =
+      omega (
+        arith,
+        ap bit (line-breaks-alike i l earlier m (next .0) corresponds (runs .0 .has-value)),
+        block-breaks-alike i steps ls (l ∷ earlier) (stepped case given l m) (step-fits case given l m fits) (positive .1) (next .1)
+            (step-keeps-correspondence case α wf given i l earlier m fits (positive .0) (next .0) (runs .0 .has-value) corresponds) (runs .1),
+      )
+
+  left-has-no-break : (earlier ls : List Line) → AllLines MayBeLeft ls → breaksIn case α earlier ls ≡ 0
+  left-has-no-break earlier [] left = refl
+  left-has-no-break earlier (l ∷ ls) left = absurd (left .0)
+
+  -- The breaks of the lines that are left, thread by thread.
+  abbrev pub breaksLeft : List (List Line) → (ℕ → List Line) → ℕ → ℕ
+  breaksLeft rests earlier t = breaksIn case α (earlier t) (getD rests t [])
+
+  pub run-breaks-alike : (i : ℕ) (lens : List ℕ) (s : State) (earlier : ℕ → List Line) → i + length lens ≡ suc (case .n)
+      → Invariant case α i s earlier
+      → BlocksNext case α i lens (s .rests) → BlocksRun case given α i lens s
+      → sumBelow (breaksLeft (s .rests) earlier) (case .T) ≡ brokenIn (events case given i lens s)
+  run-breaks-alike i [] s earlier last inv blocks runs =
+      sumBelow-zero (breaksLeft (s .rests) earlier) (case .T)
+      (λ t ht. left-has-no-break (earlier t) (getD (s .rests) t []) (each-thread MayBeLeft (s .rests) blocks t))
+      ∙ sym (all-left-breaks-nothing i (s .rests))
+  run-breaks-alike i (len ∷ lens) s earlier last inv blocks runs =
+      let t = i % case .T in
+      let few : i ≤ case .n = omega (arith, last) in
+      let run = runMore len (restIn case i s) (earlier t) in
+      let later = earlierAfter case i len (s .rests) earlier in
+      let here = blockEvents case given i len (restIn case i s) (memoryIn case i s) in
+      let ih = run-breaks-alike (suc i) lens (nextState case given i len s) later (omega (arith, last))
+      (invariant-after-block case wf α i s earlier inv given len few (blocks .0) (runs .0) (runs .1)) (blocks .1) (runs .2) in
+      let block = block-breaks-alike i len (restIn case i s) (earlier t) (memoryIn case i s) (memory-fits case wf α i s earlier inv)
+      (rest-positive case wf α i s earlier inv) (blocks .0) (correspondence-at-block case wf α i s earlier inv few) (runs .0) in
+      sumBelow-differs-at (breaksLeft (s .rests) earlier) (breaksLeft (restsAfter case i len (s .rests)) later) t (brokenIn here)
+      (case .T) (turn case wf i)
+      (rw (changed-same earlier t run t refl, own-rest-after case wf i len (s .rests) (inv .all-rests)) block)
+      (λ u differs hu. rw (changed-other earlier t run u differs, other-rest-after case wf i len (s .rests) (inv .all-rests) u differs))
+      ∙ ap (λ (x : ℕ). brokenIn here + x) ih
+      ∙ sym (brokenIn-append here (events case given (suc i) lens (nextState case given i len s)))

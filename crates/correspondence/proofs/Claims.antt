@@ -1,0 +1,180 @@
+-- Demand 3 over well-formed cases: assignments that meet the constraints and schedules whose runs are legal and break an
+-- assertion, each the other's. `decode-of-fill` and `fill-of-decode` are the two laws of the filled assignment.
+-- Assumes nothing. Met again in Demand3.
+use mathlib.Core.Path.{_≡_, refl, sym, ap₂, _∙_, subst}
+use Prim.Native.Nat.{ℕ, zero, suc, _+_, _<_}
+use mathlib.Core.Bool.{true}
+use mathlib.Core.List.{List, _++_}
+use native.Mathlib.Omega.{arith}
+use lib.Dec.{eqb}
+use lib.ListN.{length, length-append, length-drop, take-append-drop}
+use lib.Seq.{take-at, drop-at, length-take-le}
+use borrow.Author.Tests.{eqb-true, eq-eqb, ne-eqb}
+use Rattle.model.specs.CaseFile.{Case, linesOf, sumOfThreads, hasNumber}
+use Rattle.model.specs.Machine.{Outcome, refused14, cutOff, violated, clean, start, ending, run}
+use Rattle.model.specs.Assignment.{Assignment, variables, assignmentOf}
+use Rattle.model.specs.Schedule.{allInputLines, blockLengths, inputValues, scheduleSize, stepsOf, lengthsAddUp, runOf, countedLengths, allDecodedValues, decode}
+use Rattle.laws.proofs.Views.{EqView, same, diff, eq-view}
+use Rattle.laws.proofs.Ranges.{all-from-gives, all-from-of}
+use Rattle.correspondence.specs.Meaning.{WellFormed, Meets, DecodesTo, breakCount}
+use Rattle.correspondence.specs.Trace.{Event, events, snapshots, brokenIn, sumOfEvents, Legal, Agrees, AgreesItems}
+use Rattle.correspondence.specs.Fill.{givenIn, tracedRun, fill}
+use Rattle.correspondence.proofs.Runs.{sound, complete, traced-agrees, counted, same-records, same-blocks}
+use Rattle.correspondence.proofs.Traces.{agrees-transfer, items-transfer}
+use Rattle.correspondence.proofs.Numbers.{record-of-numbers, block-value-of-numbers, numbers-of-own, numbers-same}
+use Rattle.correspondence.proofs.Inputs.{length-of-decoded, counted-lengths, only-counted, length-of-counted, inputs-of-decoded, decoded-of-inputs}
+use Rattle.correspondence.proofs.Legal.{noteAfter, Ended, AddsUp, lastState, outcome-of-legal, adds-up-of-legal, legal-of-ended, note-of-none, note-of-some}
+
+-- The events and the item values of a schedule's run, by block and at its end, and whether it is complete and legal.
+abbrev pub eventsOf : Case → List ℕ → List Event
+eventsOf case schedule = events case (givenIn case schedule) 0 (blockLengths case schedule) (start case)
+
+abbrev pub itemsOf : Case → List ℕ → List (List ℕ)
+itemsOf case schedule = snapshots case (givenIn case schedule) 0 (blockLengths case schedule) (start case)
+
+abbrev lastItems : Case → List ℕ → List ℕ
+lastItems case schedule = lastState case (givenIn case schedule) 0 (blockLengths case schedule) (start case) .items
+
+abbrev pub LegalRun : Case → List ℕ → Type 0
+LegalRun case schedule = Legal case (givenIn case schedule) 0 (blockLengths case schedule) (start case)
+
+IsViolated : Outcome → Type 0
+IsViolated (refused14 k) = ⊥
+IsViolated (cutOff k items) = ⊥
+IsViolated (violated k items) = Unit
+IsViolated (clean items) = ⊥
+
+module _ (case : Case) (wf : WellFormed case) where
+  -- ---- An assignment's schedule.
+  pub size-of-decode : (α : Assignment) → length (decode case α) ≡ scheduleSize case
+  unfolding decode
+  size-of-decode α =
+      length-append (countedLengths case α) (allDecodedValues case α (case .threads))
+      ∙ ap₂ (λ (x y : ℕ). x + y) (length-of-counted case α) (length-of-decoded case α (case .threads))
+
+  lengths-of-decode : (α : Assignment) → blockLengths case (decode case α) ≡ countedLengths case α
+  unfolding decode
+  lengths-of-decode α = take-at (countedLengths case α) (allDecodedValues case α (case .threads)) (suc (case .n)) (length-of-counted case α)
+
+  values-of-decode : (α : Assignment) → inputValues case (decode case α) ≡ allDecodedValues case α (case .threads)
+  unfolding decode
+  values-of-decode α = drop-at (countedLengths case α) (allDecodedValues case α (case .threads)) (suc (case .n)) (length-of-counted case α)
+
+  decodes-to-own : (α : Assignment) → DecodesTo case α (blockLengths case (decode case α)) (givenIn case (decode case α))
+  decodes-to-own α = rw (lengths-of-decode α, values-of-decode α) (record {
+    all-blocks = length-of-counted case α;
+    lengths = counted-lengths case α;
+    inputs = λ t ht. inputs-of-decoded case wf α t;
+  })
+
+  -- An assignment that meets constraints 1 to 6 decodes to a complete legal run that has its numbers.
+  pub run-of-meets : (α : Assignment) → Meets case α
+      → LegalRun case (decode case α) × Agrees α (eventsOf case (decode case α)) × AgreesItems case α 0 (itemsOf case (decode case α))
+      × (breakCount case α ≡ brokenIn (eventsOf case (decode case α)))
+  run-of-meets α m = sound case wf α (blockLengths case (decode case α)) (givenIn case (decode case α)) m (decodes-to-own α)
+
+  -- ---- A schedule's assignment.
+  module _ (schedule : List ℕ) (sized : length schedule ≡ scheduleSize case) where
+    abbrev filled : Assignment
+    filled = assignmentOf case (fill case schedule)
+
+    all-blocks : length (blockLengths case schedule) ≡ suc (case .n)
+    all-blocks = length-take-le (suc (case .n)) schedule (omega (arith, sized))
+
+    all-values : length (inputValues case schedule) ≡ length (allInputLines (case .threads))
+    all-values = omega (arith, length-drop (suc (case .n)) schedule, sized)
+
+    filled-agrees : Agrees filled (eventsOf case schedule) × AgreesItems case filled 0 (itemsOf case schedule)
+    unfolding fill
+    filled-agrees =
+        let α = tracedRun case (blockLengths case schedule) (givenIn case schedule) in
+        let agrees = traced-agrees case wf (blockLengths case schedule) (givenIn case schedule) in (
+          agrees-transfer α filled (eventsOf case schedule)
+              (λ k some. let w = wf .within k (rw (counted case wf (hasNumber k) (blockLengths case schedule) (givenIn case schedule)) at some) in
+              let own = record-of-numbers case α k (w .0) (w .1) in
+              (sym (own .0), sym (own .1)))
+              (agrees .0),
+          items-transfer α filled case 0 (itemsOf case schedule) (λ i g hi hg. sym (block-value-of-numbers case α i g hi hg)) (agrees .1),
+        )
+
+    -- The filled assignment of a complete legal run meets constraints 1 to 6,
+    pub meets-of-run : LegalRun case schedule
+        → Meets case filled × DecodesTo case filled (blockLengths case schedule) (givenIn case schedule)
+        × (breakCount case filled ≡ brokenIn (eventsOf case schedule))
+    meets-of-run legal = complete case wf filled (blockLengths case schedule) (givenIn case schedule) all-blocks legal (filled-agrees .0) (filled-agrees .1)
+
+    -- and decodes to the schedule.
+    pub decode-of-fill : LegalRun case schedule → decode case filled ≡ schedule
+    unfolding decode
+    decode-of-fill legal =
+        let d = meets-of-run legal .1 in
+        ap₂ (λ (xs ys : List ℕ). xs ++ ys) (sym (only-counted case filled (blockLengths case schedule) all-blocks (d .lengths)))
+        (sym (decoded-of-inputs case wf filled (inputValues case schedule) (d .inputs) all-values))
+        ∙ take-append-drop (suc (case .n)) schedule
+
+  -- Filling a decoded assignment restores it.
+  pub fill-of-decode : (xs : List ℕ) → length xs ≡ variables case → Meets case (assignmentOf case xs) → fill case (decode case (assignmentOf case xs)) ≡ xs
+  unfolding fill
+  fill-of-decode xs sized m =
+      let α = assignmentOf case xs in
+      let schedule = decode case α in
+      let lens = blockLengths case schedule in
+      let given = givenIn case schedule in
+      let run = run-of-meets α m in
+      let traced = traced-agrees case wf lens given in
+      numbers-same case (tracedRun case lens given) α
+      (λ k h h'. same-records case wf (tracedRun case lens given) α lens given (traced .0) (run .1) k (wf .known k h h'))
+      (same-blocks case wf (tracedRun case lens given) α lens given (all-blocks schedule (size-of-decode α)) (traced .1) (run .2))
+      ∙ numbers-of-own case xs sized
+
+  -- ---- The machine's answer to a schedule.
+  no-zero-record : (schedule : List ℕ) → sumOfEvents (hasNumber 0) (eventsOf case schedule) ≡ 0
+  no-zero-record schedule = go (sumOfThreads (hasNumber 0) (case .threads)) refl
+    where
+      go : (x : ℕ) → sumOfThreads (hasNumber 0) (case .threads) ≡ x → sumOfEvents (hasNumber 0) (eventsOf case schedule) ≡ 0
+      go zero e = counted case wf (hasNumber 0) (blockLengths case schedule) (givenIn case schedule) ∙ e
+      go (suc x) e = absurd (omega (arith, wf .within 0 (omega (arith, e)) .0))
+
+  outcome : (schedule : List ℕ) → LegalRun case schedule
+      → runOf case schedule ≡ ending (noteAfter 0 (eventsOf case schedule)) (lastItems case schedule)
+  unfolding runOf run
+  outcome schedule legal = outcome-of-legal case (givenIn case schedule) 0 (blockLengths case schedule) (start case) 0 legal
+
+  -- A legal run whose events break an assertion is violated, at the first that is noted.
+  pub violated-of-broken : (schedule : List ℕ) → LegalRun case schedule → 0 < brokenIn (eventsOf case schedule)
+      → (k : ℕ) × (items : List ℕ) × (runOf case schedule ≡ violated k items)
+  violated-of-broken schedule legal broken =
+      let note = note-of-some (eventsOf case schedule) (no-zero-record schedule) broken in (
+        noteAfter 0 (eventsOf case schedule),
+        lastItems case schedule,
+        outcome schedule legal ∙ rw (ne-eqb (noteAfter 0 (eventsOf case schedule)) 0 (λ p. omega arith)),
+      )
+
+  adds-up : (schedule : List ℕ) → lengthsAddUp case (blockLengths case schedule) ≡ true → AddsUp case 0 (blockLengths case schedule) (case .threads)
+  unfolding lengthsAddUp
+  adds-up schedule e t ht =
+      eqb-true (stepsOf case t 0 (blockLengths case schedule)) (length (linesOf case t))
+      (all-from-gives (λ t'. eqb (stepsOf case t' 0 (blockLengths case schedule)) (length (linesOf case t'))) 0 (case .T) e t (omega arith) (omega arith))
+
+  pub lengths-add-up : (schedule : List ℕ) → LegalRun case schedule → lengthsAddUp case (blockLengths case schedule) ≡ true
+  unfolding lengthsAddUp
+  lengths-add-up schedule legal =
+      all-from-of (λ t. eqb (stepsOf case t 0 (blockLengths case schedule)) (length (linesOf case t))) 0 (case .T)
+      (λ t h h'. eq-eqb _ _
+      (adds-up-of-legal case (givenIn case schedule) wf 0 (blockLengths case schedule) (start case) (wf .thread-count) legal t (omega (arith, h'))))
+
+  -- A violated run is legal and breaks an assertion.
+  pub broken-of-violated : (schedule : List ℕ) (k : ℕ) (items : List ℕ) → lengthsAddUp case (blockLengths case schedule) ≡ true
+      → runOf case schedule ≡ violated k items
+      → LegalRun case schedule × (0 < brokenIn (eventsOf case schedule))
+  unfolding runOf run IsViolated
+  broken-of-violated schedule k items sums e =
+      let legal = legal-of-ended case (givenIn case schedule) wf 0 (blockLengths case schedule) (start case) 0 (wf .thread-count)
+      (adds-up schedule sums) (subst Ended (sym e) tt) in
+      (legal, go (eq-view (brokenIn (eventsOf case schedule)) 0) (subst IsViolated (sym e ∙ outcome schedule legal) tt))
+    where
+      go : EqView (brokenIn (eventsOf case schedule)) 0
+          → IsViolated (ending (noteAfter 0 (eventsOf case schedule)) (lastItems case schedule))
+          → 0 < brokenIn (eventsOf case schedule)
+      go (diff p q) v = omega arith
+      go (same p q) v = absurd (rw (note-of-none (eventsOf case schedule) p) at v)

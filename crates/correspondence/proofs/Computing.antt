@@ -1,0 +1,27 @@
+-- `unfolding computing` lets a worked example compute: every definition of the model that is shut by itself is open there.
+-- Assumes nothing. Met again in CaseA and Examples.
+use Rattle.model.specs.Lists.{numbersFrom, allFrom, lowestFailing, writtenOver}
+use Rattle.model.specs.CaseFile.{field, kindOf, chain, chains, findLine, findThread}
+use Rattle.model.specs.Accept.{kindRule, verdict}
+use Rattle.model.specs.Line.{localName, guardName, nameOfA, nameOfB, nameOfTarget, guardTrue, apply, expression, guardedInValue, guardedOutValue, valueBy, stops, breaks, strayInput}
+use Rattle.model.specs.Machine.{look, putLocal, putItem, runBlock, runBlocks, run}
+use Rattle.model.specs.Assignment.{assignmentOf}
+use Rattle.model.specs.Copies.{latest, copyOf, valueBefore, readLocal, readItem, readName, readAfter, walkBack}
+use Rattle.model.specs.Table.{orderRows, demandRows, valueRows, allOrderRows, allValueRows, itemRows, blockRows, table, numbersOf}
+use Rattle.model.specs.Holds.{demandMet, fromRecord, someBreaks, someThreadBreaks, holds, firstFailing}
+use Rattle.model.specs.Schedule.{inputLines, allInputLines, valueGiven, stepsOf, lengthsAddUp, runOf, linesInBlock, decodedValues, allDecodedValues, decode}
+use Rattle.model.specs.Answers.{onCase, encoded, encodedInto, checked, decoded, decodedInto, replayed, replayedInto}
+
+unfoldable pub computing : Type 0
+unfolding numbersFrom allFrom lowestFailing writtenOver
+    field kindOf chain chains findLine findThread
+    kindRule verdict
+    localName guardName nameOfA nameOfB nameOfTarget guardTrue apply expression guardedInValue guardedOutValue valueBy stops breaks strayInput
+    look putLocal putItem runBlock runBlocks run
+    assignmentOf
+    latest copyOf valueBefore readLocal readItem readName readAfter walkBack
+    orderRows demandRows valueRows allOrderRows allValueRows itemRows blockRows table numbersOf
+    demandMet fromRecord someBreaks someThreadBreaks holds firstFailing
+    inputLines allInputLines valueGiven stepsOf lengthsAddUp runOf linesInBlock decodedValues allDecodedValues decode
+    onCase encoded encodedInto checked decoded decodedInto replayed replayedInto
+computing = Unit

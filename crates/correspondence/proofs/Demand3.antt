@@ -1,0 +1,172 @@
+-- Demand 3 holds: the statement is specs/Demand3.antt, the argument docs/PROOF.md. What is left here is to bring the calls'
+-- answers (Replies) and the claims over well-formed cases (Claims) together.
+-- Assumes nothing. This is where the other modules lead.
+use mathlib.Core.Path.{_≡_, sym, ap, _∙_, subst}
+use Prim.Native.Nat.{ℕ, suc, _≤_, _<_}
+use mathlib.Core.List.{List, _++_, append-nil}
+use native.Mathlib.Omega.{arith}
+use native.Mathlib.Nat.{le-refl}
+use lib.ListN.{length, take, drop, replicate, length-replicate}
+use lib.Seq.{take-append-seam, drop-length, length-take-le}
+use Rattle.model.specs.Word.{wordSize, AllBelow}
+use Rattle.model.specs.Lists.{writtenOver}
+use Rattle.model.specs.CaseFile.{Case, caseOf, linesOf}
+use Rattle.model.specs.Accept.{verdict}
+use Rattle.model.specs.Machine.{Outcome, refused14, cutOff, violated, clean}
+use Rattle.model.specs.Assignment.{Assignment, variables, assignmentOf}
+use Rattle.model.specs.Table.{table, numbersOf}
+use Rattle.model.specs.Schedule.{blockLengths, inputValues, runOf, decode}
+use Rattle.model.specs.Answers.{answerOfRun, encodedInto, checked}
+use Rattle.model.specs.declared.Verdict.the-variants.{Accepted}
+use Rattle.model.specs.declared.Checked.the-variants.{Meets}
+use Rattle.model.specs.declared.Decoded.the-variants as decodeds
+use Rattle.model.specs.declared.Replayed.the-variants.{Violated}
+use Rattle.laws.proofs.Accepted.{accepted-of}
+use Rattle.laws.proofs.Below.{all-below-drop}
+use Rattle.correspondence.specs.Meaning.{WellFormed}
+use Rattle.correspondence.specs.Fill.{fill}
+use Rattle.correspondence.specs.ReadBack.{rowsOf, AllHold}
+use Rattle.correspondence.specs.Demand3.{tableRoom, scheduleRoom, itemRoom, Yes, DecodedAs, AnsweredViolated, BrokenRun, Demand3, ForEveryAcceptedCase}
+use Rattle.correspondence.proofs.WellFormed.{well-formed}
+use Rattle.correspondence.proofs.Replies.{Taken, fits-of-taken, replayed-fits, PassesCheck, passes-of-meets, meets-of-passes, encoded-with-room, encoded-short, encoded-into, decoded-with-room, decoded-short, decoded-into, replayed-short}
+use Rattle.correspondence.proofs.Rows.{meets-of-table, table-of-meets}
+use Rattle.correspondence.proofs.FirstFailing.{none-fails, all-hold-none-fails, rows-of-numbers}
+use Rattle.correspondence.proofs.Numbers.{length-of-assignment}
+use Rattle.correspondence.proofs.Bounds.{filled-below, decoded-below}
+use Rattle.correspondence.proofs.Claims.{size-of-decode, run-of-meets, meets-of-run, decode-of-fill, fill-of-decode, violated-of-broken, broken-of-violated, lengths-add-up}
+
+-- A result as long as the slice takes its place.
+written-whole : (result slice : List ℕ) → length result ≡ length slice → writtenOver result slice ≡ result
+unfolding writtenOver
+written-whole result slice h = ap (λ (k : ℕ). result ++ drop k slice) h ∙ ap (λ (xs : List ℕ). result ++ xs) (drop-length slice) ∙ append-nil result
+
+violated-of-answer : (outcome : Outcome) (k : ℕ) → answerOfRun outcome ≡ Violated k → (items : List ℕ) × (outcome ≡ violated k items)
+violated-of-answer (violated j items) k e = (items, ap (λ (x : ℕ). violated x items) (let z : j ≡ k = cc in z))
+violated-of-answer (refused14 j) k e = absurd (let z : _≡_ {A = ℕ} 0 1 = cc in omega arith)
+violated-of-answer (cutOff j items) k e = absurd (let z : _≡_ {A = ℕ} 0 1 = cc in omega arith)
+violated-of-answer (clean items) k e = absurd (let z : _≡_ {A = ℕ} 0 1 = cc in omega arith)
+
+module _ (bytes : List ℕ) (small : AllBelow 256 bytes) (accepted : verdict bytes ≡ Accepted) where
+  abbrev case : Case
+  case = caseOf bytes
+
+  wf : WellFormed case
+  wf = well-formed bytes small (accepted-of bytes accepted)
+
+  abbrev assigned : List ℕ → Assignment
+  assigned xs = assignmentOf case xs
+
+  -- ---- The encoder's table and the checker's yes.
+  read-back : (slice : List ℕ) → tableRoom bytes ≤ length slice → rowsOf (take (tableRoom bytes) (encodedInto bytes slice)) ≡ table case
+  unfolding writtenOver
+  read-back slice h =
+      ap (λ (xs : List ℕ). rowsOf (take (tableRoom bytes) xs)) (encoded-into bytes accepted slice h)
+      ∙ ap rowsOf (take-append-seam (numbersOf (table case)) (drop (tableRoom bytes) slice))
+      ∙ rows-of-numbers (table case)
+
+  passes-of-rows : (xs : List ℕ) → length xs ≡ variables case → AllHold case (assigned xs) (table case) → PassesCheck bytes xs
+  passes-of-rows xs sized rows = record { accepted = accepted; has-size = sized; none-failed = all-hold-none-fails case (assigned xs) 1 (table case) rows }
+
+  rows-of-yes : (xs : List ℕ) → checked bytes xs ≡ Meets → AllHold case (assigned xs) (table case)
+  rows-of-yes xs told = none-fails case (assigned xs) 1 (table case) (passes-of-meets bytes xs told .none-failed) (omega arith)
+
+  -- ---- From yes to violated.
+  few-lines : (t : ℕ) → t < case .T → length (linesOf case t) < wordSize
+  few-lines t ht = omega (arith, accepted-of bytes accepted .few-lines t ht)
+
+  run-of-yes : (xs : List ℕ) → Yes bytes xs → BrokenRun bytes (decode case (assigned xs))
+  run-of-yes xs told =
+      let met = meets-of-table case wf (assigned xs) (rows-of-yes xs (told .1)) in
+      let run = run-of-meets case wf (assigned xs) (met .0) in
+      record {
+        numbers = decoded-below case wf few-lines xs (told .0);
+        has-size = size-of-decode case wf (assigned xs);
+        legal = run .0;
+        broken = rw (← (run .3)) (met .1);
+      }
+
+  violated-of-run : (schedule : List ℕ) → BrokenRun bytes schedule → AnsweredViolated bytes schedule
+  violated-of-run schedule run =
+      let found = violated-of-broken case wf schedule (run .legal) (run .broken) in (
+        run .numbers,
+        (
+          found .0,
+          λ room h.
+              replayed-fits bytes schedule room
+              (record { accepted = accepted; has-room = h; has-size = run .has-size; adds-up = lengths-add-up case wf schedule (run .legal) })
+              ∙ ap answerOfRun (found .2),
+        ),
+      )
+
+  run-of-violated : (schedule : List ℕ) → AnsweredViolated bytes schedule → BrokenRun bytes schedule
+  run-of-violated schedule answered =
+      let k = answered .1 .0 in
+      let answer = answered .1 .1 (itemRoom bytes) (le-refl (itemRoom bytes)) in
+      let fits = fits-of-taken bytes schedule (itemRoom bytes) (subst Taken (sym answer) tt) in
+      let found = violated-of-answer (runOf case schedule) k (sym (replayed-fits bytes schedule (itemRoom bytes) fits) ∙ answer) in
+      let run = broken-of-violated case wf schedule k (found .0) (fits .adds-up) (found .1) in
+      record { numbers = answered .0; has-size = fits .has-size; legal = run .0; broken = run .1 }
+
+  -- ---- What the decoder writes.
+  decoded-as : (xs : List ℕ) → Yes bytes xs → DecodedAs bytes xs (decode case (assigned xs))
+  decoded-as xs told slice h =
+      let passes = passes-of-meets bytes xs (told .1) in (
+        decoded-with-room bytes accepted xs passes (length slice) h ∙ ap decodeds.Schedule (sym (size-of-decode case wf (assigned xs))),
+        decoded-into bytes accepted xs passes slice h,
+      )
+
+  decoding-is : (xs schedule : List ℕ) → Yes bytes xs → DecodedAs bytes xs schedule → decode case (assigned xs) ≡ schedule
+  decoding-is xs schedule told written =
+      let slice : List ℕ = replicate (scheduleRoom bytes) 0 in
+      let room : length slice ≡ scheduleRoom bytes = length-replicate {A = ℕ} (scheduleRoom bytes) 0 in
+      let given = written slice (omega (arith, room)) in
+      let own = decoded-as xs told slice (omega (arith, room)) in
+      let sized : length schedule ≡ length (decode case (assigned xs)) = cc (given .0, own .0) in
+      let own-size = size-of-decode case wf (assigned xs) in
+      sym (written-whole (decode case (assigned xs)) slice (own-size ∙ sym room))
+      ∙ sym (own .1) ∙ given .1 ∙ written-whole schedule slice (sized ∙ own-size ∙ sym room)
+
+  filling-is : (xs schedule : List ℕ) → Yes bytes xs → DecodedAs bytes xs schedule → fill case schedule ≡ xs
+  filling-is xs schedule told written =
+      ap (fill case) (sym (decoding-is xs schedule told written))
+      ∙ fill-of-decode case wf xs (passes-of-meets bytes xs (told .1) .has-size) (meets-of-table case wf (assigned xs) (rows-of-yes xs (told .1)) .0)
+
+  -- ---- From violated to yes.
+  yes-of-run : (schedule : List ℕ) → BrokenRun bytes schedule → Yes bytes (fill case schedule)
+  unfolding fill
+  yes-of-run schedule run =
+      let met = meets-of-run case wf schedule (run .has-size) (run .legal) in
+      let lens-sized = length-take-le (suc (case .n)) schedule (omega (arith, run .has-size)) in (
+        filled-below case wf (inputValues case schedule) (blockLengths case schedule)
+            (all-below-drop wordSize (suc (case .n)) schedule (run .numbers)) lens-sized,
+        meets-of-passes bytes (fill case schedule) (passes-of-rows (fill case schedule) (length-of-assignment case _)
+            (table-of-meets case wf (assigned (fill case schedule)) (met .0) (rw (met .2) (run .broken)))),
+      )
+
+  fill-decoded-as : (schedule : List ℕ) → BrokenRun bytes schedule → DecodedAs bytes (fill case schedule) schedule
+  fill-decoded-as schedule run =
+      subst (DecodedAs bytes (fill case schedule)) (decode-of-fill case wf schedule (run .has-size) (run .legal))
+      (decoded-as (fill case schedule) (yes-of-run schedule run))
+
+  corresponds : Demand3 bytes
+  corresponds = record {
+    yes-is-all-rows = λ slice h xs. (
+      (λ told. (passes-of-meets bytes xs told .has-size, rw (read-back slice h) (rows-of-yes xs told))),
+      (λ both. meets-of-passes bytes xs (passes-of-rows xs (both .0) (rw (read-back slice h) at (both .1)))),
+    );
+    some-yes-is-some-violated = (
+      (λ some. (decode case (assigned (some .0)), violated-of-run _ (run-of-yes (some .0) (some .1)))),
+      (λ some. (fill case (some .0), yes-of-run (some .0) (run-of-violated (some .0) (some .1)))),
+    );
+    violated-is-broken-run = λ schedule. (run-of-violated schedule, violated-of-run schedule);
+    decodes-to-violated = λ xs told. (decode case (assigned xs), decoded-as xs told, violated-of-run _ (run-of-yes xs told));
+    one-to-one = λ xs zs schedule yes-x yes-z x-written z-written. sym (filling-is xs schedule yes-x x-written) ∙ filling-is zs schedule yes-z z-written;
+    onto = λ schedule answered. let run = run-of-violated schedule answered in (yes-of-run schedule run, fill-decoded-as schedule run);
+    short-table = encoded-short bytes accepted;
+    long-table = encoded-with-room bytes accepted;
+    short-schedule = λ xs told. decoded-short bytes accepted xs (passes-of-meets bytes xs (told .1));
+    short-items = replayed-short bytes accepted;
+  }
+
+pub demand-3 : ForEveryAcceptedCase
+demand-3 = corresponds

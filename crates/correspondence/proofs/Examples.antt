@@ -1,0 +1,290 @@
+-- Worked examples, each for a sentence of document 01 that case A does not touch, computed from bytes over what the calls answer.
+-- Assumes nothing. No proof uses them: they hold the definitions beside the document.
+use mathlib.Core.Path.{_≡_, refl}
+use Prim.Native.Nat.{ℕ, zero, suc}
+use mathlib.Core.List.{List, [], _∷_, _++_}
+use Rattle.model.specs.Accept.{verdict}
+use Rattle.model.specs.Answers.{encoded, encodedInto, checked, decoded, decodedInto, replayed, replayedInto}
+use Rattle.model.specs.declared.Verdict.the-variants.{Accepted, Refused}
+use Rattle.model.specs.declared.Encoded.the-variants as encodeds
+use Rattle.model.specs.declared.Checked.the-variants as checkeds
+use Rattle.model.specs.declared.Decoded.the-variants as decodeds
+use Rattle.model.specs.declared.Replayed.the-variants.{Violated, Clean, CutOff}
+use Rattle.model.specs.declared.Replayed.the-variants as replayeds
+use Rattle.correspondence.proofs.Computing.{computing}
+use Rattle.correspondence.proofs.CaseA.{bytesOf, caseA}
+
+-- A header with no initial value other than 0, and a record.
+unfoldable header : ℕ → ℕ → ℕ → ℕ → ℕ → ℕ → ℕ → ℕ → List ℕ
+header T n G M f0 f1 f2 f3 = T ∷ n ∷ G ∷ M ∷ f0 ∷ f1 ∷ f2 ∷ f3 ∷ 0 ∷ 0 ∷ 0 ∷ 0 ∷ 0 ∷ 0 ∷ 0 ∷ 0 ∷ []
+
+unfoldable rec : ℕ → ℕ → ℕ → ℕ → ℕ → ℕ → ℕ → ℕ → List ℕ → List ℕ
+rec next kind guard target op a b c more = next ∷ kind ∷ guard ∷ target ∷ op ∷ a ∷ b ∷ c ∷ more
+
+unfoldable file : List ℕ → List ℕ → List ℕ
+unfolding bytesOf header rec
+file head records = bytesOf (head ++ records)
+
+-- ---- Reading and copies
+
+-- Thread 0: store 5 to global 0; store 7 to it where local 0 is not zero, which it is not; assert that local 1, loaded, is 0.
+guardedStore : List ℕ
+unfolding file
+guardedStore = file (header 2 0 1 0 1 0 0 0) (rec 2 2 0 0 0 16 0 5 (rec 3 2 1 0 0 16 0 7 (rec 4 3 0 1 0 0 0 0 (rec 0 5 0 0 5 1 16 0 []))))
+
+-- "Taking a store with a false guard as no copy: it carries the value it reads." Record 2's value is 5, and record 3 reads it.
+guarded-store-carries : checked guardedStore (0 ∷ 5 ∷ 0 ∷ 5 ∷ 0 ∷ 5 ∷ 0 ∷ 0 ∷ []) ≡ checkeds.Meets
+unfolding computing guardedStore
+guarded-store-carries = refl
+
+-- After eight rows of order, row 10 is the 4 of record 2.
+guarded-store-must-carry : checked guardedStore (0 ∷ 5 ∷ 0 ∷ 7 ∷ 0 ∷ 7 ∷ 0 ∷ 0 ∷ []) ≡ checkeds.Fails 10
+unfolding computing guardedStore
+guarded-store-must-carry = refl
+
+guarded-store-runs : replayedInto guardedStore (4 ∷ []) (9 ∷ 9 ∷ []) ≡ 5 ∷ 9 ∷ []
+unfolding computing guardedStore
+guarded-store-runs = refl
+
+-- "Reading a copy from an earlier block because it is the latest in the thread." In case A, record 3 in block 2 must read the
+-- 5 of thread 1 and not the 1 of record 2 in block 0: row 13 is its 4.
+earlier-block-not-read : checked (caseA 2) (0 ∷ 0 ∷ 0 ∷ 1 ∷ 2 ∷ 1 ∷ 2 ∷ 1 ∷ 1 ∷ 5 ∷ 1 ∷ 5 ∷ []) ≡ checkeds.Fails 13
+unfolding computing caseA
+earlier-block-not-read = refl
+
+-- "2, last line, n: the block number is at most n." Row 8.
+too-late : checked (caseA 2) (0 ∷ 0 ∷ 0 ∷ 1 ∷ 2 ∷ 5 ∷ 4 ∷ 0 ∷ 1 ∷ 5 ∷ 1 ∷ 5 ∷ []) ≡ checkeds.Fails 8
+unfolding computing caseA
+too-late = refl
+
+-- "6 .. the block value is that of the first with block number i". Row 16 is block 0's.
+wrong-block-value : checked (caseA 2) (0 ∷ 0 ∷ 0 ∷ 1 ∷ 2 ∷ 5 ∷ 2 ∷ 0 ∷ 1 ∷ 5 ∷ 2 ∷ 5 ∷ []) ≡ checkeds.Fails 16
+unfolding computing caseA
+wrong-block-value = refl
+
+-- ---- Locks
+
+-- Thread 0 locks mutex 0; thread 1 locks it.
+twoLocks : List ℕ
+unfolding file
+twoLocks = file (header 2 1 0 1 1 2 0 0) (rec 0 7 0 0 0 0 0 0 (rec 0 7 0 0 0 0 0 0 []))
+
+-- "a lock whose mutex is not 0 ends the run there with nothing changed": the mutex reads 1 at the cut-off.
+lock-taken : replayed twoLocks (1 ∷ 1 ∷ []) 1 ≡ CutOff 2
+unfolding computing twoLocks
+lock-taken = refl
+
+lock-taken-items : replayedInto twoLocks (1 ∷ 1 ∷ []) (9 ∷ []) ≡ 1 ∷ []
+unfolding computing twoLocks
+lock-taken-items = refl
+
+-- "Unlock frees it for any holder.": thread 0 locks, thread 1 unlocks and locks.
+strangerUnlocks : List ℕ
+unfolding file
+strangerUnlocks = file (header 2 1 0 1 1 2 0 0) (rec 0 7 0 0 0 0 0 0 (rec 3 8 0 0 0 0 0 0 (rec 0 7 0 0 0 0 0 0 [])))
+
+stranger-unlocks : replayed strangerUnlocks (1 ∷ 2 ∷ []) 1 ≡ Clean
+unfolding computing strangerUnlocks
+stranger-unlocks = refl
+
+-- ---- Inputs, refusal 14 and cut-offs
+
+-- Thread 0: input to local 0 where local 1 is not zero; assume 0; input to local 0 where local 1 is not zero.
+inputs : List ℕ
+unfolding file
+inputs = file (header 2 0 0 0 1 0 0 0) (rec 2 4 2 0 0 0 0 0 (rec 3 6 0 0 0 16 0 0 (rec 0 4 2 0 0 0 0 0 [])))
+
+-- "Refusal 14 and a cut-off exclude each other: the one met first is given."
+stray-before-cut : replayed inputs (3 ∷ 8 ∷ 0 ∷ []) 0 ≡ replayeds.Refused 14 1
+unfolding computing inputs
+stray-before-cut = refl
+
+stray-after-cut : replayed inputs (3 ∷ 0 ∷ 8 ∷ []) 0 ≡ CutOff 2
+unfolding computing inputs
+stray-after-cut = refl
+
+-- Thread 0: input to local 0; assert that it is less than 9.
+oneInput : List ℕ
+unfolding file
+oneInput = file (header 2 0 0 0 1 0 0 0) (rec 2 4 0 0 0 0 0 0 (rec 0 5 0 0 6 0 16 9 []))
+
+-- "a run input line with a true guard has its variable's value"
+input-decoded : decodedInto oneInput (0 ∷ 12 ∷ 0 ∷ 0 ∷ []) (7 ∷ 7 ∷ 7 ∷ []) ≡ 2 ∷ 12 ∷ 7 ∷ []
+unfolding computing oneInput
+input-decoded = refl
+
+input-replayed : replayed oneInput (2 ∷ 12 ∷ []) 0 ≡ Violated 2
+unfolding computing oneInput
+input-replayed = refl
+
+-- Thread 0: assert 0; assume 0.
+lateAssume : List ℕ
+unfolding file
+lateAssume = file (header 2 0 0 0 1 0 0 0) (rec 2 5 0 0 0 16 0 0 (rec 0 6 0 0 0 16 0 0 []))
+
+-- "a failed assume after that assert, even in the last line, means no violation"; row 7 is the assume's 5.
+assume-after-assert : replayed lateAssume (2 ∷ []) 0 ≡ CutOff 2
+unfolding computing lateAssume
+assume-after-assert = refl
+
+assume-must-hold : checked lateAssume (0 ∷ 0 ∷ 0 ∷ 0 ∷ []) ≡ checkeds.Fails 7
+unfolding computing lateAssume
+assume-must-hold = refl
+
+-- ---- Threads and blocks
+
+-- Thread 0 has no lines; thread 1 asserts 0.
+noLines : ℕ → List ℕ
+unfolding file
+noLines n = file (header 2 n 0 0 0 1 0 0) (rec 0 5 0 0 0 16 0 0 [])
+
+-- "Giving thread 1 block 0 when thread 0 has no lines" is wrong: "Block i (0 to n) belongs to thread i modulo T".
+no-lines-block-0 : replayed (noLines 0) (1 ∷ []) 0 ≡ replayeds.Refused 13 0
+unfolding computing noLines
+no-lines-block-0 = refl
+
+no-lines-block-1 : replayed (noLines 1) (0 ∷ 1 ∷ []) 0 ≡ Violated 1
+unfolding computing noLines
+no-lines-block-1 = refl
+
+-- T 4 with n 1: threads 2 and 3 have no block, and no lines to run. Row 1 says that record 1's block is thread 1's.
+fourThreads : List ℕ
+unfolding file
+fourThreads = file (header 4 1 0 0 0 1 0 0) (rec 0 5 0 0 0 16 0 0 [])
+
+four-threads : encodedInto fourThreads (0 ∷ 0 ∷ 0 ∷ 0 ∷ 0 ∷ 0 ∷ 0 ∷ 0 ∷ 0 ∷ 0 ∷ 0 ∷ 0 ∷ 0 ∷ 0 ∷ 0 ∷ 0 ∷ 0 ∷ 0 ∷ 0 ∷ 0 ∷ 0 ∷ 0 ∷ 0 ∷ 0 ∷ 5 ∷ [])
+    ≡ 3 ∷ 1 ∷ 4 ∷ 1 ∷ 0 ∷ 0 ∷ 2 ∷ 1 ∷ 1 ∷ 0 ∷ 0 ∷ 0 ∷ 4 ∷ 1 ∷ 0 ∷ 0 ∷ 0 ∷ 0 ∷ 7 ∷ 0 ∷ 0 ∷ 0 ∷ 0 ∷ 0 ∷ 5 ∷ []
+unfolding computing fourThreads
+four-threads = refl
+
+four-threads-run : replayed fourThreads (0 ∷ 1 ∷ []) 0 ≡ Violated 1
+unfolding computing fourThreads
+four-threads-run = refl
+
+-- ---- Ops
+
+-- Thread 0: local 0 is 0 − 1; global 0 gets local 0; local 0 is local 0 + 3; global 1 gets local 0; globals 2 and 3 get
+-- local 0 and 6, local 0 or 5.
+ops : List ℕ
+unfolding file
+ops = file (header 2 0 4 0 1 0 0 0)
+    (rec 2 1 0 0 2 1 16 1 (rec 3 2 0 0 0 0 0 0 (rec 4 1 0 0 1 0 16 3 (rec 5 2 0 1 0 0 0 0 (rec 6 2 0 2 3 0 16 6 (rec 0 2 0 3 4 0 16 5 []))))))
+
+-- "1 sum and 2 difference, both taken modulo 65,536; 3 bitwise and; 4 bitwise or"
+ops-run : replayedInto ops (6 ∷ []) (0 ∷ 0 ∷ 0 ∷ 0 ∷ []) ≡ 65535 ∷ 2 ∷ 2 ∷ 7 ∷ []
+unfolding computing ops
+ops-run = refl
+
+-- ---- Refusals 1 to 9, with their places, and their order
+
+refused-1-short : verdict [] ≡ Refused 1 0
+unfolding computing
+refused-1-short = refl
+
+refused-1-ragged : verdict (0 ∷ file (header 2 0 0 0 0 0 0 0) []) ≡ Refused 1 0
+unfolding computing file
+refused-1-ragged = refl
+
+refused-2 : verdict (file (header 1 0 0 0 0 0 0 0) []) ≡ Refused 2 0
+unfolding computing file
+refused-2 = refl
+
+refused-3 : verdict (file (header 2 16 0 0 0 0 0 0) []) ≡ Refused 3 0
+unfolding computing file
+refused-3 = refl
+
+refused-4 : verdict (file (header 2 0 9 0 0 0 0 0) []) ≡ Refused 4 0
+unfolding computing file
+refused-4 = refl
+
+refused-5 : verdict (file (header 2 0 0 0 0 0 1 0) (rec 0 7 0 0 0 0 0 0 [])) ≡ Refused 5 0
+unfolding computing file
+refused-5 = refl
+
+-- A next number over R counts, also in a record that no chain reaches.
+refused-6-over : verdict (file (header 2 0 0 0 0 0 0 0) (rec 2 1 0 0 0 0 0 0 [])) ≡ Refused 6 0
+unfolding computing file
+refused-6-over = refl
+
+refused-6-twice : verdict (file (header 2 0 0 0 1 1 0 0) (rec 0 1 0 0 0 0 0 0 [])) ≡ Refused 6 0
+unfolding computing file
+refused-6-twice = refl
+
+refused-6-cycle : verdict (file (header 2 0 0 0 1 0 0 0) (rec 1 1 0 0 0 0 0 0 [])) ≡ Refused 6 0
+unfolding computing file
+refused-6-cycle = refl
+
+-- Reached is reached from a thread's first record: a stray cycle is in no chain.
+refused-7 : verdict (file (header 2 0 0 0 0 0 0 0) (rec 1 1 0 0 0 0 0 0 [])) ≡ Refused 7 0
+unfolding computing file
+refused-7 = refl
+
+-- Thread 0 has so many computing lines from record k on.
+longThread : ℕ → ℕ → List ℕ
+unfolding rec
+longThread k zero = []
+longThread k (suc zero) = rec 0 1 0 0 0 0 0 0 []
+longThread k (suc (suc more)) = rec (suc k) 1 0 0 0 0 0 0 (longThread (suc k) (suc more))
+
+lines-64 : verdict (file (header 2 0 0 0 1 0 0 0) (longThread 1 64)) ≡ Accepted
+unfolding computing file longThread
+lines-64 = refl
+
+refused-8 : verdict (file (header 2 0 0 0 1 0 0 0) (longThread 1 65)) ≡ Refused 8 0
+unfolding computing file longThread
+refused-8 = refl
+
+-- "the place is the lowest such record": record 2 has kind 9, and record 3 a guard of 33.
+refused-9 : verdict (file (header 2 0 0 0 1 0 0 0) (rec 2 1 0 0 0 0 0 0 (rec 3 9 0 0 0 0 0 0 (rec 0 1 33 0 0 0 0 0 [])))) ≡ Refused 9 2
+unfolding computing file
+refused-9 = refl
+
+-- "c is 0 unless a used operand is 16"
+refused-9-constant : verdict (file (header 2 0 0 0 1 0 0 0) (rec 0 1 0 0 0 0 0 1 [])) ≡ Refused 9 1
+unfolding computing file
+refused-9-constant = refl
+
+-- 3 before 4, and 6 before 9.
+order-3-4 : verdict (file (header 2 16 9 0 0 0 0 0) []) ≡ Refused 3 0
+unfolding computing file
+order-3-4 = refl
+
+order-6-9 : verdict (file (header 2 0 0 0 1 1 0 0) (rec 0 9 0 0 0 0 0 0 [])) ≡ Refused 6 0
+unfolding computing file
+order-6-9 = refl
+
+-- ---- Refusals 10 to 15; none alters a slice
+
+refused-10 : encoded (caseA 2) 107 ≡ encodeds.Refused 10 0
+unfolding computing caseA
+refused-10 = refl
+
+refused-10-slice : encodedInto (caseA 2) (1 ∷ 2 ∷ 3 ∷ []) ≡ 1 ∷ 2 ∷ 3 ∷ []
+unfolding computing caseA
+refused-10-slice = refl
+
+refused-11 : checked (caseA 2) (0 ∷ []) ≡ checkeds.Refused 11 0
+unfolding computing caseA
+refused-11 = refl
+
+refused-12 : replayed (caseA 2) (2 ∷ 1 ∷ []) 1 ≡ replayeds.Refused 12 0
+unfolding computing caseA
+refused-12 = refl
+
+refused-13 : replayed (caseA 2) (2 ∷ 1 ∷ 3 ∷ []) 1 ≡ replayeds.Refused 13 0
+unfolding computing caseA
+refused-13 = refl
+
+-- "10 .. 12": 10 comes first.
+order-10-12 : replayed (caseA 2) (2 ∷ 1 ∷ []) 0 ≡ replayeds.Refused 10 0
+unfolding computing caseA
+order-10-12 = refl
+
+-- "the place is the first failed constraint, from 1"
+refused-15 : decoded (caseA 2) (0 ∷ 0 ∷ 0 ∷ 1 ∷ 2 ∷ 1 ∷ 2 ∷ 1 ∷ 1 ∷ 5 ∷ 1 ∷ 5 ∷ []) 3 ≡ decodeds.Refused 15 13
+unfolding computing caseA
+refused-15 = refl
+
+refused-15-slice : decodedInto (caseA 2) (0 ∷ 0 ∷ 0 ∷ 1 ∷ 2 ∷ 1 ∷ 2 ∷ 1 ∷ 1 ∷ 5 ∷ 1 ∷ 5 ∷ []) (4 ∷ 5 ∷ 6 ∷ []) ≡ 4 ∷ 5 ∷ 6 ∷ []
+unfolding computing caseA
+refused-15-slice = refl

@@ -1,0 +1,104 @@
+-- What the checker answers about a table: the first row that fails, or that all hold; and a table is read back from its numbers.
+-- Assumes nothing. Met again in Demand3.
+use mathlib.Core.Path.{_≡_, refl, sym, ap, _∙_}
+use mathlib.Core.Logic.{_≢_}
+use Prim.Native.Nat.{ℕ, suc, _+_, _<_}
+use mathlib.Core.Bool.{Bool, true, false, cond}
+use mathlib.Core.List.{List, [], _∷_, _++_}
+use native.Mathlib.Omega.{arith}
+use native.Mathlib.Nat.{zero-add}
+use lib.ListN.{length}
+use lib.Dec.{eqb}
+use borrow.Author.Tests.{eqb-false}
+use Rattle.model.specs.Lists.{unless}
+use Rattle.model.specs.CaseFile.{Case, caseOf}
+use Rattle.model.specs.Accept.{verdict}
+use Rattle.model.specs.Assignment.{Assignment, variables, assignmentOf}
+use Rattle.model.specs.Table.{Row, table, numbersOf}
+use Rattle.model.specs.Holds.{holds, firstFailing}
+use Rattle.model.specs.Answers.{onCase, failedIn, checked}
+use Rattle.model.specs.declared.Verdict.{Verdict}
+use Rattle.model.specs.declared.Verdict.the-variants.{Accepted}
+use Rattle.model.specs.declared.Verdict.the-variants as verdicts
+use Rattle.model.specs.declared.Checked.the-variants.{Meets, Fails}
+use Rattle.model.specs.declared.Checked.the-variants as checkeds
+use Rattle.correspondence.specs.ReadBack.{rowsOf, AllHold}
+
+-- Row j, counted from k, is the first that fails.
+pub record FirstFails (case : Case) (α : Assignment) (k : ℕ) (rows : List Row) (j : ℕ) : Type 0 where
+  pub before : List Row
+  pub failing : Row
+  pub after : List Row
+  pub split : rows ≡ before ++ (failing ∷ after)
+  pub place : length before + k ≡ j
+  pub hold : AllHold case α before
+  pub fails : holds case α failing ≡ false
+
+module _ (case : Case) (α : Assignment) where
+  pub none-fails : (k : ℕ) (rows : List Row) → firstFailing case α k rows ≡ 0 → 0 < k → AllHold case α rows
+  unfolding firstFailing
+  none-fails k [] e h = tt
+  none-fails k (w ∷ ws) e h = go (holds case α w) refl e (λ e'. none-fails (suc k) ws e' (omega arith))
+    where
+      go : (q : Bool) → holds case α w ≡ q → cond q (firstFailing case α (suc k) ws) k ≡ 0
+          → (firstFailing case α (suc k) ws ≡ 0 → AllHold case α ws) → AllHold case α (w ∷ ws)
+      go true r e' ih = (r, ih e')
+      go false r e' ih = absurd (omega (arith, h, e'))
+
+  pub all-hold-none-fails : (k : ℕ) (rows : List Row) → AllHold case α rows → firstFailing case α k rows ≡ 0
+  unfolding firstFailing
+  all-hold-none-fails k [] h = refl
+  all-hold-none-fails k (w ∷ ws) h = rw (h .0) (all-hold-none-fails (suc k) ws (h .1))
+
+  fails-later : (k : ℕ) (w : Row) (ws : List Row) (j : ℕ) → holds case α w ≡ true → FirstFails case α (suc k) ws j → FirstFails case α k (w ∷ ws) j
+  fails-later k w ws j r f = record {
+    before = w ∷ f .before;
+    failing = f .failing;
+    after = f .after;
+    split = ap (λ (us : List Row). w ∷ us) (f .split);
+    place = omega (arith, f .place);
+    hold = (r, f .hold);
+    fails = f .fails;
+  }
+
+  pub first-fails : (k : ℕ) (rows : List Row) (j : ℕ) → firstFailing case α k rows ≡ j → j ≢ 0 → FirstFails case α k rows j
+  unfolding firstFailing
+  first-fails k [] j e h = absurd (h (sym e))
+  first-fails k (w ∷ ws) j e h = go (holds case α w) refl e (λ e'. first-fails (suc k) ws j e' h)
+    where
+      go : (q : Bool) → holds case α w ≡ q → cond q (firstFailing case α (suc k) ws) k ≡ j
+          → (firstFailing case α (suc k) ws ≡ j → FirstFails case α (suc k) ws j) → FirstFails case α k (w ∷ ws) j
+      go true r e' ih = fails-later k w ws j r (ih e')
+      go false r e' ih = record {
+        before = [];
+        failing = w;
+        after = ws;
+        split = refl;
+        place = zero-add k ∙ e';
+        hold = tt;
+        fails = r;
+      }
+
+failed-of-fails : (bytes xs : List ℕ) (k : ℕ) → checked bytes xs ≡ Fails k → (failedIn bytes xs ≡ k) × (failedIn bytes xs ≢ 0)
+unfolding checked onCase
+failed-of-fails bytes xs k e = go (verdict bytes) (eqb (length xs) (variables (caseOf bytes))) (eqb (failedIn bytes xs) 0) refl e
+  where
+    go : (v : Verdict) (q r : Bool) → eqb (failedIn bytes xs) 0 ≡ r
+        → onCase v checkeds.Refused (unless q (checkeds.Refused 11 0) (unless r (Fails (failedIn bytes xs)) Meets)) ≡ Fails k
+        → (failedIn bytes xs ≡ k) × (failedIn bytes xs ≢ 0)
+    go Accepted true false c e' = (let z : failedIn bytes xs ≡ k = cc in z, eqb-false (failedIn bytes xs) 0 c)
+    go Accepted true true c e' = absurd (let z : _≡_ {A = ℕ} 0 1 = cc in omega arith)
+    go Accepted false r c e' = absurd (let z : _≡_ {A = ℕ} 0 1 = cc in omega arith)
+    go (verdicts.Refused number place) q r c e' = absurd (let z : _≡_ {A = ℕ} 0 1 = cc in omega arith)
+
+-- The number that the checker answers is that of a row that fails, and all rows before it hold.
+pub checker-names-the-first : (bytes xs : List ℕ) (k : ℕ) → checked bytes xs ≡ Fails k
+    → FirstFails (caseOf bytes) (assignmentOf (caseOf bytes) xs) 1 (table (caseOf bytes)) k
+checker-names-the-first bytes xs k e =
+    let failed = failed-of-fails bytes xs k e in
+    first-fails (caseOf bytes) (assignmentOf (caseOf bytes) xs) 1 (table (caseOf bytes)) k (failed .0) (λ z. failed .1 (failed .0 ∙ z))
+
+pub rows-of-numbers : (rows : List Row) → rowsOf (numbersOf rows) ≡ rows
+unfolding rowsOf numbersOf
+rows-of-numbers [] = refl
+rows-of-numbers (w ∷ ws) = ap (λ (us : List Row). w ∷ us) (rows-of-numbers ws)

@@ -1,0 +1,38 @@
+-- Lines, copies, sums, rows: small laws that several of the others use
+pub mod AllLines
+pub mod Copies
+pub mod Sums
+pub mod AllHold
+-- One thread, one line, one block
+pub mod Order
+pub mod Walk
+pub mod Step
+pub mod Block
+-- All blocks of a run
+pub mod Blocks
+pub mod Values
+pub mod Breaks
+-- Runs, their traces and the machine's answer
+pub mod Traces
+pub mod Runs
+pub mod Legal
+-- Assignments and schedules as lists of numbers
+pub mod Numbers
+pub mod Inputs
+pub mod Bounds
+-- The rows of the table
+pub mod LineFound
+pub mod OrderRows
+pub mod ValueRows
+pub mod Rows
+pub mod FirstFailing
+-- Demand 3
+pub mod WellFormed
+pub mod Replies
+pub mod Claims
+pub mod Demand3
+-- The definitions held beside document 01
+pub mod KindByKind
+pub mod Computing
+pub mod CaseA
+pub mod Examples

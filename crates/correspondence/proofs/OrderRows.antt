@@ -1,0 +1,66 @@
+-- Constraints 1, 2 and 3 of the table hold just when the block numbers of each thread are in order.
+-- Assumes nothing. Met again in Rows.
+use mathlib.Core.Path.{_≡_}
+use Prim.Native.Nat.{ℕ, zero, suc, _+_, _%_, _≤_, _<_}
+use mathlib.Core.List.{List, [], _∷_}
+use native.Mathlib.Omega.{arith}
+use native.Mathlib.Nat.{le-trans, add-zero}
+use lib.ListN.{getD, length}
+use borrow.Author.Tests.{eqb-true, eq-eqb, leb-true, le-leb}
+use Rattle.model.specs.CaseFile.{Line, Case}
+use Rattle.model.specs.Assignment.{Assignment}
+use Rattle.model.specs.Table.{orderRows, allOrderRows}
+use Rattle.model.specs.Holds.{holds}
+use Rattle.correspondence.specs.Meaning.{Ordered}
+use Rattle.correspondence.specs.ReadBack.{AllHold}
+use Rattle.correspondence.proofs.AllHold.{all-hold-append, all-hold-split}
+
+module _ (case : Case) (α : Assignment) where
+  ordered-from : (t low : ℕ) (l : Line) (ls : List Line) → low ≤ α .block (l .number) → AllHold case α (orderRows case t (l ∷ ls))
+      → Ordered case (α .block) t low (l ∷ ls)
+  unfolding orderRows holds
+  ordered-from t low l [] from h =
+      (record { from = from; upto = leb-true (α .block (l .number)) (case .n) (h .1 .0); mine = eqb-true (α .block (l .number) % case .T) t (h .0) }, tt)
+  ordered-from t low l (l' ∷ ls) from h =
+      let next = leb-true (α .block (l .number)) (α .block (l' .number)) (h .1 .0) in
+      let rest = ordered-from t (α .block (l .number)) l' ls next (h .1 .1) in
+      (record { from = from; upto = le-trans next (rest .0 .upto); mine = eqb-true (α .block (l .number) % case .T) t (h .0) }, rest)
+
+  ordered-of-rows : (t : ℕ) (ls : List Line) → AllHold case α (orderRows case t ls) → Ordered case (α .block) t 0 ls
+  ordered-of-rows t [] h = tt
+  ordered-of-rows t (l ∷ ls) h = ordered-from t 0 l ls (omega arith) h
+
+  rows-of-ordered : (t low : ℕ) (ls : List Line) → Ordered case (α .block) t low ls → AllHold case α (orderRows case t ls)
+  unfolding orderRows holds
+  rows-of-ordered t low [] o = tt
+  rows-of-ordered t low (l ∷ []) o =
+      (eq-eqb (α .block (l .number) % case .T) t (o .0 .mine), (le-leb (α .block (l .number)) (case .n) (o .0 .upto), tt))
+  rows-of-ordered t low (l ∷ (l' ∷ ls)) o = (
+    eq-eqb (α .block (l .number) % case .T) t (o .0 .mine),
+    (le-leb (α .block (l .number)) (α .block (l' .number)) (o .1 .0 .from), rows-of-ordered t (α .block (l .number)) (l' ∷ ls) (o .1)),
+  )
+
+  pub order-of-all-rows : (first : ℕ) (threads : List (List Line)) → AllHold case α (allOrderRows case first threads)
+      → (t : ℕ) → t < length threads → Ordered case (α .block) (first + t) 0 (getD threads t [])
+  unfolding allOrderRows
+  order-of-all-rows first [] h t few = absurd (omega arith)
+  order-of-all-rows first (ls ∷ threads) h zero few =
+      rw (add-zero first) (ordered-of-rows first ls (all-hold-split case α (orderRows case first ls) (allOrderRows case (suc first) threads) h .0))
+  order-of-all-rows first (ls ∷ threads) h (suc t) few =
+      let rest = all-hold-split case α (orderRows case first ls) (allOrderRows case (suc first) threads) h .1 in
+      rw shift (order-of-all-rows (suc first) threads rest t (omega arith))
+    where
+      shift : first + suc t ≡ suc first + t
+      shift = omega arith
+
+  pub all-rows-of-order : (first : ℕ) (threads : List (List Line))
+      → ((t : ℕ) → t < length threads → Ordered case (α .block) (first + t) 0 (getD threads t []))
+      → AllHold case α (allOrderRows case first threads)
+  unfolding allOrderRows
+  all-rows-of-order first [] o = tt
+  all-rows-of-order first (ls ∷ threads) o = all-hold-append case α (orderRows case first ls) (allOrderRows case (suc first) threads)
+      (rows-of-ordered first 0 ls (rw (add-zero first) at (o 0 (omega arith))))
+      (all-rows-of-order (suc first) threads (λ t few. rw (shift t) (o (suc t) (omega arith))))
+    where
+      shift : (t : ℕ) → suc first + t ≡ first + suc t
+      shift t = omega arith

@@ -1,0 +1,133 @@
+-- Constraints 4 and 5 of the table hold just when each line has its value and meets its demand.
+-- Assumes nothing. Met again in Rows.
+use mathlib.Core.Path.{_≡_, refl, sym, ap, _∙_, subst, fun-ext}
+use Prim.Native.Nat.{ℕ, zero, suc, _+_, _≤_, _<_}
+use mathlib.Core.Bool.{true, cond, not}
+use mathlib.Core.List.{List, [], _∷_}
+use native.Mathlib.Omega.{arith}
+use lib.Dec.{eqb, ltb}
+use lib.ListN.{getD, length}
+use borrow.Author.Tests.{eqb-true, eq-eqb, not-true}
+use Rattle.laws.proofs.Views.{EqView, same, diff, eq-view}
+use Rattle.model.specs.Word.{nonzero}
+use Rattle.model.specs.Limits.{localCount}
+use Rattle.model.specs.CaseFile.{Kind, compute, store, load, input, assert, assume, lock, unlock, Line, Case, itemCount, lineAt}
+use Rattle.model.specs.Line.{noName, guardName, targetName, Reads, readsOf, guardTrue, valueOf}
+use Rattle.model.specs.Assignment.{Assignment}
+use Rattle.model.specs.Copies.{copyOf, readName, readAfter, readsAfter}
+use Rattle.model.specs.Table.{valueRow, demandRows, valueRows, allValueRows}
+use Rattle.model.specs.Holds.{readsWith, demandMet, holds}
+use Rattle.correspondence.specs.Meaning.{AllLines, Demanded, LinesMet}
+use Rattle.correspondence.specs.ReadBack.{AllHold}
+use Rattle.correspondence.proofs.Copies.{readName-no-name}
+use Rattle.correspondence.proofs.Block.{zero-where-true, not-nonzero-where-true}
+use Rattle.correspondence.proofs.AllHold.{all-hold-append, all-hold-split}
+
+guard-same : (l : Line) (r r' : Reads) → r .guard ≡ r' .guard → guardTrue l r ≡ guardTrue l r'
+unfolding guardTrue
+guard-same l r r' e = ap (λ (x : ℕ). cond (eqb (l .guard) 0) true (cond (ltb (l .guard) 17) (nonzero x) (eqb x 0))) e
+
+module _ (case : Case) (few : localCount + itemCount case ≤ noName) (α : Assignment) where
+  -- the copy that the table has for a name reads as the name
+  copy-reads : (i : ℕ) (earlier : List Line) (name : ℕ) → readName case α i name (copyOf (case .G) name earlier) ≡ readAfter case α i earlier name
+  unfolding copyOf readAfter
+  copy-reads i earlier name = go (eq-view name noName)
+    where
+      go : EqView name noName → readName case α i name (copyOf (case .G) name earlier) ≡ readAfter case α i earlier name
+      go (same e q) = rw e (readName-no-name case α i noName _ few ∙ sym (readName-no-name case α i noName _ few))
+      go (diff e q) = rw q
+
+  row-reads : (earlier : List Line) (l : Line)
+      → readsOf (case .G) (λ name. readName case α (α .block (l .number)) name (copyOf (case .G) name earlier)) l (α .value (l .number))
+      ≡ readsAfter case α earlier l
+  row-reads earlier l = ap (λ (f : ℕ → ℕ). readsOf (case .G) f l (α .value (l .number))) (fun-ext (copy-reads (α .block (l .number)) earlier))
+
+  value-of-row : (earlier : List Line) (l : Line) → lineAt case (l .number) ≡ l → holds case α (valueRow case earlier l) ≡ true
+      → α .value (l .number) ≡ valueOf l (readsAfter case α earlier l)
+  unfolding holds
+  value-of-row earlier l found h = eqb-true _ _ (rw found at h) ∙ ap (valueOf l) (row-reads earlier l)
+
+  row-of-value : (earlier : List Line) (l : Line) → lineAt case (l .number) ≡ l → α .value (l .number) ≡ valueOf l (readsAfter case α earlier l)
+      → holds case α (valueRow case earlier l) ≡ true
+  unfolding holds
+  row-of-value earlier l found h = rw found (eq-eqb _ _ (h ∙ ap (valueOf l) (sym (row-reads earlier l))))
+
+  -- what constraint 5 reads of a lock
+  abbrev lockReads : List Line → Line → Reads
+  lockReads earlier l = readsWith case α l (copyOf (case .G) (guardName l) earlier) 0 0 (copyOf (case .G) (targetName (case .G) l) earlier)
+
+  lock-guard : (earlier : List Line) (l : Line) → guardTrue l (lockReads earlier l) ≡ guardTrue l (readsAfter case α earlier l)
+  lock-guard earlier l = guard-same l (lockReads earlier l) (readsAfter case α earlier l) (copy-reads (α .block (l .number)) earlier (guardName l))
+
+  demand-of-rows : (kind : Kind) (earlier : List Line) (l : Line) → l .kind ≡ kind → lineAt case (l .number) ≡ l
+      → AllHold case α (demandRows kind case earlier l)
+      → Demanded kind l (readsAfter case α earlier l) (α .value (l .number))
+  unfolding demandRows holds demandMet
+  demand-of-rows compute earlier l e found h = tt
+  demand-of-rows store earlier l e found h = tt
+  demand-of-rows load earlier l e found h = tt
+  demand-of-rows input earlier l e found h = tt
+  demand-of-rows assert earlier l e found h = tt
+  demand-of-rows assume earlier l e found h = eqb-true (α .value (l .number)) 1
+      (subst (λ (kind : Kind). demandMet kind l (readsWith case α l 0 0 0 0) (α .value (l .number)) ≡ true) e (rw found at (h .0)))
+  demand-of-rows lock earlier l e found h = λ on. sym (copy-reads (α .block (l .number)) earlier (targetName (case .G) l))
+      ∙ zero-where-true (guardTrue l (lockReads earlier l)) (lockReads earlier l .target)
+      (not-true _ (subst (λ (kind : Kind). demandMet kind l (lockReads earlier l) (α .value (l .number)) ≡ true) e (rw found at (h .0))))
+      (lock-guard earlier l ∙ on)
+  demand-of-rows unlock earlier l e found h = tt
+
+  rows-of-demand : (kind : Kind) (earlier : List Line) (l : Line) → l .kind ≡ kind → lineAt case (l .number) ≡ l
+      → Demanded kind l (readsAfter case α earlier l) (α .value (l .number)) → AllHold case α (demandRows kind case earlier l)
+  unfolding demandRows holds demandMet
+  rows-of-demand compute earlier l e found h = tt
+  rows-of-demand store earlier l e found h = tt
+  rows-of-demand load earlier l e found h = tt
+  rows-of-demand input earlier l e found h = tt
+  rows-of-demand assert earlier l e found h = tt
+  rows-of-demand assume earlier l e found h = (
+    rw found (subst (λ (kind : Kind). demandMet kind l (readsWith case α l 0 0 0 0) (α .value (l .number)) ≡ true) (sym e)
+        (eq-eqb (α .value (l .number)) 1 h)),
+    tt,
+  )
+  rows-of-demand lock earlier l e found h = (
+    rw found (subst (λ (kind : Kind). demandMet kind l (lockReads earlier l) (α .value (l .number)) ≡ true) (sym e)
+        (ap not (not-nonzero-where-true (guardTrue l (lockReads earlier l)) (lockReads earlier l .target)
+        (λ on. copy-reads (α .block (l .number)) earlier (targetName (case .G) l) ∙ h (sym (lock-guard earlier l) ∙ on))))),
+    tt,
+  )
+  rows-of-demand unlock earlier l e found h = tt
+
+  met-of-rows : (earlier ls : List Line) → AllLines (λ l. lineAt case (l .number) ≡ l) ls → AllHold case α (valueRows case earlier ls)
+      → LinesMet case α earlier ls
+  unfolding valueRows
+  met-of-rows earlier [] found h = tt
+  met-of-rows earlier (l ∷ ls) found h =
+      let parts = all-hold-split case α (demandRows (l .kind) case earlier l) (valueRows case (l ∷ earlier) ls) (h .1) in (
+        record { value = value-of-row earlier l (found .0) (h .0); demand = demand-of-rows (l .kind) earlier l refl (found .0) (parts .0) },
+        met-of-rows (l ∷ earlier) ls (found .1) (parts .1),
+      )
+
+  rows-of-met : (earlier ls : List Line) → AllLines (λ l. lineAt case (l .number) ≡ l) ls → LinesMet case α earlier ls
+      → AllHold case α (valueRows case earlier ls)
+  unfolding valueRows
+  rows-of-met earlier [] found m = tt
+  rows-of-met earlier (l ∷ ls) found m = (
+    row-of-value earlier l (found .0) (m .0 .value),
+    all-hold-append case α (demandRows (l .kind) case earlier l) (valueRows case (l ∷ earlier) ls)
+        (rows-of-demand (l .kind) earlier l refl (found .0) (m .0 .demand)) (rows-of-met (l ∷ earlier) ls (found .1) (m .1)),
+  )
+
+  pub lines-of-all-rows : (threads : List (List Line)) → ((t : ℕ) → AllLines (λ l. lineAt case (l .number) ≡ l) (getD threads t []))
+      → AllHold case α (allValueRows case threads) → (t : ℕ) → LinesMet case α [] (getD threads t [])
+  unfolding allValueRows
+  lines-of-all-rows [] found h t = tt
+  lines-of-all-rows (ls ∷ threads) found h zero = met-of-rows [] ls (found 0) (all-hold-split case α (valueRows case [] ls) (allValueRows case threads) h .0)
+  lines-of-all-rows (ls ∷ threads) found h (suc t) =
+      lines-of-all-rows threads (λ j. found (suc j)) (all-hold-split case α (valueRows case [] ls) (allValueRows case threads) h .1) t
+
+  pub all-rows-of-lines : (threads : List (List Line)) → ((t : ℕ) → AllLines (λ l. lineAt case (l .number) ≡ l) (getD threads t []))
+      → ((t : ℕ) → t < length threads → LinesMet case α [] (getD threads t [])) → AllHold case α (allValueRows case threads)
+  unfolding allValueRows
+  all-rows-of-lines [] found m = tt
+  all-rows-of-lines (ls ∷ threads) found m = all-hold-append case α (valueRows case [] ls) (allValueRows case threads)
+      (rows-of-met [] ls (found 0) (m 0 (omega arith))) (all-rows-of-lines threads (λ j. found (suc j)) (λ t h. m (suc t) (omega arith)))

@@ -1,0 +1,116 @@
+-- What the constraints say of an assignment, as propositions by topic: order of block numbers, values and demands of lines,
+-- block values. That the rows of the table say just this is proofs/Rows.antt.
+-- Assumes nothing.
+use mathlib.Core.Path.{_≡_}
+use Prim.Native.Nat.{ℕ, zero, suc, _+_, _%_, _≤_, _<_}
+use mathlib.Core.Bool.{Bool, true, cond}
+use mathlib.Core.List.{List, [], _∷_, reverse}
+use lib.ListN.{length}
+use Rattle.model.specs.Word.{wordSize, AllBelow, bit}
+use Rattle.model.specs.Limits.{localCount}
+use Rattle.model.specs.CaseFile.{Kind, compute, store, load, input, assert, assume, lock, unlock, Line, Case, linesOf, itemCount, sumOfThreads, hasNumber}
+use Rattle.model.specs.Line.{noName, Reads, guardTrue, valueOf, breaks, isInput}
+use Rattle.model.specs.Assignment.{Assignment}
+use Rattle.model.specs.Copies.{readsAfter, walkBack}
+use Rattle.model.specs.Schedule.{linesInBlock}
+
+-- What holds of every line of a thread, and of every line of every thread.
+abbrev pub AllLines : (Line → Type 0) → List Line → Type 0
+AllLines P [] = Unit
+AllLines P (l ∷ ls) = P l × AllLines P ls
+
+abbrev pub AllThreads : (Line → Type 0) → List (List Line) → Type 0
+AllThreads P [] = Unit
+AllThreads P (ls ∷ threads) = AllLines P ls × AllThreads P threads
+
+-- Record numbers count from 1.
+abbrev pub Positive : Line → Type 0
+Positive l = 0 < l .number
+
+-- What the theorem needs of a case. That an accepted case has it is proofs/WellFormed.antt.
+pub record WellFormed (case : Case) : Type 0 where
+  pub some-thread : 0 < case .T
+  pub thread-count : length (case .threads) ≡ case .T
+  pub item-count : length (case .initial) ≡ itemCount case
+  pub few-items : localCount + itemCount case ≤ noName
+  pub few-blocks : case .n + 2 ≤ wordSize
+  pub positive : (t : ℕ) → AllLines Positive (linesOf case t)
+  pub once : (k : ℕ) → sumOfThreads (hasNumber k) (case .threads) ≤ 1
+  pub known : (k : ℕ) → 0 < k → k ≤ case .R → 0 < sumOfThreads (hasNumber k) (case .threads)
+  pub within : (k : ℕ) → 0 < sumOfThreads (hasNumber k) (case .threads) → (0 < k) × (k ≤ case .R)
+  pub small-constants : (t : ℕ) → AllLines (λ l. l .c < wordSize) (linesOf case t)
+  pub small-initial : AllBelow wordSize (case .initial)
+
+-- Constraints 1, 2 and 3 at one line: its block number x is at least that of the line before, at most n, and the thread's.
+pub record InOrder (case : Case) (t low x : ℕ) : Type 0 where
+  pub from : low ≤ x
+  pub upto : x ≤ case .n
+  pub mine : x % case .T ≡ t
+
+-- Along a thread's lines, whose block numbers start from `low`.
+abbrev pub Ordered : Case → (ℕ → ℕ) → ℕ → ℕ → List Line → Type 0
+Ordered case block t low [] = Unit
+Ordered case block t low (l ∷ ls) = InOrder case t low (block (l .number)) × Ordered case block t (block (l .number)) ls
+
+-- Constraint 5: an assume's value is 1; a lock whose guard is true reads 0.
+abbrev pub Demanded : Kind → Line → Reads → ℕ → Type 0
+Demanded compute l reads value = Unit
+Demanded store l reads value = Unit
+Demanded load l reads value = Unit
+Demanded input l reads value = Unit
+Demanded assert l reads value = Unit
+Demanded assume l reads value = value ≡ 1
+Demanded lock l reads value = guardTrue l reads ≡ true → reads .target ≡ 0
+Demanded unlock l reads value = Unit
+
+-- Constraints 4 and 5 of a line after these earlier lines, latest first.
+pub record LineMet (case : Case) (α : Assignment) (earlier : List Line) (l : Line) : Type 0 where
+  pub value : α .value (l .number) ≡ valueOf l (readsAfter case α earlier l)
+  pub demand : Demanded (l .kind) l (readsAfter case α earlier l) (α .value (l .number))
+
+abbrev pub LinesMet : Case → Assignment → List Line → List Line → Type 0
+LinesMet case α earlier [] = Unit
+LinesMet case α earlier (l ∷ ls) = LineMet case α earlier l × LinesMet case α (l ∷ earlier) ls
+
+-- Constraint 6 of item g in block i.
+abbrev pub BlockMet : Case → Assignment → ℕ → ℕ → Type 0
+BlockMet case α i g = α .blockValue i g ≡ walkBack case α i g (reverse (linesOf case (i % case .T)))
+
+-- Constraints 1 to 6.
+pub record Meets (case : Case) (α : Assignment) : Type 0 where
+  pub order : (t : ℕ) → t < case .T → Ordered case (α .block) t 0 (linesOf case t)
+  pub lines : (t : ℕ) → t < case .T → LinesMet case α [] (linesOf case t)
+  pub blocks : (i : ℕ) → i < case .n → (g : ℕ) → g < itemCount case → BlockMet case α i g
+
+-- Constraint 7 counts: how many lines of a thread break an assertion, after these earlier lines; and of all threads.
+abbrev pub breaksIn : Case → Assignment → List Line → List Line → ℕ
+breaksIn case α earlier [] = 0
+breaksIn case α earlier (l ∷ ls) =
+    bit (breaks (l .kind) l (readsAfter case α earlier l) (α .value (l .number))) + breaksIn case α (l ∷ earlier) ls
+
+abbrev pub sumBelow : (ℕ → ℕ) → ℕ → ℕ
+sumBelow f zero = 0
+sumBelow f (suc m) = f m + sumBelow f m
+
+abbrev pub breakCount : Case → Assignment → ℕ
+breakCount case α = sumBelow (λ t. breaksIn case α [] (linesOf case t)) (case .T)
+
+-- The value that decoding gives to an input line: its own where its guard is true, else 0.
+abbrev pub InputGiven : Kind → Bool → ℕ → ℕ → Type 0
+InputGiven kind true-guard value given = isInput kind ≡ true → given ≡ cond true-guard value 0
+
+abbrev pub InputsGiven : Case → Assignment → (ℕ → ℕ) → List Line → List Line → Type 0
+InputsGiven case α given earlier [] = Unit
+InputsGiven case α given earlier (l ∷ ls) =
+    InputGiven (l .kind) (guardTrue l (readsAfter case α earlier l)) (α .value (l .number)) (given (l .number)) × InputsGiven case α given (l ∷ earlier) ls
+
+-- The block lengths from block i on are the numbers of lines counted.
+abbrev pub Counted : Case → Assignment → ℕ → List ℕ → Type 0
+Counted case α i [] = Unit
+Counted case α i (len ∷ lens) = (len ≡ linesInBlock (α .block) i (linesOf case (i % case .T))) × Counted case α (suc i) lens
+
+-- The assignment decodes to these block lengths and given values.
+pub record DecodesTo (case : Case) (α : Assignment) (lens : List ℕ) (given : ℕ → ℕ) : Type 0 where
+  pub all-blocks : length lens ≡ suc (case .n)
+  pub lengths : Counted case α 0 lens
+  pub inputs : (t : ℕ) → t < case .T → InputsGiven case α given [] (linesOf case t)

@@ -1,0 +1,42 @@
+-- Check 9's rules for the lines of an accepted case: a record obeys them as a line of any thread.
+-- Assumes nothing. Met again in correspondence's KindByKind.
+use mathlib.Core.Path.{_≡_, refl}
+use Prim.Native.Nat.{ℕ, _≤_, _<_}
+use mathlib.Core.Bool.{true}
+use mathlib.Core.List.{List}
+use borrow.Author.Tests.{leb-true}
+use lib.Dec.{leb}
+use Rattle.model.specs.CaseFile.{Kind, compute, store, load, input, assert, assume, lock, unlock, records, globalCount, mutexCount, recordField, lineOf}
+use Rattle.model.specs.Accept.{kindRule}
+use Rattle.laws.specs.Accepted.{Accepted}
+use Rattle.laws.proofs.Views.{and-true}
+
+rule-any-thread : (bytes : List ℕ) (t k G M : ℕ) (kind : Kind) → kindRule kind G M (lineOf bytes 0 k) ≡ kindRule kind G M (lineOf bytes t k)
+unfolding kindRule
+rule-any-thread bytes t k G M compute = refl
+rule-any-thread bytes t k G M store = refl
+rule-any-thread bytes t k G M load = refl
+rule-any-thread bytes t k G M input = refl
+rule-any-thread bytes t k G M assert = refl
+rule-any-thread bytes t k G M assume = refl
+rule-any-thread bytes t k G M lock = refl
+rule-any-thread bytes t k G M unlock = refl
+
+-- The parts of a rule: the kind's number, the guard, and the kind's own rule.
+pub record Obeys (bytes : List ℕ) (t k : ℕ) : Type 0 where
+  pub some-kind : 0 < recordField bytes k 1
+  pub few-kinds : recordField bytes k 1 ≤ 8
+  pub guard : recordField bytes k 2 ≤ 32
+  pub kind-rule : kindRule (lineOf bytes t k .kind) (globalCount bytes) (mutexCount bytes) (lineOf bytes t k) ≡ true
+
+pub records-obey : (bytes : List ℕ) → Accepted bytes → (t k : ℕ) → 0 < k → k ≤ records bytes → Obeys bytes t k
+records-obey bytes ok t k low high =
+    let one = and-true (leb 1 (recordField bytes k 1)) _ (ok .rules k low high) in
+    let two = and-true (leb (recordField bytes k 1) 8) _ (one .1) in
+    let three = and-true (leb (recordField bytes k 2) 32) _ (two .1) in
+    record {
+      some-kind = leb-true 1 (recordField bytes k 1) (one .0);
+      few-kinds = leb-true (recordField bytes k 1) 8 (two .0);
+      guard = leb-true (recordField bytes k 2) 32 (three .0);
+      kind-rule = rw (← rule-any-thread bytes t k (globalCount bytes) (mutexCount bytes) (lineOf bytes t k .kind)) (three .1);
+    }

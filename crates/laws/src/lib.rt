@@ -1,0 +1,1 @@
+// Laws of `model`'s definitions; there is no code here.
