@@ -1,0 +1,49 @@
+use Rattle.case_file.proofs.Verdicts.{absent-is-ok}
+use borrow.Author.Needs.{needs}
+use Rattle.case_file.proofs.header.absent_ok.Statement.{statement}
+use Rattle.case_file.proofs.header.absent_ok.Tie as tie
+
+field-at-requires : tie.Need-field-at-requires
+field-at-requires c κs = search needs
+
+cast-threads : tie.Need-cast-threads
+cast-threads c = search needs
+
+field-at-requires-2 : tie.Need-field-at-requires-2
+field-at-requires-2 c κs = search needs
+
+cast-globals : tie.Need-cast-globals
+cast-globals c = search needs
+
+cast-all-at-most : tie.Need-cast-all-at-most
+cast-all-at-most c = search needs
+
+all-at-most-requires : tie.Need-all-at-most-requires
+all-at-most-requires c κs = search needs
+
+cast-all-at-most-2 : tie.Need-cast-all-at-most-2
+cast-all-at-most-2 c = search needs
+
+all-at-most-requires-2 : tie.Need-all-at-most-requires-2
+all-at-most-requires-2 c κs = search needs
+
+and-requires : tie.Need-and-requires
+and-requires c κs = search needs
+
+returns : tie.Need-returns
+returns c = search absent-is-ok
+
+pub absent-ok-spec : {M : Type 1} → statement M
+absent-ok-spec =
+    tie.close
+    (tie.spec
+    field-at-requires
+    cast-threads
+    field-at-requires-2
+    cast-globals
+    cast-all-at-most
+    all-at-most-requires
+    cast-all-at-most-2
+    all-at-most-requires-2
+    and-requires
+    returns)

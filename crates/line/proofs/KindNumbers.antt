@@ -1,0 +1,157 @@
+-- The kind that a number stands for, by cases, and what holds of the numbers that a `match` on kinds leaves to its last arm.
+-- Assumes nothing.
+use mathlib.Core.Path.{_≡_, refl}
+use mathlib.Core.Logic.{_≢_}
+use Prim.Native.Nat.{ℕ, _+_}
+use mathlib.Core.Bool.{false, cond}
+use lib.Dec.{eqb}
+use Rattle.laws.proofs.Views.{EqView, same, diff, eq-view}
+use Rattle.model.specs.CaseFile.{Kind, compute, store, load, input, assert, assume, lock, unlock, Line, kindOf}
+use Rattle.model.specs.Line.{Reads, noName, itemName, nameOfA, hasExpression, nameOfTarget, guardedInValue, guardedOutValue, stops, breaks, isInput}
+
+-- A kind of number k: one of 1 to 7, or an unlock, which every other number gives.
+pub data KindView (k : ℕ) : Kind → Type 0 where
+  is1 : k ≡ 1 → KindView k compute
+  is2 : k ≡ 2 → KindView k store
+  is3 : k ≡ 3 → KindView k load
+  is4 : k ≡ 4 → KindView k input
+  is5 : k ≡ 5 → KindView k assert
+  is6 : k ≡ 6 → KindView k assume
+  is7 : k ≡ 7 → KindView k lock
+  other : KindView k unlock
+
+branch : (k n : ℕ) (κ κ' : Kind) → (k ≡ n → KindView k κ) → KindView k κ' → KindView k (cond (eqb k n) κ κ')
+branch k n κ κ' f v = go (eq-view k n)
+  where
+    go : EqView k n → KindView k (cond (eqb k n) κ κ')
+    go (same e q) = rw q (f e)
+    go (diff e q) = rw q v
+
+pub kind-view : (k : ℕ) → KindView k (kindOf k)
+unfolding kindOf
+kind-view k =
+    branch k 1 _ _ is1 (branch k 2 _ _ is2 (branch k 3 _ _ is3 (branch k 4 _ _ is4
+    (branch k 5 _ _ is5 (branch k 6 _ _ is6 (branch k 7 _ _ is7 other))))))
+
+-- The last arm's facts, as a `match` gives them.
+abbrev pub Not2 : ℕ → ℕ → ℕ → Type 0
+Not2 k m n = (Unit {0} × k ≢ m) × k ≢ n
+
+abbrev pub Not5 : ℕ → Type 0
+Not5 k = ((Not2 k 1 2 × k ≢ 3) × k ≢ 5) × k ≢ 6
+
+abbrev pub Not4 : ℕ → Type 0
+Not4 k = (Not2 k 1 2 × k ≢ 5) × k ≢ 6
+
+abbrev pub Not6 : ℕ → Type 0
+Not6 k = (((Not2 k 1 2 × k ≢ 3) × k ≢ 4) × k ≢ 5) × k ≢ 6
+
+pub a-other : (k a : ℕ) → Not5 k → noName ≡ nameOfA (kindOf k) a
+unfolding nameOfA
+a-other k a n = go (kindOf k) (kind-view k)
+  where
+    go : (κ : Kind) → KindView k κ → noName ≡ nameOfA κ a
+    go compute (is1 e) = absurd (n .0 .0 .0 .0 .1 e)
+    go store (is2 e) = absurd (n .0 .0 .0 .1 e)
+    go load (is3 e) = absurd (n .0 .0 .1 e)
+    go input v = refl
+    go assert (is5 e) = absurd (n .0 .1 e)
+    go assume (is6 e) = absurd (n .1 e)
+    go lock v = refl
+    go unlock v = refl
+
+pub expression-other : (k : ℕ) → Not4 k → false ≡ hasExpression (kindOf k)
+expression-other k n = go (kindOf k) (kind-view k)
+  where
+    go : (κ : Kind) → KindView k κ → false ≡ hasExpression κ
+    go compute (is1 e) = absurd (n .0 .0 .0 .1 e)
+    go store (is2 e) = absurd (n .0 .0 .1 e)
+    go load v = refl
+    go input v = refl
+    go assert (is5 e) = absurd (n .0 .1 e)
+    go assume (is6 e) = absurd (n .1 e)
+    go lock v = refl
+    go unlock v = refl
+
+pub target-other : (k G target : ℕ) → Not6 k → itemName (G + target) ≡ nameOfTarget G (kindOf k) target
+unfolding nameOfTarget
+target-other k G target n = go (kindOf k) (kind-view k)
+  where
+    go : (κ : Kind) → KindView k κ → itemName (G + target) ≡ nameOfTarget G κ target
+    go compute (is1 e) = absurd (n .0 .0 .0 .0 .0 .1 e)
+    go store (is2 e) = absurd (n .0 .0 .0 .0 .1 e)
+    go load (is3 e) = absurd (n .0 .0 .0 .1 e)
+    go input (is4 e) = absurd (n .0 .0 .1 e)
+    go assert (is5 e) = absurd (n .0 .1 e)
+    go assume (is6 e) = absurd (n .1 e)
+    go lock v = refl
+    go unlock v = refl
+
+pub in-other : (k : ℕ) (l : Line) (reads : Reads) → Not6 k × k ≢ 7 → 0 ≡ guardedInValue (kindOf k) l reads
+unfolding guardedInValue
+in-other k l reads n = go (kindOf k) (kind-view k)
+  where
+    go : (κ : Kind) → KindView k κ → 0 ≡ guardedInValue κ l reads
+    go compute (is1 e) = absurd (n .0 .0 .0 .0 .0 .0 .1 e)
+    go store (is2 e) = absurd (n .0 .0 .0 .0 .0 .1 e)
+    go load (is3 e) = absurd (n .0 .0 .0 .0 .1 e)
+    go input (is4 e) = absurd (n .0 .0 .0 .1 e)
+    go assert (is5 e) = absurd (n .0 .0 .1 e)
+    go assume (is6 e) = absurd (n .0 .1 e)
+    go lock (is7 e) = absurd (n .1 e)
+    go unlock v = refl
+
+pub out-other : (k : ℕ) (reads : Reads) → Not2 k 5 6 → reads .target ≡ guardedOutValue (kindOf k) reads
+unfolding guardedOutValue
+out-other k reads n = go (kindOf k) (kind-view k)
+  where
+    go : (κ : Kind) → KindView k κ → reads .target ≡ guardedOutValue κ reads
+    go compute v = refl
+    go store v = refl
+    go load v = refl
+    go input v = refl
+    go assert (is5 e) = absurd (n .0 .1 e)
+    go assume (is6 e) = absurd (n .1 e)
+    go lock v = refl
+    go unlock v = refl
+
+pub stops-other : (k : ℕ) (l : Line) (reads : Reads) → Not2 k 6 7 → false ≡ stops (kindOf k) l reads
+unfolding stops
+stops-other k l reads n = go (kindOf k) (kind-view k)
+  where
+    go : (κ : Kind) → KindView k κ → false ≡ stops κ l reads
+    go compute v = refl
+    go store v = refl
+    go load v = refl
+    go input v = refl
+    go assert v = refl
+    go assume (is6 e) = absurd (n .0 .1 e)
+    go lock (is7 e) = absurd (n .1 e)
+    go unlock v = refl
+
+pub breaks-other : (k : ℕ) (l : Line) (reads : Reads) (value : ℕ) → Unit {0} × k ≢ 5 → false ≡ breaks (kindOf k) l reads value
+unfolding breaks
+breaks-other k l reads value n = go (kindOf k) (kind-view k)
+  where
+    go : (κ : Kind) → KindView k κ → false ≡ breaks κ l reads value
+    go compute v = refl
+    go store v = refl
+    go load v = refl
+    go input v = refl
+    go assert (is5 e) = absurd (n .1 e)
+    go assume v = refl
+    go lock v = refl
+    go unlock v = refl
+
+pub input-other : (k : ℕ) → Unit {0} × k ≢ 4 → isInput (kindOf k) ≡ false
+input-other k n = go (kindOf k) (kind-view k)
+  where
+    go : (κ : Kind) → KindView k κ → isInput κ ≡ false
+    go compute v = refl
+    go store v = refl
+    go load v = refl
+    go input (is4 e) = absurd (n .1 e)
+    go assert v = refl
+    go assume v = refl
+    go lock v = refl
+    go unlock v = refl
