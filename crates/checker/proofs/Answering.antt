@@ -1,0 +1,54 @@
+-- From the first constraint that fails to the checker's answer.
+-- Assumes nothing.
+use mathlib.Core.Path.{_≡_, sym, ap, _∙_}
+use mathlib.Core.Logic.{_≢_}
+use Prim.Native.Nat.{ℕ, _≤_}
+use mathlib.Core.List.{List}
+use native.Mathlib.Omega.{arith}
+use borrow.Author.Tests.{eq-eqb, ne-eqb}
+use lib.ListN.{length, drop}
+use Rattle.model.specs.Lists.{writtenOver}
+use Rattle.model.specs.CaseFile.{caseOf}
+use Rattle.model.specs.Accept.{verdict}
+use Rattle.model.specs.Assignment.{variables}
+use Rattle.model.specs.Table.{table, numbersOf}
+use Rattle.model.specs.Answers.{onCase, failedIn, checked}
+use Rattle.model.specs.declared.Verdict.{Verdict}
+use Rattle.model.specs.declared.Verdict.the-variants.{Accepted}
+use Rattle.model.specs.declared.Verdict.the-variants as verdicts
+use Rattle.model.specs.declared.Checked.the-variants.{Meets, Fails, Refused}
+use Rattle.encoder.proofs.Writing.{length-numbers}
+use Rattle.checker.specs.Answer.{checkedAccepted}
+use Rattle.checker.specs.Reading.{Holding}
+
+pub table-has-room : (bytes : List ℕ) (rows : ℕ) → rows ≡ length (table (caseOf bytes)) → rows ≤ 1205 → length (numbersOf (table (caseOf bytes))) ≤ 7230
+table-has-room bytes rows e h = omega (arith, e, length-numbers (table (caseOf bytes)))
+
+pub holding-written : (bytes d numbers : List ℕ) → numbers ≡ writtenOver (numbersOf (table (caseOf bytes))) d → Holding bytes numbers
+unfolding writtenOver
+holding-written bytes d numbers e = record { rest = drop (length (numbersOf (table (caseOf bytes)))) d; written = e }
+
+module _ (bytes xs : List ℕ) (n : ℕ) (en : n ≡ variables (caseOf bytes)) where
+  pub wrong-size : length xs ≢ n → Refused 11 0 ≡ checkedAccepted bytes xs
+  unfolding checkedAccepted
+  wrong-size h = rw (ne-eqb (length xs) (variables (caseOf bytes)) (λ e. h (e ∙ sym en)))
+
+  module _ (size : length xs ≡ n) (failed : ℕ) (ef : failed ≡ failedIn bytes xs) where
+    pub none-fails : failed ≡ 0 → Meets ≡ checkedAccepted bytes xs
+    unfolding checkedAccepted
+    none-fails h = rw (eq-eqb (length xs) (variables (caseOf bytes)) (size ∙ en), eq-eqb (failedIn bytes xs) 0 (sym ef ∙ h))
+
+    pub one-fails : failed ≢ 0 → Fails failed ≡ checkedAccepted bytes xs
+    unfolding checkedAccepted
+    one-fails h =
+        rw (eq-eqb (length xs) (variables (caseOf bytes)) (size ∙ en), ne-eqb (failedIn bytes xs) 0 (λ e. h (ef ∙ e)))
+        (ap Fails ef)
+
+pub accepted-answer : (bytes xs : List ℕ) (v : Verdict) → v ≡ verdict bytes → v ≡ Accepted → checkedAccepted bytes xs ≡ checked bytes xs
+unfolding checked checkedAccepted onCase
+accepted-answer bytes xs v e h = rw (← e, h)
+
+pub refused-answer : (bytes xs : List ℕ) (v : Verdict) (number place : ℕ) → v ≡ verdict bytes → v ≡ verdicts.Refused number place
+    → Refused number place ≡ checked bytes xs
+unfolding checked onCase
+refused-answer bytes xs v number place e h = rw (← e, h)

@@ -1,0 +1,4 @@
+pub mod Reading
+pub mod TableRows
+pub mod Answering
+pub mod Copied

@@ -1,0 +1,4 @@
+pub mod Answering
+pub mod Counts
+pub mod Locals
+pub mod Writing

@@ -1,0 +1,4 @@
+pub mod ByKind
+pub mod Laws
+pub mod Lines
+pub mod Walking

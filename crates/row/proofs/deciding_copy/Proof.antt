@@ -1,0 +1,68 @@
+-- `row::deciding_copy` meets its contract. Assumes nothing.
+use borrow.Author.Needs.{needs}
+use Prim.Native.Nat.{_≤_, _<_}
+use mathlib.Core.Path.{_≡_, refl, sym, _∙_}
+use Rattle.row.proofs.Laws.{deciding-spent, deciding-ends, deciding-found, deciding-goes-on}
+use Rattle.row.specs.Rows.{deciding}
+use Rattle.row.proofs.deciding_copy.Statement.{statement}
+use Rattle.row.proofs.deciding_copy.Tie as tie
+
+abbrev Inv-chain : tie.InvT-chain
+Inv-chain assignment previous i last p₀ left₀ p left =
+    (p < 65536) × ((left ≤ 64) × (deciding previous assignment i left p ≡ deciding previous assignment i 64 last))
+
+abbrev μ-chain : tie.MeasureT-chain
+μ-chain assignment previous i last p₀ left₀ p left = left
+
+chain-holds : tie.Need-chain-holds Inv-chain μ-chain
+chain-holds c = (search needs, (search needs, refl))
+
+block-of-requires : tie.Need-block-of-requires Inv-chain μ-chain
+block-of-requires c κs = search needs
+
+cast-at : tie.Need-cast-at Inv-chain μ-chain
+cast-at c = search needs
+
+at-requires : tie.Need-at-requires Inv-chain μ-chain
+at-requires c κs = search needs
+
+sub-left : tie.Need-sub-left Inv-chain μ-chain
+sub-left c = search needs
+
+chain-less : tie.Need-chain-less Inv-chain μ-chain
+chain-less c = search needs
+
+chain-again : tie.Need-chain-again Inv-chain μ-chain
+chain-again c = (
+  search needs,
+  (
+    search needs,
+    sym (deciding-goes-on _ _ _ _ _ _ _ (c .before .before .before .before .if1 .left) (c .before .before .before .if2 .left) (c .before .before .block-of .ensures) (c .before .if3 .left) (c .at .ensures)) ∙ c .before .before .before .before .before .chain .inv .1 .1,
+  ),
+)
+
+returns : tie.Need-returns Inv-chain μ-chain
+returns c = sym (deciding-spent (c .before .before .before .before .args .previous .now) (c .before .before .before .before .args .assignment .now) _ _ _ (c .if1 .taken)) ∙ c .before .chain .inv .1 .1
+
+returns-2 : tie.Need-returns-2 Inv-chain μ-chain
+returns-2 c = sym (deciding-ends (c .before .before .before .before .before .args .previous .now) (c .before .before .before .before .before .args .assignment .now) _ _ (c .before .before .chain .left) (c .if2 .taken)) ∙ c .before .before .chain .inv .1 .1
+
+returns-3 : tie.Need-returns-3 Inv-chain μ-chain
+returns-3 c = sym (deciding-found (c .before .before .before .before .before .before .before .args .previous .now) (c .before .before .before .before .before .before .before .args .assignment .now) _ _ _ _ (c .before .before .before .if1 .left) (c .before .before .if2 .left) (c .before .block-of .ensures) (c .if3 .taken)) ∙ c .before .before .before .before .chain .inv .1 .1
+
+pub deciding-copy-spec : {M : Type 1} → statement M
+deciding-copy-spec =
+    tie.close
+    (tie.spec
+    Inv-chain
+    μ-chain
+    chain-holds
+    block-of-requires
+    cast-at
+    at-requires
+    sub-left
+    chain-less
+    chain-again
+    returns
+    returns-2
+    returns-3)
