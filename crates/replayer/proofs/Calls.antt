@@ -1,0 +1,169 @@
+-- The replayer's answers, by what the code finds.
+-- Assumes nothing.
+use mathlib.Core.Path.{_≡_, refl, sym, ap, _∙_, fun-ext}
+use Prim.Native.Nat.{ℕ, suc, _+_, _≤_, _<_}
+use mathlib.Core.Bool.{Bool, true, false}
+use mathlib.Core.List.{List, [], _∷_, _++_, append-assoc}
+use native.Mathlib.Omega.{arith}
+use native.Mathlib.Numerals.{add-one}
+use lib.ListN.{getD, set, length, take, drop}
+use lib.Seq.{set-at, drop-cons, take-suc, length-take-le}
+use borrow.Author.Tests.{le-leb, lt-leb, eq-eqb, ne-eqb}
+use Rattle.model.specs.Lists.{writtenOver}
+use Rattle.model.specs.CaseFile.{globalCount, mutexCount, switchCount, caseOf, itemCount}
+use Rattle.model.specs.Accept.{verdict}
+use Rattle.model.specs.Machine.{Outcome, run, runBlocks, start}
+use Rattle.model.specs.Schedule.{allInputLines, scheduleSize, blockLengths, valueGiven, lengthsAddUp, runOf}
+use Rattle.model.specs.Answers.{onCase, answerOfRun, itemsAfter, afterReplayed, replayed, replayedInto}
+use Rattle.model.specs.declared.Verdict.the-variants as verdicts
+use Rattle.model.specs.declared.Replayed.{Replayed}
+use Rattle.model.specs.declared.Replayed.the-variants.{Violated, Clean, CutOff, Refused}
+use Rattle.laws.specs.Accepted.{Accepted}
+use Rattle.turn.specs.TurnState.{itemsOf, givenBy}
+use Rattle.run.specs.declared.Ended.{Ended}
+use Rattle.run.specs.Promises.{Replies}
+use Rattle.replayer.specs.declared.Inputs.{Inputs}
+use Rattle.replayer.specs.InputValues.{putThreads, noInputs}
+use Rattle.replayer.proofs.Values.{used-is, value-is}
+
+-- Values written one by one.
+module _ (values slice : List ℕ) where
+  pub write-more : (items : List ℕ) (g : ℕ) → g < length values → g < length slice → items ≡ take g values ++ drop g slice
+      → set items g (getD values g 0) ≡ take (g + 1) values ++ drop (g + 1) slice
+  write-more items g some room e =
+      rw (e, drop-cons slice g 0 room, add-one g, take-suc values g 0 some)
+      (set-at (take g values) (getD slice g 0) (drop (suc g) slice) (getD values g 0) g (length-take-le g values (omega arith))
+      ∙ sym (append-assoc (take g values) (getD values g 0 ∷ []) (drop (suc g) slice)))
+
+  pub write-end : (items : List ℕ) (count g : ℕ) → count ≤ length values → g ≡ count → items ≡ take g values ++ drop g slice
+      → items ≡ writtenOver (take count values) slice
+  unfolding writtenOver
+  write-end items count g fits e is = rw (length-take-le count values fits, ← e) is
+
+-- The run, from its start to what is written.
+module _ (bytes lengths givens : List ℕ) (e : Ended)
+    (replies : Replies bytes (runBlocks (caseOf bytes) (givenBy givens) 0 lengths (start (caseOf bytes)) 0) e)
+  where
+    same-outcome : runBlocks (caseOf bytes) (givenBy givens) 0 lengths (start (caseOf bytes)) 0 ≡ run (caseOf bytes) lengths (givenBy givens)
+    unfolding run
+    same-outcome = refl
+
+    abbrev Ends : List ℕ → List ℕ → Type 0
+    Ends slice after =
+        (e .reply ≡ answerOfRun (run (caseOf bytes) lengths (givenBy givens)))
+        × (after ≡ afterReplayed (e .reply) (itemsAfter (run (caseOf bytes) lengths (givenBy givens))) slice)
+
+    ends : (slice after : List ℕ) → after ≡ afterReplayed (e .reply) (itemsOf bytes (e .items)) slice → Ends slice after
+    ends slice after is = (
+      replies .reply ∙ ap answerOfRun same-outcome,
+      is ∙ replies .items slice ∙ ap (λ (x : Outcome). afterReplayed (e .reply) (itemsAfter x) slice) same-outcome,
+    )
+
+    pub ends-refused : (slice : List ℕ) (number place : ℕ) → e .reply ≡ Refused number place → Ends slice slice
+    ends-refused slice number place r = ends slice slice (sym (ap (λ (x : Replayed). afterReplayed x (itemsOf bytes (e .items)) slice) r))
+
+    -- the replies with which the items are written
+    abbrev pub Writes : Replayed → Type 0
+    Writes (Violated k) = Unit {0}
+    Writes Clean = Unit {0}
+    Writes (CutOff k) = Unit {0}
+    Writes (Refused number place) = ⊥
+
+    pub ends-written : (slice after : List ℕ) (globals mutexes : ℕ) (r : Replayed) → globals ≡ globalCount bytes → mutexes ≡ mutexCount bytes
+        → e .reply ≡ r → Writes r → after ≡ writtenOver (take (globals + mutexes) (e .items)) slice → Ends slice after
+    ends-written slice after globals mutexes r eg em er w is =
+        ends slice after (rw (eg, em) at is ∙ sym (go r w) ∙ sym (ap (λ (x : Replayed). afterReplayed x (itemsOf bytes (e .items)) slice) er))
+      where
+        go : (x : Replayed) → Writes x → afterReplayed x (itemsOf bytes (e .items)) slice ≡ writtenOver (itemsOf bytes (e .items)) slice
+        go (Violated k) u = refl
+        go Clean u = refl
+        go (CutOff k) u = refl
+        go (Refused number place) u = absurd u
+
+-- The answer, and the slice after the call.
+module _ (bytes schedule slice : List ℕ) where
+  abbrev pub Answers : Replayed → List ℕ → Type 0
+  Answers r after = (r ≡ replayed bytes schedule (length slice)) × (after ≡ replayedInto bytes schedule slice)
+
+  answers : (r : Replayed) (after : List ℕ) → r ≡ replayed bytes schedule (length slice)
+      → after ≡ afterReplayed r (itemsAfter (runOf (caseOf bytes) schedule)) slice → Answers r after
+  unfolding replayedInto
+  answers r after er is = (er, is ∙ ap (λ (x : Replayed). afterReplayed x (itemsAfter (runOf (caseOf bytes) schedule)) slice) er)
+
+  pub answers-refused : (number place : ℕ) → verdict bytes ≡ verdicts.Refused number place → Answers (Refused number place) slice
+  unfolding replayed onCase
+  answers-refused number place e = answers (Refused number place) slice (rw e) refl
+
+  module _ (ok : Accepted bytes) (accepted : verdict bytes ≡ verdicts.Accepted) (switches globals mutexes : ℕ)
+      (is-switches : switches ≡ switchCount bytes) (is-globals : globals ≡ globalCount bytes) (is-mutexes : mutexes ≡ mutexCount bytes)
+    where
+      pub answers-10 : length slice < globals + mutexes → Answers (Refused 10 0) slice
+      unfolding replayed onCase
+      answers-10 short =
+          answers (Refused 10 0) slice
+          (rw (accepted, lt-leb (itemCount (caseOf bytes)) (length slice) (omega (arith, short, is-globals, is-mutexes)))) refl
+
+      module _ (room : globals + mutexes ≤ length slice) (f : Inputs)
+          (is-spread : f ≡ putThreads schedule (caseOf bytes .threads) (noInputs (switches + 1)))
+        where
+          enough : itemCount (caseOf bytes) ≤ length slice
+          enough = omega (arith, room, is-globals, is-mutexes)
+
+          size-is : f .used ≡ scheduleSize (caseOf bytes)
+          size-is = ap (λ (x : Inputs). x .used) is-spread ∙ used-is bytes schedule (switches + 1)
+              ∙ ap (λ (x : ℕ). x + length (allInputLines (caseOf bytes .threads))) (let e : switches + 1 ≡ suc (switchCount bytes) = omega arith in e)
+
+          pub answers-12 : (length schedule ≡ f .used → ⊥) → Answers (Refused 12 0) slice
+          unfolding replayed onCase
+          answers-12 differ =
+              answers (Refused 12 0) slice
+              (rw (
+                accepted,
+                le-leb (itemCount (caseOf bytes)) (length slice) enough,
+                ne-eqb (length schedule) (scheduleSize (caseOf bytes)) (λ e. differ (e ∙ sym size-is)),
+              )) refl
+
+          module _ (whole : length schedule ≡ f .used) (sums : Bool) (are-sums : sums ≡ lengthsAddUp (caseOf bytes) (take (switches + 1) schedule)) where
+            blocks : switches + 1 ≡ suc (switchCount bytes)
+            blocks = omega arith
+
+            sums-are : sums ≡ lengthsAddUp (caseOf bytes) (blockLengths (caseOf bytes) schedule)
+            sums-are = are-sums ∙ ap (λ (x : ℕ). lengthsAddUp (caseOf bytes) (take x schedule)) blocks
+
+            pub answers-13 : sums ≡ false → Answers (Refused 13 0) slice
+            unfolding replayed onCase
+            answers-13 fail =
+                answers (Refused 13 0) slice
+                (rw (
+                  accepted,
+                  le-leb (itemCount (caseOf bytes)) (length slice) enough,
+                  eq-eqb (length schedule) (scheduleSize (caseOf bytes)) (whole ∙ size-is),
+                  ← sums-are,
+                  fail,
+                )) refl
+
+            same-run : run (caseOf bytes) (take (switches + 1) schedule) (givenBy (f .given)) ≡ runOf (caseOf bytes) schedule
+            unfolding runOf
+            same-run =
+                ap (λ (x : ℕ). run (caseOf bytes) (take x schedule) (givenBy (f .given))) blocks
+                ∙ ap (run (caseOf bytes) (blockLengths (caseOf bytes) schedule))
+                (fun-ext (λ k. ap (λ (x : Inputs). getD (x .given) k 0) is-spread
+                ∙ value-is bytes schedule (switches + 1) ok (whole ∙ ap (λ (x : Inputs). x .used) is-spread ∙ used-is bytes schedule (switches + 1)) k
+                ∙ ap (λ (x : ℕ). valueGiven (allInputLines (caseOf bytes .threads)) (drop x schedule) k) blocks))
+
+            pub answers-run : (r : Replayed) (after : List ℕ) → sums ≡ true
+                → r ≡ answerOfRun (run (caseOf bytes) (take (switches + 1) schedule) (givenBy (f .given)))
+                → after ≡ afterReplayed r (itemsAfter (run (caseOf bytes) (take (switches + 1) schedule) (givenBy (f .given)))) slice
+                → Answers r after
+            unfolding replayed onCase
+            answers-run r after pass er is =
+                answers r after
+                (rw (
+                  accepted,
+                  le-leb (itemCount (caseOf bytes)) (length slice) enough,
+                  eq-eqb (length schedule) (scheduleSize (caseOf bytes)) (whole ∙ size-is),
+                  ← sums-are,
+                  pass,
+                )
+                (er ∙ ap answerOfRun same-run))
+                (is ∙ ap (λ (x : Outcome). afterReplayed r (itemsAfter x) slice) same-run)

@@ -1,0 +1,4 @@
+pub mod Spreads
+pub mod Values
+pub mod Sums
+pub mod Calls

@@ -1,0 +1,115 @@
+-- The loops that put a schedule's values in their places: what is left decides.
+-- Assumes nothing.
+use mathlib.Core.Path.{_≡_, refl, sym, ap, _∙_}
+use Prim.Native.Nat.{ℕ, zero, suc, _+_, _-_, _*_, _≤_, _<_}
+use mathlib.Core.Bool.{Bool, true, false}
+use mathlib.Core.List.{List, [], _∷_}
+use native.Mathlib.Omega.{arith}
+use lib.ListN.{length, getD, set}
+use Rattle.model.specs.CaseFile.{Line, records, threadCount, firstRecord, nextRecord, lineOf, kindOf, chains, caseOf}
+use Rattle.model.specs.Line.{isInput}
+use Rattle.laws.specs.Accepted.{Accepted, linesFrom}
+use Rattle.laws.proofs.Chains.{linesFrom-end}
+use Rattle.laws.proofs.Lines.{few-lines-from}
+use Rattle.case_file.specs.declared.Record.{Record}
+use Rattle.case_file.specs.Records.{recordOf}
+use Rattle.line.proofs.KindNumbers.{input-other}
+use Rattle.replayer.specs.declared.Inputs.{Inputs}
+use Rattle.replayer.specs.InputValues.{putNext, putLines, putThreads, noInputs}
+
+pub next-is-input : (schedule : List ℕ) (kind k : ℕ) (f : Inputs) (v : ℕ) → kind ≡ 4 → v ≡ getD schedule (f .used) 0
+    → record { given = set (f .given) k v; used = f .used + 1 } ≡ putNext schedule (isInput (kindOf kind)) k f
+unfolding putNext kindOf
+next-is-input schedule kind k f v e is = rw (e, is)
+
+pub next-is-other : (schedule : List ℕ) (kind k : ℕ) (f : Inputs) → (kind ≡ 4 → ⊥) → f ≡ putNext schedule (isInput (kindOf kind)) k f
+unfolding putNext
+next-is-other schedule kind k f other = rw (input-other kind (tt, other))
+
+next-used : (schedule : List ℕ) (input : Bool) (k : ℕ) (f : Inputs) → putNext schedule input k f .used ≤ f .used + 1
+unfolding putNext
+next-used schedule true k f = omega arith
+next-used schedule false k f = omega arith
+
+lines-used : (schedule : List ℕ) (ls : List Line) (f : Inputs) → putLines schedule ls f .used ≤ f .used + length ls
+unfolding putLines
+lines-used schedule [] f = omega arith
+lines-used schedule (l ∷ ls) f =
+    omega (arith, lines-used schedule ls (putNext schedule (isInput (l .kind)) (l .number) f), next-used schedule (isInput (l .kind)) (l .number) f)
+
+-- Within thread t, at record k.
+pub record Putting (bytes schedule : List ℕ) (t : ℕ) (f₀ : Inputs) (k : ℕ) (f : Inputs) : Type 0 where
+  pub inside : k ≤ records bytes
+  pub does : putLines schedule (linesFrom bytes t k) f ≡ putLines schedule (linesFrom bytes t (firstRecord bytes t)) f₀
+  pub fits : f .used + length (linesFrom bytes t k) ≤ f₀ .used + 64
+
+module _ (bytes schedule : List ℕ) (t : ℕ) (f₀ : Inputs) (ok : Accepted bytes) (thread : t < threadCount bytes) where
+  pub putting-start : (first : ℕ) → first ≡ firstRecord bytes t → Putting bytes schedule t f₀ first f₀
+  putting-start first e = rw e (record {
+    inside = ok .firsts t thread;
+    does = refl;
+    fits = omega (arith, few-lines-from bytes ok t (firstRecord bytes t) (ok .firsts t thread));
+  })
+
+  module _ (k : ℕ) (f : Inputs) (p : Putting bytes schedule t f₀ k f) where
+    pub putting-end : k ≡ 0 → f ≡ putLines schedule (linesFrom bytes t (firstRecord bytes t)) f₀
+    unfolding putLines
+    putting-end e = sym (ap (λ (ls : List Line). putLines schedule ls f) (ap (linesFrom bytes t) e ∙ linesFrom-end bytes t)) ∙ p .does
+
+    module _ (some : k ≡ 0 → ⊥) (l : Record) (is-record : l ≡ recordOf bytes k) where
+      lines-are : linesFrom bytes t k ≡ lineOf bytes t k ∷ linesFrom bytes t (nextRecord bytes k)
+      lines-are = ok .lines-go-on t k (omega arith) (p .inside)
+
+      next-is : l .next ≡ nextRecord bytes k
+      next-is = ap (λ (x : Record). x .next) is-record
+
+      put-is : (f' : Inputs) → f' ≡ putNext schedule (isInput (kindOf (l .kind))) k f
+          → f' ≡ putNext schedule (isInput (lineOf bytes t k .kind)) k f
+      put-is f' is-next = is-next ∙ ap (λ (x : Record). putNext schedule (isInput (kindOf (x .kind))) k f) is-record
+
+      pub fewer-lines : length (linesFrom bytes t (l .next)) < length (linesFrom bytes t k)
+      fewer-lines = rw next-is (omega (arith, ap length lines-are))
+
+      pub putting-more : (f' : Inputs) → f' ≡ putNext schedule (isInput (kindOf (l .kind))) k f → Putting bytes schedule t f₀ (l .next) f'
+      unfolding putLines
+      putting-more f' is-next = rw next-is (record {
+        inside = ok .nexts k (omega arith) (p .inside);
+        does = ap (putLines schedule (linesFrom bytes t (nextRecord bytes k))) (put-is f' is-next)
+            ∙ sym (ap (λ (ls : List Line). putLines schedule ls f) lines-are) ∙ p .does;
+        fits = omega (arith, p .fits, ap length lines-are, ap (λ (x : Inputs). x .used) (put-is f' is-next), next-used schedule (isInput (lineOf bytes t k .kind)) k f);
+      })
+
+-- At thread t, with so many threads left.
+pub record Spreading (bytes schedule : List ℕ) (lengths t : ℕ) (f : Inputs) : Type 0 where
+  pub does : putThreads schedule (chains bytes t (threadCount bytes - t)) f ≡ putThreads schedule (caseOf bytes .threads) (noInputs lengths)
+  pub fits : f .used ≤ lengths + 64 * t
+
+module _ (bytes schedule : List ℕ) (lengths : ℕ) (ok : Accepted bytes) where
+  pub spreading-start : Spreading bytes schedule lengths 0 (noInputs lengths)
+  spreading-start =
+      let all : threadCount bytes - 0 ≡ threadCount bytes = omega arith in
+      record { does = ap (λ (x : ℕ). putThreads schedule (chains bytes 0 x) (noInputs lengths)) all; fits = omega arith }
+
+  module _ (t : ℕ) (f : Inputs) (s : Spreading bytes schedule lengths t f) where
+    pub spreading-end : threadCount bytes ≤ t → f ≡ putThreads schedule (caseOf bytes .threads) (noInputs lengths)
+    unfolding putThreads chains
+    spreading-end over = let none : threadCount bytes - t ≡ 0 = omega arith in
+        sym (ap (λ (x : ℕ). putThreads schedule (chains bytes t x) f) none) ∙ s .does
+
+    pub spreading-more : (f' : Inputs) → t < threadCount bytes → f' ≡ putLines schedule (linesFrom bytes t (firstRecord bytes t)) f
+        → Spreading bytes schedule lengths (t + 1) f'
+    unfolding putThreads chains
+    spreading-more f' more is =
+        let less : threadCount bytes - t ≡ suc (threadCount bytes - suc t) = omega arith in
+        let next : t + 1 ≡ suc t = omega arith in
+        record {
+          does = rw next (ap (putThreads schedule (chains bytes (suc t) (threadCount bytes - suc t))) is
+              ∙ sym (ap (λ (x : ℕ). putThreads schedule (chains bytes t x) f) less) ∙ s .does);
+          fits = omega (
+            arith,
+            s .fits,
+            ap (λ (x : Inputs). x .used) is,
+            lines-used schedule (linesFrom bytes t (firstRecord bytes t)) f,
+            few-lines-from bytes ok t (firstRecord bytes t) (ok .firsts t more),
+          );
+        }

@@ -1,0 +1,52 @@
+-- `replayer::inputs_of` meets its contract. The invariant: the threads that are left decide. Assumes nothing.
+use Prim.Native.Nat.{_-_}
+use native.Mathlib.Omega.{arith}
+use borrow.Author.Needs.{needs}
+use Rattle.replayer.proofs.Spreads.{Spreading, spreading-start, spreading-more, spreading-end}
+use Rattle.replayer.proofs.inputs_of.Statement.{statement}
+use Rattle.replayer.proofs.inputs_of.Tie as tie
+
+abbrev Inv-loop : tie.InvT-loop
+Inv-loop case schedule lengths threads f₀ t₀ f t = Spreading case schedule lengths t f
+
+abbrev μ-loop : tie.MeasureT-loop
+μ-loop case schedule lengths threads f₀ t₀ f t = threads - t
+
+field-at-requires : tie.Need-field-at-requires Inv-loop μ-loop
+field-at-requires c κs = search needs
+
+cast-threads : tie.Need-cast-threads Inv-loop μ-loop
+cast-threads c = search needs
+
+loop-holds : tie.Need-loop-holds Inv-loop μ-loop
+loop-holds c = spreading-start _ _ _ (c .before .before .before .pre .0)
+
+put-thread-requires : tie.Need-put-thread-requires Inv-loop μ-loop
+put-thread-requires c κs = (c .before .before .before .before .before .pre .0, (omega (arith, c .before .before .field-at .ensures), omega (arith, c .before .before .field-at .ensures, c .before .loop .inv .fits, c .before .before .before .before .before .pre .1, c .before .before .before .before .before .pre .0 .few-threads)))
+
+add-t : tie.Need-add-t Inv-loop μ-loop
+add-t c = search needs
+
+loop-less : tie.Need-loop-less Inv-loop μ-loop
+loop-less c = search needs
+
+loop-again : tie.Need-loop-again Inv-loop μ-loop
+loop-again c = spreading-more _ _ _ (c .before .before .before .before .before .before .pre .0) _ _ (c .before .before .loop .inv) _ (omega (arith, c .before .before .before .field-at .ensures)) (c .put-thread .ensures)
+
+returns : tie.Need-returns Inv-loop μ-loop
+returns c = spreading-end _ _ _ (c .before .before .before .before .before .pre .0) _ _ (c .before .loop .inv) (omega (arith, c .before .before .field-at .ensures))
+
+pub inputs-of-spec : {M : Type 1} → statement M
+inputs-of-spec =
+    tie.close
+    (tie.spec
+    Inv-loop
+    μ-loop
+    field-at-requires
+    cast-threads
+    loop-holds
+    put-thread-requires
+    add-t
+    loop-less
+    loop-again
+    returns)

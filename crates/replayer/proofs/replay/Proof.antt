@@ -1,0 +1,42 @@
+-- `replayer::replay` meets its contract. Assumes nothing.
+use mathlib.Core.Path.{_≡_, sym, _∙_}
+use Rattle.model.specs.Accept.{verdict}
+use Rattle.model.specs.declared.Verdict.the-variants.{Accepted}
+use Rattle.laws.proofs.Accepted.{accepted-of}
+use Rattle.replayer.proofs.Calls.{answers-refused}
+use borrow.Author.Needs.{needs}
+use Rattle.replayer.proofs.replay.Statement.{statement}
+use Rattle.replayer.proofs.replay.Tie as tie
+
+accept-requires : tie.Need-accept-requires
+accept-requires c κs = search needs
+
+enum-known-number : tie.Need-enum-known-number
+enum-known-number c = search needs
+
+enum-told : tie.Need-enum-told
+enum-told c = search needs
+
+replay-accepted-requires : tie.Need-replay-accepted-requires
+replay-accepted-requires c κs = let ok : verdict (c .before .before .before .before .before .before .before .args .case .now) ≡ Accepted = sym (c .before .before .before .accept .ensures) ∙ c .before .enum-told .given .1 in (accepted-of _ ok, ok)
+
+returns : tie.Need-returns
+returns c = answers-refused _ _ _ _ _ (sym (c .before .before .before .accept .ensures) ∙ c .before .number .given .1)
+
+same-length : tie.Need-same-length
+same-length c = search needs
+
+returns-2 : tie.Need-returns-2
+returns-2 c = search needs
+
+pub replay-spec : {M : Type 1} → statement M
+replay-spec =
+    tie.close
+    (tie.spec
+    accept-requires
+    enum-known-number
+    enum-told
+    replay-accepted-requires
+    returns
+    same-length
+    returns-2)

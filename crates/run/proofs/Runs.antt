@@ -1,0 +1,161 @@
+-- The loop of all blocks: after some of them, the blocks that are left decide.
+-- Assumes nothing.
+use mathlib.Core.Path.{_≡_, refl, sym, ap, ap₂, _∙_}
+use Prim.Native.Nat.{ℕ, zero, suc, _+_, _%_, _≤_, _<_}
+use mathlib.Core.List.{List, [], _∷_}
+use native.Mathlib.Omega.{arith}
+use native.Mathlib.Nat.{mod-lt, add-zero, zero-add}
+use native.Mathlib.Numerals.{add-one}
+use lib.ListN.{getD, set, length, drop, length-set, drop-of-length-le}
+use lib.Seq.{drop-cons, getD-set-other}
+use Rattle.model.specs.CaseFile.{Line, records, threadCount, caseOf}
+use Rattle.model.specs.Machine.{Memory, State, BlockEnd, runBlock, restIn, memoryIn, afterBlock, Outcome, afterSteps, runBlocks}
+use Rattle.laws.specs.Accepted.{Accepted, linesFrom}
+use Rattle.laws.proofs.Views.{EqView, same, diff, eq-view}
+use Rattle.turn.specs.declared.Thread.{Thread}
+use Rattle.turn.specs.declared.Event.{Event}
+use Rattle.turn.specs.declared.Event.the-variants.{Ran, Strayed, Stopped}
+use Rattle.turn.specs.declared.Shared.{Shared}
+use Rattle.turn.specs.TurnState.{itemsOf, memoryOf, givenBy}
+use Rattle.turn.specs.Promises.{endBy, endOf, continued}
+use Rattle.run.specs.RunState.{none, threadAt, turnAt, listFrom, restAt, stateOf, Within}
+use Rattle.run.specs.Promises.{BlockAt, resumed, outcomeFrom, Played}
+
+module _ {A : Type 0} where
+  pub listFrom-at : (f : ℕ → A) (i many j : ℕ) (d : A) → j < many → getD (listFrom f i many) j d ≡ f (i + j)
+  unfolding listFrom
+  listFrom-at f i zero j d h = absurd (omega arith)
+  listFrom-at f i (suc many) zero d h = ap f (sym (add-zero i))
+  listFrom-at f i (suc many) (suc j) d h = listFrom-at f (suc i) many j d (omega arith) ∙ ap f (omega arith)
+
+  pub listFrom-same : (f g : ℕ → A) (i many : ℕ) → ((x : ℕ) → i ≤ x → x < i + many → g x ≡ f x) → listFrom g i many ≡ listFrom f i many
+  unfolding listFrom
+  listFrom-same f g i zero e = refl
+  listFrom-same f g i (suc many) e =
+      ap₂ _∷_ (e i (omega arith) (omega arith)) (listFrom-same f g (suc i) many (λ x h h'. e x (omega arith) (omega arith)))
+
+  pub listFrom-set : (f g : ℕ → A) (i many j : ℕ) → j < many → ((x : ℕ) → (x ≡ i + j → ⊥) → g x ≡ f x)
+      → listFrom g i many ≡ set (listFrom f i many) j (g (i + j))
+  unfolding listFrom
+  listFrom-set f g i zero j h e = absurd (omega arith)
+  listFrom-set f g i (suc many) zero h e =
+      ap₂ _∷_ (ap g (sym (add-zero i))) (listFrom-same f g (suc i) many (λ x h' h''. e x (λ p. omega arith)))
+  listFrom-set f g i (suc many) (suc j) h e =
+      ap₂ _∷_ (e i (λ p. omega arith))
+      (listFrom-set f g (suc i) many j (omega arith) (λ x p. e x (λ q. p (omega arith)))
+      ∙ ap (λ (x : ℕ). set (listFrom f (suc i) many) j (g x)) (omega arith))
+
+others-same : (t : ℕ) (threads after : List Thread) → after ≡ set threads t (threadAt after t) → (u : ℕ) → (u ≡ t → ⊥)
+    → threadAt after u ≡ threadAt threads u
+others-same t threads after others u other =
+    ap (λ (x : List Thread). threadAt x u) others ∙ getD-set-other threads t u (threadAt after t) none other
+
+module _ (bytes givens : List ℕ) (i steps : ℕ) (threads after : List Thread) (shared last : Shared) (some : 0 < threadCount bytes)
+    (b : BlockAt bytes givens (i % threadCount bytes) steps threads shared after last)
+  where
+    abbrev t : ℕ
+    t = i % threadCount bytes
+
+    abbrev case-state : State
+    case-state = stateOf bytes threads (shared .items)
+
+    inside : t < threadCount bytes
+    inside = mod-lt i some
+
+    at-thread : {A : Type 0} (f : ℕ → A) (d : A) → getD (listFrom f 0 (threadCount bytes)) t d ≡ f t
+    at-thread f d = listFrom-at f 0 (threadCount bytes) t d inside ∙ ap f (zero-add t)
+
+    rest-in : restIn (caseOf bytes) i case-state ≡ restAt bytes threads t
+    rest-in = at-thread (restAt bytes threads) []
+
+    memory-in : memoryIn (caseOf bytes) i case-state ≡ memoryOf bytes (turnAt threads t shared)
+    memory-in = λ j. record { locals = at-thread (λ u. threadAt threads u .locals) [] j; items = itemsOf bytes (shared .items) }
+
+    changed : {A : Type 0} (f g : ℕ → A) (x : A) → ((u : ℕ) → (u ≡ t → ⊥) → g u ≡ f u) → g t ≡ x
+        → listFrom g 0 (threadCount bytes) ≡ set (listFrom f 0 (threadCount bytes)) t x
+    changed f g x others e =
+        listFrom-set f g 0 (threadCount bytes) t inside (λ u p. others u (λ q. p (q ∙ sym (zero-add t))))
+        ∙ ap (λ x'. set (listFrom f 0 (threadCount bytes)) t x') (ap g (zero-add t) ∙ e)
+
+    state-after : last .event ≡ Ran
+        → afterBlock (caseOf bytes) i steps case-state (memoryOf bytes (turnAt after t last)) ≡ stateOf bytes after (last .items)
+    state-after ran =
+        let kept = others-same t threads after (b .others) in
+        λ j. record {
+          rests = sym (changed (restAt bytes threads) (restAt bytes after) (drop steps (restIn (caseOf bytes) i case-state))
+              (λ u other. ap (λ (x : Thread). linesFrom bytes u (x .next)) (kept u other))
+              (b .ran t .moves ran ∙ ap (drop steps) (sym rest-in))) j;
+          locals = sym (changed (λ u. threadAt threads u .locals) (λ u. threadAt after u .locals) (threadAt after t .locals)
+              (λ u other. ap (λ (x : Thread). x .locals) (kept u other)) refl) j;
+          items = itemsOf bytes (last .items);
+        }
+
+    abbrev next : List ℕ → Memory → ℕ → Outcome
+    next lengths m note =
+        runBlocks (caseOf bytes) (givenBy givens) (suc i) lengths (afterBlock (caseOf bytes) i steps case-state m) note
+
+    -- the blocks after this one, from the turn that this block leaves
+    goes-on : (lengths : List ℕ) → afterSteps (endOf bytes (turnAt after t last)) (next lengths) ≡ outcomeFrom bytes givens (suc i) lengths after last
+    goes-on lengths = go (last .event) state-after
+      where
+        go : (event : Event) → (event ≡ Ran → afterBlock (caseOf bytes) i steps case-state (memoryOf bytes (turnAt after t last)) ≡ stateOf bytes after (last .items))
+            → afterSteps (endBy bytes event (turnAt after t last)) (next lengths)
+            ≡ resumed event (itemsOf bytes (last .items)) (runBlocks (caseOf bytes) (givenBy givens) (suc i) lengths (stateOf bytes after (last .items)) (last .note))
+        go Ran e = ap (λ (x : State). runBlocks (caseOf bytes) (givenBy givens) (suc i) lengths x (last .note)) (e refl)
+        go (Strayed k) e = refl
+        go (Stopped k) e = refl
+
+    abbrev block : Memory → ℕ → BlockEnd
+    block = runBlock (caseOf bytes) (givenBy givens) steps (restAt bytes threads t)
+
+    block-next : (lengths : List ℕ) → outcomeFrom bytes givens i (steps ∷ lengths) threads shared ≡ outcomeFrom bytes givens (suc i) lengths after last
+    unfolding runBlocks
+    block-next lengths = go (shared .event) (b .ran t .does) ∙ goes-on lengths
+      where
+        go : (event : Event) → continued (endBy bytes event (turnAt threads t shared)) block ≡ endOf bytes (turnAt after t last)
+            → resumed event (itemsOf bytes (shared .items)) (runBlocks (caseOf bytes) (givenBy givens) i (steps ∷ lengths) case-state (shared .note))
+            ≡ afterSteps (endOf bytes (turnAt after t last)) (next lengths)
+        go Ran e =
+            ap (λ (x : BlockEnd). afterSteps x (next lengths))
+            (ap₂ (λ (x : List Line) (y : Memory). runBlock (caseOf bytes) (givenBy givens) steps x y (shared .note)) rest-in memory-in ∙ e)
+        go (Strayed k) e = ap (λ (x : BlockEnd). afterSteps x (next lengths)) e
+        go (Stopped k) e = ap (λ (x : BlockEnd). afterSteps x (next lengths)) e
+
+    within-after : Within bytes threads → Within bytes after
+    within-after w = record {
+      nexts = λ u h. go u h (eq-view u t);
+      four = ap length (b .others) ∙ length-set threads t (threadAt after t) ∙ w .four;
+    }
+      where
+        go : (u : ℕ) → u < threadCount bytes → EqView u t → threadAt after u .next ≤ records bytes
+        go u h (same e q) = rw e (b .ran t .within)
+        go u h (diff e q) = omega (arith, ap (λ (x : Thread). x .next) (others-same t threads after (b .others) u e), w .nexts u h)
+
+-- After some of the blocks.
+pub record Playing (bytes givens lengths : List ℕ) (threads₀ : List Thread) (shared₀ : Shared) (i : ℕ) (threads : List Thread) (shared : Shared) : Type 0 where
+  pub does : outcomeFrom bytes givens i (drop i lengths) threads shared ≡ outcomeFrom bytes givens 0 lengths threads₀ shared₀
+  pub within : Within bytes threads
+
+module _ (bytes givens lengths : List ℕ) (threads₀ : List Thread) (shared₀ : Shared) where
+  pub playing-start : Within bytes threads₀ → Playing bytes givens lengths threads₀ shared₀ 0 threads₀ shared₀
+  playing-start within = record { does = refl; within = within }
+
+  module _ (i : ℕ) (threads : List Thread) (shared : Shared) (p : Playing bytes givens lengths threads₀ shared₀ i threads shared) where
+    pub playing-on : (after : List Thread) (last : Shared) → Accepted bytes → i < length lengths
+        → BlockAt bytes givens (i % threadCount bytes) (getD lengths i 0) threads shared after last
+        → Playing bytes givens lengths threads₀ shared₀ (i + 1) after last
+    playing-on after last ok more b =
+        let some : 0 < threadCount bytes = omega (arith, ok .some-threads) in
+        record {
+          does = rw (add-one i)
+              (sym (block-next bytes givens i (getD lengths i 0) threads after shared last some b (drop (suc i) lengths))
+              ∙ ap (λ (x : List ℕ). outcomeFrom bytes givens i x threads shared) (sym (drop-cons lengths i 0 more))
+              ∙ p .does);
+          within = within-after bytes givens i (getD lengths i 0) threads after shared last some b (p .within);
+        }
+
+    pub playing-end : length lengths ≤ i → Played bytes givens lengths threads₀ shared₀ shared
+    unfolding runBlocks
+    playing-end over = record {
+      comes = ap (λ (x : List ℕ). outcomeFrom bytes givens i x threads shared) (sym (drop-of-length-le lengths over)) ∙ p .does;
+    }

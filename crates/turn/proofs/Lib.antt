@@ -1,0 +1,3 @@
+pub mod Memories
+pub mod Steps
+pub mod Blocks

@@ -1,0 +1,2 @@
+pub mod TurnState
+pub mod Promises
