@@ -1,0 +1,103 @@
+/*
+ * Menduvo's calls, for C: the static library libmenduvo.a, written by `rt staticlib menduvo`.
+ *
+ * The calls are proved: what each of them answers, and what it leaves in each slice that it was lent, equals the definitions
+ * in crates/model/specs/Answers.antt. They hold nothing between calls, allocate nothing, and may be called from any thread.
+ *
+ * A slice is a pointer and how many elements it has. The proof is about calls that keep three rules:
+ *   - each pointer points to that many elements, and is not null, also where there are none;
+ *   - it is aligned as its type asks (a uint16_t at an even address);
+ *   - a slice that is written overlaps no other slice of the same call.
+ * A slice that is written is written from its start; elements beyond the result keep their values. A refused call alters
+ * nothing.
+ */
+#ifndef MENDUVO_H
+#define MENDUVO_H
+
+#include <stddef.h>
+#include <stdint.h>
+
+#ifdef __cplusplus
+extern "C" {
+#endif
+
+/* The most that any accepted case needs: slices of these sizes are never refused with 10. */
+#define MENDUVO_MOST_CASE_BYTES 4128u       /* 32 bytes, and 16 for each of 256 records */
+#define MENDUVO_MOST_TABLE_NUMBERS 7230u    /* six for each of 1,205 constraints */
+#define MENDUVO_MOST_VARIABLES 692u         /* the numbers of an assignment */
+#define MENDUVO_MOST_SCHEDULE_NUMBERS 272u  /* 16 block lengths, 256 input values */
+#define MENDUVO_MOST_ITEMS 12u              /* 8 globals, then 4 mutexes */
+
+/*
+ * An answer.
+ *
+ * Where `refusal` is 0 the call was not refused: `place` is 0, `answer` says which answer it is, counted from 1, and `first`
+ * and `second` are the values that it carries, as the calls below say; a value that is not named there is 0.
+ *
+ * Where `refusal` is 1 to 15 the call was refused: `place` is where, and the other three are 0. In checking order:
+ *    1  the case is not 32 + 16R bytes with R from 0 to 256
+ *    2  T, the number of threads, is outside 2 to 4
+ *    3  n, the number of switches, is over 15
+ *    4  G, the number of globals, is over 8, or M, the number of mutexes, is over 4
+ *    5  a header field of an absent thread or global is not 0
+ *    6  a first or next number is over R, or a record is reached twice
+ *    7  a record is in no chain
+ *    8  a thread has over 64 lines
+ *    9  a record breaks the rules of its fields; the place is the lowest such record
+ *   10  a slice to be written is shorter than what would be written
+ *   11  the assignment does not have exactly 2R + n x (G + M) numbers
+ *   12  the schedule does not have exactly n + 1 numbers and one for each input line
+ *   13  the block lengths of some thread do not add up to its lines
+ *   14  the run meets an input line with a false guard and a value other than 0; the place is that record
+ *   15  the assignment given to the decoder fails; the place is the first failed constraint, from 1
+ * The place is 0 where none is named. Records are counted from 1.
+ */
+typedef struct {
+    uint16_t refusal, place, answer, first, second;
+} MenduvoNumbers;
+
+/*
+ * Whether the other calls take this case.
+ *   1  accepted
+ * Refusals 1 to 9.
+ */
+MenduvoNumbers menduvo_accept(const uint8_t *case_, size_t case_len);
+
+/*
+ * Writes the constraints of the case to `table`, six numbers for each.
+ *   1  the table is written; first: how many constraints; second: how many variables they are about
+ * Refusals 1 to 10.
+ */
+MenduvoNumbers menduvo_encode(const uint8_t *case_, size_t case_len, uint16_t *table, size_t table_len);
+
+/*
+ * Whether the assignment, one number for each variable, meets every constraint of the case.
+ *   1  it meets them
+ *   2  it fails; first: the first constraint that it fails, from 1
+ * Refusals 1 to 9 and 11.
+ */
+MenduvoNumbers menduvo_check(const uint8_t *case_, size_t case_len, const uint16_t *assignment, size_t assignment_len);
+
+/*
+ * Writes the schedule that the assignment stands for: n + 1 block lengths, then a value for each input line.
+ *   1  the schedule is written; first: how many numbers it has
+ * Refusals 1 to 11 and 15.
+ */
+MenduvoNumbers menduvo_decode(const uint8_t *case_, size_t case_len, const uint16_t *assignment, size_t assignment_len,
+                              uint16_t *schedule, size_t schedule_len);
+
+/*
+ * Runs the schedule, and writes the items' values at the end of the run, or where it is cut off: globals first, then mutexes.
+ *   1  violated; first: the record of the first assertion that is broken
+ *   2  clean
+ *   3  cut off; first: the record whose assume or lock failed
+ * Refusals 1 to 10 and 12 to 14.
+ */
+MenduvoNumbers menduvo_replay(const uint8_t *case_, size_t case_len, const uint16_t *schedule, size_t schedule_len,
+                              uint16_t *items, size_t items_len);
+
+#ifdef __cplusplus
+}
+#endif
+
+#endif

@@ -1,0 +1,77 @@
+//! The C interface of `bindings/menduvo.h`, and all unsafe code of this repository.
+
+/// An answer in the document's numbers, as C has it.
+#[repr(C)]
+#[derive(Clone, Copy, Debug)]
+pub struct Numbers {
+    pub refusal: u16,
+    pub place: u16,
+    pub answer: u16,
+    pub first: u16,
+    pub second: u16,
+}
+
+unsafe extern "C" {
+    fn menduvo_accept(case: *const u8, case_len: usize) -> Numbers;
+    fn menduvo_encode(case: *const u8, case_len: usize, table: *mut u16, table_len: usize) -> Numbers;
+    fn menduvo_check(case: *const u8, case_len: usize, assignment: *const u16, assignment_len: usize) -> Numbers;
+    fn menduvo_decode(
+        case: *const u8,
+        case_len: usize,
+        assignment: *const u16,
+        assignment_len: usize,
+        schedule: *mut u16,
+        schedule_len: usize,
+    ) -> Numbers;
+    fn menduvo_replay(
+        case: *const u8,
+        case_len: usize,
+        schedule: *const u16,
+        schedule_len: usize,
+        items: *mut u16,
+        items_len: usize,
+    ) -> Numbers;
+}
+
+// SAFETY, of every call below: each pointer and its length are those of one slice, which is lent until the call returns and
+// which Rust keeps aligned and not null, also where it is empty. A slice that is written is lent as mutable, so no other slice
+// overlaps it. The library reads and writes within the slices and keeps no pointer.
+
+pub fn accept(case: &[u8]) -> Numbers {
+    unsafe { menduvo_accept(case.as_ptr(), case.len()) }
+}
+
+pub fn encode(case: &[u8], table: &mut [u16]) -> Numbers {
+    unsafe { menduvo_encode(case.as_ptr(), case.len(), table.as_mut_ptr(), table.len()) }
+}
+
+pub fn check(case: &[u8], assignment: &[u16]) -> Numbers {
+    unsafe { menduvo_check(case.as_ptr(), case.len(), assignment.as_ptr(), assignment.len()) }
+}
+
+pub fn decode(case: &[u8], assignment: &[u16], schedule: &mut [u16]) -> Numbers {
+    unsafe {
+        menduvo_decode(case.as_ptr(), case.len(), assignment.as_ptr(), assignment.len(), schedule.as_mut_ptr(), schedule.len())
+    }
+}
+
+pub fn replay(case: &[u8], schedule: &[u16], items: &mut [u16]) -> Numbers {
+    unsafe { menduvo_replay(case.as_ptr(), case.len(), schedule.as_ptr(), schedule.len(), items.as_mut_ptr(), items.len()) }
+}
+
+/// The answer that the numbers stand for. Numbers that stand for none cannot come from the proved library: then something else
+/// was linked in its place, and nothing that it says can be used.
+pub fn read<Answer>(
+    numbers: Numbers,
+    refused: impl FnOnce(u16, u16) -> Answer,
+    answered: impl FnOnce(Numbers) -> Option<Answer>,
+) -> Answer {
+    let answer = match numbers {
+        Numbers { refusal: 0, place: 0, .. } => answered(numbers),
+        Numbers { refusal: 1..=15, answer: 0, first: 0, second: 0, .. } => Some(refused(numbers.refusal, numbers.place)),
+        _ => None,
+    };
+    answer.unwrap_or_else(|| {
+        panic!("libmenduvo.a gave numbers that stand for no answer, so it is not the proved library: {numbers:?}")
+    })
+}

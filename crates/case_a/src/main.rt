@@ -1,0 +1,271 @@
+// Document 01's case A on the code: P1 to P10, a line each. What they must be is in `stdout`.
+use libc::STDOUT_FILENO;
+use model::Checked;
+use model::Decoded;
+use model::Encoded;
+use model::Replayed;
+
+// Case A with n 2: 16 fields of the header, then its five records.
+const CASE_A: [u8; 112] = [
+    2,
+    0,
+    2,
+    0,
+    1,
+    0,
+    0,
+    0,
+    1,
+    0,
+    5,
+    0,
+    0,
+    0,
+    0,
+    0,
+    0,
+    0,
+    0,
+    0,
+    0,
+    0,
+    0,
+    0,
+    0,
+    0,
+    0,
+    0,
+    0,
+    0,
+    0,
+    0,
+    2,
+    0,
+    3,
+    0,
+    0,
+    0,
+    0,
+    0,
+    0,
+    0,
+    0,
+    0,
+    0,
+    0,
+    0,
+    0,
+    3,
+    0,
+    2,
+    0,
+    0,
+    0,
+    0,
+    0,
+    1,
+    0,
+    0,
+    0,
+    16,
+    0,
+    1,
+    0,
+    4,
+    0,
+    3,
+    0,
+    0,
+    0,
+    1,
+    0,
+    0,
+    0,
+    0,
+    0,
+    0,
+    0,
+    0,
+    0,
+    0,
+    0,
+    5,
+    0,
+    0,
+    0,
+    0,
+    0,
+    5,
+    0,
+    1,
+    0,
+    16,
+    0,
+    1,
+    0,
+    0,
+    0,
+    2,
+    0,
+    0,
+    0,
+    0,
+    0,
+    0,
+    0,
+    16,
+    0,
+    0,
+    0,
+    5,
+    0,
+];
+
+// The same case with n switches.
+fn case_with(n: u8) -> [u8; 112] {
+    let mut case = CASE_A;
+    case[2] = n;
+    case
+}
+
+fn word(text: &[u8]) {
+    io::write_all(STDOUT_FILENO, text);
+}
+
+fn number(n: u16) {
+    io::print_decimal(STDOUT_FILENO, n as u64);
+}
+
+fn two(text: &[u8], first: u16, second: u16) {
+    word(text);
+    number(first);
+    word(b" ");
+    number(second);
+}
+
+// What a schedule of the case is answered with, and its one item's value at the end.
+fn replayed(case: &[u8], schedule: &[u16]) {
+    let mut items = [0u16; 1];
+    match replayer::replay(case, schedule, &mut items) {
+        Replayed::Violated(k) => {
+            word(b"violated ");
+            number(k);
+        }
+        Replayed::Clean => {
+            word(b"clean");
+        }
+        Replayed::CutOff(k) => {
+            word(b"cut off ");
+            number(k);
+        }
+        Replayed::Refused { number, place } => {
+            two(b"refused ", number, place);
+        }
+    }
+    word(b", item ");
+    number(items[0]);
+    word(b"\n");
+}
+
+// What an assignment of the case is answered with, and what it decodes to.
+fn checked(case: &[u8], assignment: &[u16]) {
+    match checker::check(case, assignment) {
+        Checked::Meets => {
+            word(b"meets");
+        }
+        Checked::Fails(k) => {
+            word(b"fails ");
+            number(k);
+        }
+        Checked::Refused { number, place } => {
+            two(b"refused ", number, place);
+        }
+    }
+    let mut schedule = [0u16; 3];
+    match decoder::decode(case, assignment, &mut schedule) {
+        Decoded::Schedule { numbers } => {
+            two(b", decodes to ", schedule[0], schedule[1]);
+            two(b" ", schedule[2], numbers);
+        }
+        Decoded::Refused { number, place } => {
+            two(b", decoder refuses ", number, place);
+        }
+    }
+    word(b"\n");
+}
+
+// The case with R 0 and n 0: its table, and what the empty assignment is answered with.
+fn empty() {
+    let mut case = [0u8; 32];
+    case[0] = 2;
+    let mut table = [9u16; 6];
+    match encoder::encode(&case, &mut table) {
+        Encoded::Table {
+            constraints,
+            variables,
+        } => {
+            two(b"table ", constraints, variables);
+        }
+        Encoded::Refused { number, place } => {
+            two(b"refused ", number, place);
+        }
+    }
+    two(b", row ", table[0], table[5]);
+    let none = [0u16; 1];
+    match checker::check(&case, &none[..0]) {
+        Checked::Meets => {
+            word(b", meets\n");
+        }
+        Checked::Fails(k) => {
+            two(b", fails ", k, 0);
+            word(b"\n");
+        }
+        Checked::Refused { number, place } => {
+            two(b", refused ", number, place);
+            word(b"\n");
+        }
+    }
+}
+
+fn violated_and_clean() {
+    let case = case_with(2);
+    word(b"P1 ");
+    replayed(&case, &[2, 1, 2]);
+    word(b"P2 ");
+    replayed(&case, &[0, 1, 4]);
+    word(b"P3 ");
+    replayed(&case, &[1, 1, 3]);
+    word(b"P4 ");
+    replayed(&case, &[3, 1, 1]);
+    word(b"P5 ");
+    replayed(&case, &[4, 1, 0]);
+}
+
+fn assignments() {
+    let case = case_with(2);
+    word(b"P6 ");
+    checked(&case, &[0, 0, 0, 1, 2, 5, 2, 0, 1, 5, 1, 5]);
+    word(b"P7 ");
+    checked(&case, &[2, 5, 2, 6, 2, 6, 2, 0, 1, 5, 0, 5]);
+}
+
+fn fewer_switches() {
+    let none = case_with(0);
+    word(b"P8 ");
+    replayed(&none, &[4]);
+    word(b"P8 ");
+    replayed(&none, &[5]);
+    let one = case_with(1);
+    word(b"P9 ");
+    replayed(&one, &[4, 1]);
+    word(b"P9 ");
+    replayed(&one, &[3, 2]);
+}
+
+fn main() {
+    violated_and_clean();
+    assignments();
+    fewer_switches();
+    word(b"P10 ");
+    empty();
+}

@@ -1,0 +1,17 @@
+-- `menduvo::menduvo_check` meets its contract.
+-- Assumes nothing.
+use borrow.Author.Needs.{needs}
+use Rattle.menduvo.proofs.menduvo_check.Statement.{statement}
+use Rattle.menduvo.proofs.menduvo_check.Tie as tie
+
+check-requires : tie.Need-check-requires
+check-requires c κs = search needs
+
+checked-numbers-requires : tie.Need-checked-numbers-requires
+checked-numbers-requires c κs = search needs
+
+returns : tie.Need-returns
+returns c = cc
+
+pub menduvo-check-spec : {M : Type 1} → statement M
+menduvo-check-spec = tie.close (tie.spec check-requires checked-numbers-requires returns)
