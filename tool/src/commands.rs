@@ -1,0 +1,95 @@
+//! The commands, one function each.
+
+use crate::arguments::Call;
+use crate::calls::Loaded;
+use crate::failure::{Failure, Status};
+use crate::input::Source;
+use crate::output::Output;
+use crate::words::{count, numbers_in_lines};
+use crate::{demo, folder, help, picture, run, show, solve, solver, table};
+use menduvo::Verdict;
+use std::ffi::OsStr;
+use std::path::Path;
+
+pub fn perform(call: Call, output: &mut Output) -> Result<Status, Failure> {
+    match call {
+        Call::Help(page) => output.say(&page.map_or_else(help::all, help::one)).map(|()| Status::Done),
+        Call::Version => output.say(concat!("menduvo ", env!("CARGO_PKG_VERSION"), "\n")).map(|()| Status::Done),
+        Call::Demo => demo::tell(output),
+        Call::List(case) => list(&case, output),
+        Call::Show(case) => output.say(&show::text(&Loaded::from(&case)?)).map(|()| Status::Done),
+        Call::Check(case, assignment) => check(&case, &assignment, output),
+        Call::Decode(case, assignment) => decode(&case, &assignment, output),
+        Call::Replay(case, schedule) => replay(&case, &schedule, output),
+        Call::Solve { case, solver, keep } => {
+            let solver = solver::choose(solver)?;
+            match !case.is_standard_input() && Path::new(case.path()).is_dir() {
+                true => folder::all(case.path(), solver, keep.as_deref(), output),
+                false => solve::one(&Loaded::from(&case)?, solver, keep.as_deref(), output),
+            }
+        }
+        Call::Picture { case, schedule, file } => draw(&case, &schedule, &file, output),
+    }
+}
+
+/// As the listing program: the counts and the constraints, or a refusal's number and place.
+fn list(source: &Source, output: &mut Output) -> Result<Status, Failure> {
+    let bytes = source.case_bytes()?;
+    if let Verdict::Refused { number, place } = menduvo::accept(&bytes) {
+        output.say(&format!("{number} {place}\n"))?;
+    }
+    let table = Loaded::of(source.name(), bytes)?.table;
+    let mut text = format!("{} {}\n", table.rows.len(), table.variables);
+    for row in table.rows {
+        text.push_str(&table::numbers(row));
+        text.push('\n');
+    }
+    output.say(&text).map(|()| Status::Done)
+}
+
+fn check(case: &Source, assignment: &Source, output: &mut Output) -> Result<Status, Failure> {
+    let loaded = Loaded::from(case)?;
+    let numbers = loaded.assignment(assignment)?;
+    match loaded.check(&assignment.name(), &numbers)? {
+        None => {
+            let constraints = count(loaded.table.rows.len(), "constraint", "constraints");
+            output.say(&format!("meets: the assignment meets all {constraints}\n"))?;
+            Ok(Status::Done)
+        }
+        Some(constraint) => {
+            let details = loaded.constraint_in_words(constraint, &numbers).join("\n  ");
+            output.say(&format!("fails: the assignment fails constraint {constraint}\n  {details}\n"))?;
+            Ok(Status::Found)
+        }
+    }
+}
+
+fn decode(case: &Source, assignment: &Source, output: &mut Output) -> Result<Status, Failure> {
+    let loaded = Loaded::from(case)?;
+    let numbers = loaded.assignment(assignment)?;
+    let schedule = loaded.decode(&assignment.name(), &numbers)?;
+    output.say(&numbers_in_lines(&schedule)).map(|()| Status::Done)
+}
+
+fn replay(case: &Source, schedule: &Source, output: &mut Output) -> Result<Status, Failure> {
+    let loaded = Loaded::from(case)?;
+    let numbers = loaded.schedule(schedule)?;
+    let run = run::replay(&loaded, &schedule.name(), &numbers)?;
+    output.say(&run.text(&loaded.case, &numbers))?;
+    Ok(run.status())
+}
+
+fn draw(case: &Source, schedule: &Source, file: &OsStr, output: &mut Output) -> Result<Status, Failure> {
+    let loaded = Loaded::from(case)?;
+    let numbers = loaded.schedule(schedule)?;
+    let run = run::replay(&loaded, &schedule.name(), &numbers)?;
+    let name = Path::new(&loaded.name).file_stem().unwrap_or_default().to_string_lossy().into_owned();
+    let svg = picture::svg(&loaded.case, &name, &run);
+    if file == "-" {
+        return output.say(&svg).map(|()| Status::Done);
+    }
+    let written = std::fs::write(file, svg);
+    written.map_err(|error| Failure::Other(format!("{}: {error}", Path::new(file).display())))?;
+    output.say(&format!("{}: {}\n", Path::new(file).display(), run::verdict(&loaded.case, run.ending)))?;
+    Ok(Status::Done)
+}

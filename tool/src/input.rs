@@ -1,0 +1,67 @@
+//! Reading files. `-` is standard input. Nothing is read beyond what could be of use, so that an endless input ends too.
+
+use crate::failure::Failure;
+use std::ffi::{OsStr, OsString};
+use std::fs::File;
+use std::io::{self, Read};
+
+/// The most bytes of a text with numbers: a model of the largest case has about a tenth of it.
+const MOST_TEXT_BYTES: usize = 1 << 20;
+
+/// Where an input comes from.
+#[derive(Clone, Debug, PartialEq, Eq)]
+pub struct Source(OsString);
+
+impl Source {
+    pub fn new(argument: &OsStr) -> Source {
+        Source(argument.to_os_string())
+    }
+
+    pub fn is_standard_input(&self) -> bool {
+        self.0 == "-"
+    }
+
+    /// The name for messages.
+    pub fn name(&self) -> String {
+        match self.is_standard_input() {
+            true => "standard input".to_string(),
+            false => self.0.to_string_lossy().into_owned(),
+        }
+    }
+
+    pub fn path(&self) -> &OsStr {
+        &self.0
+    }
+
+    /// The bytes of a case. Of one that is too long, one byte more than the longest has: enough for the library to refuse it.
+    pub fn case_bytes(&self) -> Result<Vec<u8>, Failure> {
+        self.read(menduvo::MOST_CASE_BYTES + 1)
+    }
+
+    /// The text of an assignment or a schedule.
+    pub fn text(&self) -> Result<String, Failure> {
+        let bytes = self.read(MOST_TEXT_BYTES + 1)?;
+        if bytes.len() > MOST_TEXT_BYTES {
+            return Err(Failure::Refused(format!(
+                "{}: over {MOST_TEXT_BYTES} bytes, which is no list of numbers and no model of a case",
+                self.name()
+            )));
+        }
+        String::from_utf8(bytes)
+            .map_err(|_| Failure::Refused(format!("{}: not text: numbers, or a solver's model, are expected", self.name())))
+    }
+
+    fn read(&self, most: usize) -> Result<Vec<u8>, Failure> {
+        let read = match self.is_standard_input() {
+            true => read_at_most(io::stdin().lock(), most),
+            false => File::open(&self.0).and_then(|file| read_at_most(file, most)),
+        };
+        read.map_err(|error| Failure::Other(format!("{}: {error}", self.name())))
+    }
+}
+
+fn read_at_most(from: impl Read, most: usize) -> io::Result<Vec<u8>> {
+    let mut bytes = Vec::new();
+    from.take(most as u64).read_to_end(&mut bytes)?;
+    Ok(bytes)
+}

@@ -1,0 +1,53 @@
+//! The command `menduvo`. Everything that decides is a call of the proved library; this program reads files, prints, draws, and
+//! starts a solver.
+#![forbid(unsafe_code)]
+
+mod arguments;
+mod calls;
+mod case;
+mod commands;
+mod demo;
+mod diagnosis;
+mod failure;
+mod folder;
+mod help;
+mod input;
+mod numbers;
+mod output;
+mod picture;
+mod refusal;
+mod run;
+mod show;
+mod smt;
+mod solve;
+mod solver;
+mod svg;
+mod table;
+mod walk;
+mod words;
+
+use failure::{Failure, Status};
+use output::Output;
+
+fn main() {
+    let arguments: Vec<_> = std::env::args_os().skip(1).collect();
+    // A panic has printed its message; its own status is none of those that the help names.
+    let ended = std::panic::catch_unwind(|| exit_status(&arguments));
+    std::process::exit(ended.unwrap_or(Failure::STATUS_OTHER));
+}
+
+/// Runs one call of the command, and gives its exit status.
+fn exit_status(arguments: &[std::ffi::OsString]) -> i32 {
+    let mut output = Output::standard();
+    let done = arguments::parse(arguments).and_then(|call| commands::perform(call, &mut output));
+    // What was printed last may still fail to arrive.
+    let done = done.and_then(|status| output.finish().map(|()| status));
+    match done {
+        Ok(Status::Done) => 0,
+        Ok(Status::Found) => 1,
+        Err(failure) => {
+            failure.report();
+            failure.status()
+        }
+    }
+}

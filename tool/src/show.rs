@@ -1,0 +1,90 @@
+//! A case as readable text: its header, and each thread's lines with their copies.
+
+use crate::calls::Loaded;
+use crate::case::{Case, Record};
+use crate::table::Row;
+use crate::words::{count, enumeration, items_in_words, Name, LEGEND};
+
+pub fn text(loaded: &Loaded) -> String {
+    let case = &loaded.case;
+    let mut text = format!(
+        "{}: {}, {}, {}, {}, {}\n{} over {}\n({LEGEND})\n\nstart: {}\n",
+        loaded.name,
+        count(case.threads, "thread", "threads"),
+        count(case.switches, "switch", "switches"),
+        count(case.globals, "global", "globals"),
+        count(case.mutexes, "mutex", "mutexes"),
+        count(case.records.len(), "record", "records"),
+        count(loaded.table.rows.len(), "constraint", "constraints"),
+        count(loaded.table.variables, "variable", "variables"),
+        items_in_words(case, &case.items_at_start()),
+    );
+    for thread in 0..case.threads {
+        text.push_str(&thread_text(loaded, thread));
+    }
+    text.push_str("\nA copy is the latest earlier record of the same thread that has the name as target.\n");
+    text
+}
+
+fn thread_text(loaded: &Loaded, thread: usize) -> String {
+    let case = &loaded.case;
+    let chain = &case.chains[thread];
+    let mut text = format!("\nthread {thread}: {}, {}\n", count(chain.len(), "line", "lines"), blocks(case, thread));
+    let rows: Vec<[String; 5]> = chain.iter().zip(1..).map(|(&number, line)| line_cells(loaded, number, line)).collect();
+    if !rows.is_empty() {
+        let heads = ["line", "record", "guard", "does", "copies"].map(str::to_string);
+        text.push_str(&columns(&[vec![heads], rows].concat()));
+    }
+    text
+}
+
+fn blocks(case: &Case, thread: usize) -> String {
+    match case.blocks_of(thread).as_slice() {
+        [] => "no block: its lines cannot run".to_string(),
+        [block] => format!("block {block}"),
+        blocks => format!("blocks {}", enumeration(blocks)),
+    }
+}
+
+fn line_cells(loaded: &Loaded, number: u16, line: usize) -> [String; 5] {
+    let record = loaded.case.record(number);
+    let copies = loaded.table.value_row(number).map(|row| copies(record, row)).unwrap_or_default();
+    let guard = record.guard_words().unwrap_or_else(|| "always".to_string());
+    [line.to_string(), number.to_string(), guard, record.action(), copies]
+}
+
+/// The names of a line with their copies, as the table has them.
+fn copies(record: &Record, row: Row) -> String {
+    let [_, _, guard_copy, a_copy, b_copy, target_copy] = row;
+    let named = [
+        (record.guard_local().map(Name::Local), guard_copy),
+        (record.a_name(), a_copy),
+        (record.b_name(), b_copy),
+        (record.target_name(), target_copy),
+    ];
+    let mut words: Vec<String> = Vec::new();
+    for (name, copy) in named {
+        let Some(name) = name else { continue };
+        let word = match copy {
+            0 => format!("{name}: none"),
+            copy => format!("{name}: {copy}"),
+        };
+        if !words.contains(&word) {
+            words.push(word);
+        }
+    }
+    words.join(", ")
+}
+
+/// Cells in columns, the first two to the right.
+fn columns(rows: &[[String; 5]]) -> String {
+    let widths: [usize; 5] = std::array::from_fn(|column| rows.iter().map(|row| row[column].len()).max().unwrap_or(0));
+    let lines = rows.iter().map(|row| {
+        let cells = row.iter().zip(widths).enumerate().map(|(column, (cell, width))| match column {
+            0 | 1 => format!("{cell:>width$}"),
+            _ => format!("{cell:width$}"),
+        });
+        format!("  {}", cells.collect::<Vec<_>>().join("  ")).trim_end().to_string() + "\n"
+    });
+    lines.collect()
+}

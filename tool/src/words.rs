@@ -1,0 +1,190 @@
+//! Names, lines and counts in words.
+
+use crate::case::{Case, Kind, Record, CONSTANT};
+use std::fmt;
+
+/// A local of some thread, a global or a mutex.
+#[derive(Clone, Copy, Debug, PartialEq, Eq)]
+pub enum Name {
+    Local(u16),
+    Global(u16),
+    Mutex(u16),
+}
+
+/// What the letters stand for.
+pub const LEGEND: &str = "L: a thread's locals, G: globals, M: mutexes; numbers have 16 bits, sums and differences wrap";
+
+impl fmt::Display for Name {
+    fn fmt(&self, to: &mut fmt::Formatter) -> fmt::Result {
+        match self {
+            Name::Local(number) => write!(to, "L{number}"),
+            Name::Global(number) => write!(to, "G{number}"),
+            Name::Mutex(number) => write!(to, "M{number}"),
+        }
+    }
+}
+
+/// The name of an item: globals come first, then mutexes.
+pub fn item_name(case: &Case, item: usize) -> Name {
+    match item < case.globals {
+        true => Name::Global(item as u16),
+        false => Name::Mutex((item - case.globals) as u16),
+    }
+}
+
+impl Record {
+    /// The name that the line has as target.
+    pub fn target_name(&self) -> Option<Name> {
+        match self.kind {
+            Kind::Compute | Kind::Load | Kind::Input => Some(Name::Local(self.target)),
+            Kind::Store => Some(Name::Global(self.target)),
+            Kind::Lock | Kind::Unlock => Some(Name::Mutex(self.target)),
+            Kind::Assert | Kind::Assume | Kind::Unknown => None,
+        }
+    }
+
+    /// The name that operand a reads.
+    pub fn a_name(&self) -> Option<Name> {
+        match self.kind {
+            Kind::Load => Some(Name::Global(self.a)),
+            _ if self.has_expression() && self.a != CONSTANT => Some(Name::Local(self.a)),
+            _ => None,
+        }
+    }
+
+    /// The name that operand b reads.
+    pub fn b_name(&self) -> Option<Name> {
+        (self.has_b() && self.b != CONSTANT).then_some(Name::Local(self.b))
+    }
+
+    /// The guard in words; nothing where it is always true.
+    pub fn guard_words(&self) -> Option<String> {
+        let sign = if self.guard <= 16 { "!=" } else { "==" };
+        self.guard_local().map(|local| format!("{} {sign} 0", Name::Local(local)))
+    }
+
+    /// What the line does where its guard is true.
+    pub fn action(&self) -> String {
+        let target = self.target_name().map(|name| name.to_string()).unwrap_or_default();
+        match self.kind {
+            Kind::Compute | Kind::Store => format!("{target} = {}", self.expression_words()),
+            Kind::Load => format!("{target} = {}", Name::Global(self.a)),
+            Kind::Input => format!("{target} = input"),
+            Kind::Assert => format!("assert {}", self.expression_words()),
+            Kind::Assume => format!("assume {}", self.expression_words()),
+            Kind::Lock => format!("lock {target}"),
+            Kind::Unlock => format!("unlock {target}"),
+            Kind::Unknown => format!("kind {}", self.fields[1]),
+        }
+    }
+
+    /// Guard and action.
+    pub fn words(&self) -> String {
+        match self.guard_words() {
+            Some(guard) => format!("if {guard}: {}", self.action()),
+            None => self.action(),
+        }
+    }
+
+    /// The expression over names and constants.
+    pub fn expression_words(&self) -> String {
+        let operand = |operand: u16| match operand {
+            CONSTANT => self.c.to_string(),
+            local => Name::Local(local).to_string(),
+        };
+        self.expression_of(&operand(self.a), &operand(self.b))
+    }
+
+    /// The expression with these words for its operands.
+    pub fn expression_of(&self, a: &str, b: &str) -> String {
+        let sign = match self.op {
+            0 => return a.to_string(),
+            1 => "+",
+            2 => "-",
+            3 => "&",
+            4 => "|",
+            5 => "==",
+            6 => "<",
+            _ => "(an unknown op)",
+        };
+        format!("{a} {sign} {b}")
+    }
+
+    /// The eight fields by name, and the kind in a word.
+    pub fn fields_in_words(&self) -> String {
+        let [next, kind, guard, target, op, a, b, c] = self.fields;
+        let word = match self.kind {
+            Kind::Compute => "compute",
+            Kind::Store => "store",
+            Kind::Load => "load",
+            Kind::Input => "input",
+            Kind::Assert => "assert",
+            Kind::Assume => "assume",
+            Kind::Lock => "lock",
+            Kind::Unlock => "unlock",
+            Kind::Unknown => "unknown",
+        };
+        format!("next {next}, kind {kind} ({word}), guard {guard}, target {target}, op {op}, a {a}, b {b}, c {c}")
+    }
+}
+
+/// A record by its number, its place and what it does.
+pub fn record_in_words(case: &Case, number: u16) -> String {
+    if number == 0 || usize::from(number) > case.records.len() {
+        return format!("record {number}, which this case does not have");
+    }
+    let words = case.record(number).words();
+    match case.position(number) {
+        Some((thread, line)) => format!("record {number} (thread {thread}, line {line}: {words})"),
+        None => format!("record {number} (in no thread: {words})"),
+    }
+}
+
+/// `1 line`, `2 lines`.
+pub fn count(number: usize, one: &str, many: &str) -> String {
+    match number {
+        1 => format!("1 {one}"),
+        _ => format!("{number} {many}"),
+    }
+}
+
+/// `0`, `0 and 2`, `0, 2 and 4`.
+pub fn enumeration<T: fmt::Display>(things: &[T]) -> String {
+    match things {
+        [] => "none".to_string(),
+        [one] => one.to_string(),
+        [most @ .., last] => {
+            let most: Vec<String> = most.iter().map(T::to_string).collect();
+            format!("{} and {last}", most.join(", "))
+        }
+    }
+}
+
+/// Items with their values: `G0 = 5, M0 = 0`.
+pub fn items_in_words(case: &Case, values: &[u16]) -> String {
+    let items = values.iter().enumerate().map(|(item, value)| format!("{} = {value}", item_name(case, item)));
+    match values {
+        [] => "none".to_string(),
+        _ => items.collect::<Vec<_>>().join(", "),
+    }
+}
+
+/// Numbers as they are filed: decimal, with a space between them, in lines of at most 100 characters.
+pub fn numbers_in_lines(numbers: &[u16]) -> String {
+    let mut lines = String::new();
+    let mut width = 0;
+    for number in numbers {
+        let word = number.to_string();
+        if width > 0 && width + 1 + word.len() > 100 {
+            lines.push('\n');
+            width = 0;
+        } else if width > 0 {
+            lines.push(' ');
+            width += 1;
+        }
+        width += word.len();
+        lines.push_str(&word);
+    }
+    lines.push('\n');
+    lines
+}
