@@ -1,0 +1,94 @@
+//! The five calls on a sample, proved and in plain Rust: first that they agree, then how long they take.
+
+use std::hint::black_box;
+
+use crate::measure::{compare, Times};
+use crate::plain;
+use crate::sample::Sample;
+use menduvo::{Checked, Decoded, Encoded, Replayed, Verdict};
+
+pub const NAMES: [&str; 5] = ["accept", "encode", "check", "decode", "replay"];
+
+/// The slices that calls write to, each as long as any case needs.
+#[derive(Clone, PartialEq)]
+pub struct Buffers {
+    table: Vec<u16>,
+    schedule: Vec<u16>,
+    items: Vec<u16>,
+}
+
+impl Buffers {
+    /// No result leaves all of them as they are here.
+    pub fn new() -> Buffers {
+        Buffers {
+            table: vec![0xA5A5; menduvo::MOST_TABLE_NUMBERS],
+            schedule: vec![0xA5A5; menduvo::MOST_SCHEDULE_NUMBERS],
+            items: vec![0xA5A5; menduvo::MOST_ITEMS],
+        }
+    }
+}
+
+/// All answers for a sample.
+type Answers = (Verdict, Encoded, Checked, Decoded, Replayed);
+
+/// That both give the same answers and leave the same in the buffers, and the answers that the sample was made for.
+pub fn agree(sample: &Sample) -> Result<(), String> {
+    let Sample { name, case, assignment, schedule } = sample;
+    let (mut proved_buffers, mut plain_buffers) = (Buffers::new(), Buffers::new());
+    let b = &mut proved_buffers;
+    let proved: Answers = (
+        menduvo::accept(case),
+        menduvo::encode(case, &mut b.table),
+        menduvo::check(case, assignment),
+        menduvo::decode(case, assignment, &mut b.schedule),
+        menduvo::replay(case, schedule, &mut b.items),
+    );
+    let b = &mut plain_buffers;
+    let plain: Answers = (
+        plain::accept(case),
+        plain::encode(case, &mut b.table),
+        plain::check(case, assignment),
+        plain::decode(case, assignment, &mut b.schedule),
+        plain::replay(case, schedule, &mut b.items),
+    );
+    if proved != plain {
+        return Err(format!("{name}: the library answers {proved:?}, plain Rust {plain:?}"));
+    }
+    if proved_buffers != plain_buffers {
+        return Err(format!("{name}: the library and plain Rust leave different buffers"));
+    }
+    let (_, _, checked, _, replayed) = proved;
+    let decoded = &proved_buffers.schedule[..schedule.len()];
+    if checked != Checked::Meets || decoded != schedule || !matches!(replayed, Replayed::Violated(_)) {
+        return Err(format!("{name}: not the answers that it was made for: {proved:?}"));
+    }
+    Ok(())
+}
+
+/// The times of the five calls, in the order of their names. Both write to the same buffers.
+pub fn times(sample: &Sample, buffers: &mut Buffers) -> [Times; 5] {
+    let Sample { case, assignment, schedule, .. } = sample;
+    [
+        compare(buffers, |_| menduvo::accept(black_box(case)), |_| plain::accept(black_box(case))),
+        compare(
+            buffers,
+            |b| menduvo::encode(black_box(case), black_box(&mut b.table)),
+            |b| plain::encode(black_box(case), black_box(&mut b.table)),
+        ),
+        compare(
+            buffers,
+            |_| menduvo::check(black_box(case), black_box(assignment)),
+            |_| plain::check(black_box(case), black_box(assignment)),
+        ),
+        compare(
+            buffers,
+            |b| menduvo::decode(black_box(case), black_box(assignment), black_box(&mut b.schedule)),
+            |b| plain::decode(black_box(case), black_box(assignment), black_box(&mut b.schedule)),
+        ),
+        compare(
+            buffers,
+            |b| menduvo::replay(black_box(case), black_box(schedule), black_box(&mut b.items)),
+            |b| plain::replay(black_box(case), black_box(schedule), black_box(&mut b.items)),
+        ),
+    ]
+}

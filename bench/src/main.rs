@@ -1,0 +1,48 @@
+//! How fast the proved calls are, beside the same calls in plain Rust built for release: nanoseconds for one call, and ratios.
+//! Nothing passes or fails by its speed. The program fails only where the two give different answers.
+#![forbid(unsafe_code)]
+
+mod calls;
+mod made;
+mod measure;
+mod plain;
+mod report;
+mod sample;
+
+use std::process::ExitCode;
+
+use calls::Buffers;
+use sample::{Sample, Shape, LARGEST, MIDDLE};
+
+fn main() -> ExitCode {
+    match run() {
+        Ok(()) => ExitCode::SUCCESS,
+        Err(message) => {
+            eprintln!("menduvo-bench: {message}");
+            ExitCode::FAILURE
+        }
+    }
+}
+
+fn run() -> Result<(), String> {
+    let sizes = [Sample::small(), Sample::made(MIDDLE), Sample::made(LARGEST)];
+    let lines: [&[usize]; 4] = [&[8; 4], &[16; 4], &[32; 4], &[64; 4]];
+    let by_records = lines.map(|lines| Sample::made(Shape { lines, ..LARGEST }));
+    let by_switches = [3, 7, 11, 15].map(|switches| Sample::made(Shape { switches, ..LARGEST }));
+    for sample in sizes.iter().chain(&by_records).chain(&by_switches) {
+        calls::agree(sample)?;
+    }
+    let mut buffers = Buffers::new();
+    let mut measure = |sample: &Sample| calls::times(sample, &mut buffers);
+    report::heading();
+    report::sizes(&sizes.each_ref().map(|sample| (sample, measure(sample))));
+    report::growth(
+        "How time grows with R, the number of records (4 threads, n 15, 12 items)",
+        &by_records.each_ref().map(|sample| (format!("R {}", sample.records()), measure(sample))),
+    );
+    report::growth(
+        "How time grows with n, the number of switches (4 threads, R 256, 12 items)",
+        &by_switches.each_ref().map(|sample| (format!("n {}", sample.switches()), measure(sample))),
+    );
+    Ok(())
+}

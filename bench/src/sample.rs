@@ -1,0 +1,58 @@
+//! The inputs of the benchmark: a case, an assignment that meets its constraints, and the schedule that this decodes to, whose
+//! run breaks an assertion.
+
+use crate::made;
+
+pub struct Sample {
+    pub name: &'static str,
+    pub case: Vec<u8>,
+    pub assignment: Vec<u16>,
+    pub schedule: Vec<u16>,
+}
+
+/// What a case is made to have.
+#[derive(Clone, Copy)]
+pub struct Shape {
+    pub name: &'static str,
+    pub lines: &'static [usize],
+    pub switches: usize,
+    pub globals: usize,
+    pub mutexes: usize,
+}
+
+/// The most of everything: 256 records, 15 switches, 12 items.
+pub const LARGEST: Shape = Shape { name: "largest", lines: &[64; 4], switches: 15, globals: 8, mutexes: 4 };
+pub const MIDDLE: Shape = Shape { name: "middle", lines: &[22, 21, 21], switches: 8, globals: 4, mutexes: 2 };
+
+impl Sample {
+    /// Document 01's case A, with the schedule and the assignment of P1 and P6.
+    pub fn small() -> Sample {
+        Sample {
+            name: "small",
+            case: include_bytes!("../../cases/case-a.case").to_vec(),
+            assignment: vec![0, 0, 0, 1, 2, 5, 2, 0, 1, 5, 1, 5],
+            schedule: vec![2, 1, 2],
+        }
+    }
+
+    pub fn made(shape: Shape) -> Sample {
+        let (case, assignment, schedule) = made::made(shape);
+        Sample { name: shape.name, case, assignment, schedule }
+    }
+
+    fn field(&self, j: usize) -> usize {
+        usize::from(u16::from_le_bytes([self.case[2 * j], self.case[2 * j + 1]]))
+    }
+
+    pub fn records(&self) -> usize {
+        (self.case.len() - 32) / 16
+    }
+
+    pub fn switches(&self) -> usize {
+        self.field(1)
+    }
+
+    pub fn items(&self) -> usize {
+        self.field(2) + self.field(3)
+    }
+}

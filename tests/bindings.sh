@@ -1,0 +1,80 @@
+#!/usr/bin/env bash
+# Tests the bindings: that bindings/menduvo.h is what the static library has, for C; and that the Rust package, and the command
+# over it, take no number from a library that the proved one cannot give.
+set -u
+cd -- "$(dirname -- "${BASH_SOURCE[0]}")/.." || exit
+scratch=$(mktemp -d) || exit
+trap 'rm -rf -- "$scratch"' EXIT
+passed=0
+failed=0
+
+# result NAME COMMAND..: the command tells whether the case NAME passed.
+result() {
+    local name=$1
+    shift
+    if "$@"; then
+        passed=$((passed + 1))
+    else
+        failed=$((failed + 1))
+        printf 'FAILED: %s (exit status %s)\n%s\n' "$name" "$status" "$out" | sed 's/^/    /'
+    fi
+}
+
+# run COMMAND..: sets status, and out to what it printed, errors too.
+run() {
+    out=$("$@" 2>&1 </dev/null)
+    status=$?
+}
+
+# compile FILE.c WORDS..: with every warning an error.
+compile() {
+    local file=$1
+    shift
+    run cc -std=c99 -pedantic -Wall -Wextra -Werror -Ibindings "tests/bindings/$file" "$@"
+}
+
+# C, over the static library, which the command's script builds where it is not there.
+run bin/menduvo --version
+result 'the library is built' test "$status" = 0
+compile listing.c "${MENDUVO_LIB_DIR:-target/staticlib}/libmenduvo.a" -o "$scratch/listing"
+result 'the header compiles, and the library links' test "$status" = 0
+run bash -c "'$scratch/listing' <cases/case-a.case"
+result "case A's list, from C" eval '[ "$status" = 0 ] && [ "$out" = "$(<tests/command/list-case-a.expected)" ]'
+run bash -c "head -c 100 cases/case-a.case | '$scratch/listing'"
+result 'a refusal, from C' eval '[ "$status" = 2 ] && [ "$out" = "1 0" ]'
+run bash -c "'$scratch/listing' </dev/zero"
+result 'a case that is too long, from C' eval '[ "$status" = 2 ] && [ "$out" = "1 0" ]'
+
+# The command, over a library that lies.
+compile lying.c -c -o "$scratch/lying.o"
+result 'the library that lies compiles' test "$status" = 0
+run ar rcs "$scratch/libmenduvo.a" "$scratch/lying.o"
+run env MENDUVO_LIB_DIR="$scratch" cargo build --offline --quiet --manifest-path tool/Cargo.toml --target-dir "$scratch/built"
+result 'the command links with it' test "$status" = 0
+lying=$scratch/built/debug/menduvo
+
+# lies NAME TEXT COMMAND..: with this lie the command fails, and says this.
+lies() {
+    local lie=$1 text=$2
+    shift 2
+    run env LIE="$lie" "$lying" "$@"
+    result "the lie '$lie' is told" eval '[ "$status" = 3 ] && [[ $out = *"$text"* ]]'
+}
+
+run "$lying" replay cases/case-a.case cases/case-a.schedule
+result 'no lie, no complaint' eval '[ "$status" = 1 ] && [[ $out = *"violated: record 4"* ]]'
+lies clean 'disagrees with the proved library' replay cases/case-a.case cases/case-a.schedule
+lies record 'disagrees with the proved library' replay cases/case-a.case cases/case-a.schedule
+lies items 'disagrees with the proved library' picture cases/case-a.case cases/case-a.schedule -o "$scratch/none.svg"
+result 'no picture is left' test ! -e "$scratch/none.svg"
+lies answer 'numbers that stand for no answer' replay cases/case-a.case cases/case-a.schedule
+lies 'fails 0' 'numbers that stand for no answer' check cases/case-a.case cases/case-a.assignment
+lies 'refusal 16' 'numbers that stand for no answer' decode cases/case-a.case cases/case-a.assignment
+
+# Unsafe code stands in one place.
+run grep -rnE --include='*.rs' '\bunsafe\b' tool bindings
+rest=$(grep -vE '^bindings/rust/src/(lib|library)\.rs:|forbid\(unsafe_code\)' <<<"$out")
+result 'unsafe code is in library.rs alone' test -z "$rest"
+
+echo "$passed passed, $failed failed"
+[ "$failed" = 0 ]

@@ -1,0 +1,46 @@
+/* A library that lies: it takes every case, and its replies are those that the variable LIE asks for. */
+#include "menduvo.h"
+#include <stdlib.h>
+#include <string.h>
+
+static int lie_is(const char *lie) {
+    const char *asked = getenv("LIE");
+    return asked != NULL && strcmp(asked, lie) == 0;
+}
+
+static MenduvoNumbers answer(uint16_t answer, uint16_t first, uint16_t second) {
+    MenduvoNumbers numbers = {0, 0, answer, first, second};
+    return numbers;
+}
+
+MenduvoNumbers menduvo_accept(const uint8_t *case_, size_t case_len) {
+    (void)case_, (void)case_len;
+    return answer(1, 0, 0);
+}
+
+MenduvoNumbers menduvo_encode(const uint8_t *case_, size_t case_len, uint16_t *table, size_t table_len) {
+    (void)case_, (void)case_len, (void)table, (void)table_len;
+    return answer(1, 0, 12);
+}
+
+MenduvoNumbers menduvo_check(const uint8_t *case_, size_t case_len, const uint16_t *assignment, size_t assignment_len) {
+    (void)case_, (void)case_len, (void)assignment, (void)assignment_len;
+    return lie_is("fails 0") ? answer(2, 0, 0) : answer(1, 0, 0);
+}
+
+MenduvoNumbers menduvo_decode(const uint8_t *case_, size_t case_len, const uint16_t *assignment, size_t assignment_len,
+                              uint16_t *schedule, size_t schedule_len) {
+    (void)case_, (void)case_len, (void)assignment, (void)assignment_len, (void)schedule, (void)schedule_len;
+    MenduvoNumbers refused = {16, 0, 0, 0, 0};
+    return refused;
+}
+
+MenduvoNumbers menduvo_replay(const uint8_t *case_, size_t case_len, const uint16_t *schedule, size_t schedule_len,
+                              uint16_t *items, size_t items_len) {
+    (void)case_, (void)case_len, (void)schedule, (void)schedule_len, (void)items_len;
+    items[0] = lie_is("items") ? 6 : 5;
+    if (lie_is("clean")) return answer(2, 0, 0);
+    if (lie_is("record")) return answer(1, 3, 0);
+    if (lie_is("answer")) return answer(4, 0, 0);
+    return answer(1, 4, 0);
+}

@@ -1,0 +1,341 @@
+#!/usr/bin/env bash
+# Tests the command menduvo as a user meets it: what it prints (compared with tests/command/*.expected), its exit statuses,
+# damaged files, solvers that are missing or talk nonsense, and outputs that fail. With --store it writes the expected
+# texts anew.
+set -u
+cd -- "$(dirname -- "${BASH_SOURCE[0]}")/.." || exit
+scratch=$(mktemp -d) || exit
+trap 'rm -rf -- "$scratch"' EXIT
+store=no
+[ "${1:-}" != --store ] || store=yes
+passed=0
+failed=0
+menduvo=$PWD/bin/menduvo
+seen=$PATH # the PATH that the command sees
+
+# result NAME COMMAND..: the command tells whether the case NAME passed.
+result() {
+    local name=$1
+    shift
+    if "$@"; then
+        passed=$((passed + 1))
+    else
+        failed=$((failed + 1))
+        printf 'FAILED: %s (exit status %s)\n%s\n' "$name" "$status" "$out" | sed 's/^/    /'
+    fi
+}
+
+# run COMMAND..: sets status, and out to what it printed, errors too. The scratch folder's name is no part of that.
+run() {
+    env PATH="$seen" timeout 60 "$@" >"$scratch/out" 2>&1 </dev/null
+    status=$?
+    sed -i "s|$scratch/||g" "$scratch/out"
+    out=$(<"$scratch/out")
+}
+
+# same NAME STATUS COMMAND..: it ends with this status and prints what is stored under NAME.
+same() {
+    local name=$1 wanted=$2
+    shift 2
+    run "$@"
+    matches "$name" "$wanted"
+}
+
+# matches NAME STATUS: the same, of what was run last.
+matches() {
+    local file=tests/command/$1.expected
+    [ "$store" = no ] || cp -- "$scratch/out" "$file"
+    result "$1" eval '[ "$status" = '"$2"' ] && cmp -s "$scratch/out" '"$file"
+}
+
+# says NAME STATUS TEXT COMMAND..: it ends with this status, and prints this text among others.
+says() {
+    local name=$1 wanted=$2 text=$3
+    shift 3
+    run "$@"
+    result "$name" eval '[ "$status" = '"$wanted"' ] && [[ $out = *"$text"* ]]'
+}
+
+# fields NUMBER..: the numbers as fields of a case, 16 bits each, low byte first.
+fields() {
+    local number bytes all=
+    for number; do
+        printf -v bytes '\\x%02x\\x%02x' $((number % 256)) $((number / 256))
+        all+=$bytes
+    done
+    printf "$all"
+}
+
+# damaged FIELD NUMBER: case A with another number in this field, counted from 0; its name.
+damaged() {
+    cp cases/case-a.case "$scratch/damaged.case"
+    fields "$2" | dd of="$scratch/damaged.case" bs=2 seek="$1" conv=notrunc status=none
+}
+
+# fake NAME BODY: a program in the scratch folder's fakes, which come first in PATH.
+fake() {
+    mkdir -p "$scratch/fakes"
+    printf '#!%s\n%s\n' "$BASH" "$2" >"$scratch/fakes/$1" && chmod +x "$scratch/fakes/$1"
+}
+
+# bare TOOL..: make a folder for PATH with these tools alone, and those that every run needs.
+bare() {
+    local tool
+    rm -rf "$scratch/bare" && mkdir "$scratch/bare"
+    for tool in bash timeout readlink find cat "$@"; do ln -s "$(type -P "$tool")" "$scratch/bare/$tool"; done
+}
+
+calling() {
+    says 'the command is built' 0 'menduvo 0.' "$menduvo" --version
+    same help 0 "$menduvo" help
+    same help-solve 0 "$menduvo" solve --help
+    local command
+    for command in demo list show check decode replay solve picture help; do
+        says "help $command" 0 "usage: menduvo $command" "$menduvo" help "$command"
+        says "$command --help" 0 "usage: menduvo $command" "$menduvo" "$command" --help
+    done
+    says 'no command' 0 'Commands:' "$menduvo"
+    says 'an unknown command' 3 "there is no command 'lst'" "$menduvo" lst
+    says 'an unknown option' 3 "there is no option '--fast'" "$menduvo" list --fast cases/case-a.case
+    says 'an option of another command' 3 "there is no option '-o'" "$menduvo" show cases/case-a.case -o x
+    says 'an operand is missing' 3 'ASSIGNMENT is missing' "$menduvo" check cases/case-a.case
+    says 'an operand too many' 3 "'x' is too much" "$menduvo" list cases/case-a.case x
+    says 'a value is missing' 3 '--solver needs a value' "$menduvo" solve cases/case-a.case --solver
+    says 'an unknown solver' 3 "'yices' is not a solver" "$menduvo" solve cases/case-a.case --solver yices
+    says 'picture without -o' 3 '-o FILE.svg is missing' "$menduvo" picture cases/case-a.case cases/case-a.schedule
+    says 'standard input twice' 3 'only one input' "$menduvo" check - -
+    says 'a missing file' 3 'none.case: ' "$menduvo" list "$scratch/none.case"
+    says 'a folder for a file' 3 'cases: ' "$menduvo" list cases
+    cd "$scratch" && says 'it runs from any folder' 0 'menduvo 0.' "$menduvo" --version
+    cd - >/dev/null || exit
+}
+
+reading() {
+    local name
+    same list-case-a 0 "$menduvo" list cases/case-a.case
+    for name in cases/*.case; do
+        name=$(basename "$name" .case)
+        same "show-$name" 0 "$menduvo" show "cases/$name.case"
+        result "cases/$name.md" test -s "cases/${name%-n2}.md"
+    done
+    same check-case-a 0 "$menduvo" check cases/case-a.case cases/case-a.assignment
+    same decode-case-a 0 "$menduvo" decode cases/case-a.case cases/case-a.assignment
+    same replay-case-a 1 "$menduvo" replay cases/case-a.case cases/case-a.schedule
+    same replay-lost-update 1 "$menduvo" replay cases/lost-update.case cases/lost-update.schedule
+    same replay-interlock 0 "$menduvo" replay cases/interlock.case cases/interlock.schedule
+    same replay-interlock-broken 1 "$menduvo" replay cases/interlock-broken.case cases/interlock-broken.schedule
+    same replay-lock-order 0 "$menduvo" replay cases/lock-order.case cases/lock-order.schedule
+    for name in case-a lost-update interlock-broken; do
+        run "$menduvo" decode "cases/$name.case" "cases/$name.assignment"
+        result "$name's assignment decodes to its schedule" cmp -s "$scratch/out" "cases/$name.schedule"
+    done
+    # A broken assertion before a cut-off is no violation: assert 0, then assume 0.
+    fields 2 0 0 0 1 0 0 0 0 0 0 0 0 0 0 0 2 5 0 0 0 16 0 0 0 6 0 0 0 16 0 0 >"$scratch/vain.case"
+    same replay-in-vain 0 "$menduvo" replay "$scratch/vain.case" <(echo 2)
+    # No record, no switch: one constraint, over no variable.
+    fields 2 0 0 0 0 0 0 0 0 0 0 0 0 0 0 0 >"$scratch/empty.case"
+    same check-empty 1 "$menduvo" check "$scratch/empty.case" /dev/null
+    same picture-case-a 0 "$menduvo" picture cases/case-a.case cases/case-a.schedule -o -
+    same picture-lock-order 0 "$menduvo" picture cases/lock-order.case cases/lock-order.schedule -o -
+    says 'picture to a file' 0 'violated' "$menduvo" picture cases/case-a.case cases/case-a.schedule -o "$scratch/a.svg"
+    result 'the file has the picture' cmp -s "$scratch/a.svg" tests/command/picture-case-a.expected
+    says 'picture to a place that is not there' 3 'a.svg: ' \
+        "$menduvo" picture cases/case-a.case cases/case-a.schedule -o "$scratch/none/a.svg"
+}
+
+numbers() {
+    local model
+    run bash -c "$menduvo list - <cases/case-a.case"
+    result 'a case on standard input' cmp -s "$scratch/out" tests/command/list-case-a.expected
+    run bash -c "tr ' ' ',' <cases/case-a.schedule | $menduvo replay cases/case-a.case -"
+    result 'a schedule on standard input, with commas' cmp -s "$scratch/out" tests/command/replay-case-a.expected
+    for model in tests/command/*.model; do
+        says "$model is checked" 0 'meets' "$menduvo" check cases/case-a.case "$model"
+        says "$model is decoded" 0 '2 1 2' "$menduvo" decode cases/case-a.case "$model"
+        says "$model is replayed" 1 'violated: record 4' "$menduvo" replay cases/case-a.case "$model"
+        head -c 100 "$model" >"$scratch/cut.model"
+        says "$model, cut" 2 'not a whole model' "$menduvo" check cases/case-a.case "$scratch/cut.model"
+    done
+    local text
+    while IFS='|' read -r text message; do
+        echo "$text" >"$scratch/text"
+        says "the text '$text'" 2 "text: $message" "$menduvo" check cases/case-a.case "$scratch/text"
+    done <<'TEXTS'
+0 0 0 x|'x' is not a number
+65536|'65536' is not a number
+-1|'-1' is not a number
+1.5|'1.5' is not a number
+unsat|a solver's answer 'unsat'
+(hello)|no value of v0
+((v0 #x0000) (v0 #x0000))|v0 has two values
+((v12 #x0000))|v12 has a value, but the case has 12 variables
+((v0 #x00000))|the value of v0 is not a constant of 16 bits
+((v0 #x0000)))|a parenthesis too many
+((((((((((v0 #x0000))))))))))|too many parentheses
+TEXTS
+    head -c 300 /dev/urandom >"$scratch/noise" && printf '\xff' >>"$scratch/noise"
+    says 'noise for numbers' 2 'not text' "$menduvo" check cases/case-a.case "$scratch/noise"
+}
+
+# Refusals 1 to 15 but 10, which this command's slices never meet: number, place, meaning, and what helps to mend it.
+refusals() {
+    head -c 100 cases/case-a.case >"$scratch/damaged.case" && same refusal-1 2 "$menduvo" show "$scratch/damaged.case"
+    : >"$scratch/damaged.case" && same refusal-1-empty 2 "$menduvo" list "$scratch/damaged.case"
+    damaged 0 5 && same refusal-2 2 "$menduvo" show "$scratch/damaged.case"
+    damaged 1 16 && same refusal-3 2 "$menduvo" show "$scratch/damaged.case"
+    damaged 2 9 && same refusal-4 2 "$menduvo" show "$scratch/damaged.case"
+    damaged 6 3 && same refusal-5 2 "$menduvo" show "$scratch/damaged.case"
+    damaged 48 6 && same refusal-6-over 2 "$menduvo" show "$scratch/damaged.case"
+    damaged 40 1 && same refusal-6-twice 2 "$menduvo" show "$scratch/damaged.case"
+    damaged 5 0 && same refusal-7 2 "$menduvo" show "$scratch/damaged.case"
+    damaged 27 1 && same refusal-9 2 "$menduvo" show "$scratch/damaged.case"
+    same refusal-9-list 2 "$menduvo" list "$scratch/damaged.case"
+    damaged 17 9 && same refusal-9-kind 2 "$menduvo" show "$scratch/damaged.case"
+    local record records=()
+    for record in {2..65} 0; do records+=("$record" 7 0 0 0 0 0 0); done
+    fields 2 0 0 1 1 0 0 0 0 0 0 0 0 0 0 0 "${records[@]}" >"$scratch/damaged.case"
+    same refusal-8 2 "$menduvo" show "$scratch/damaged.case"
+    echo 0 0 0 >"$scratch/short" && same refusal-11 2 "$menduvo" check cases/case-a.case "$scratch/short"
+    echo 2 1 >"$scratch/short" && same refusal-12 2 "$menduvo" replay cases/case-a.case "$scratch/short"
+    echo 2 2 1 >"$scratch/wrong" && same refusal-13 2 "$menduvo" replay cases/case-a.case "$scratch/wrong"
+    # An input line with guard 'L0 is not zero', which is false.
+    fields 2 0 0 0 1 0 0 0 0 0 0 0 0 0 0 0 0 4 1 3 0 0 0 0 >"$scratch/input.case"
+    echo 1 7 >"$scratch/stray" && same refusal-14 2 "$menduvo" replay "$scratch/input.case" "$scratch/stray"
+    echo 0 0 0 2 2 5 2 0 1 5 1 5 >"$scratch/fails" && same refusal-15 1 "$menduvo" decode cases/case-a.case "$scratch/fails"
+    same check-fails 1 "$menduvo" check cases/case-a.case "$scratch/fails"
+    says 'a picture of a refused schedule' 2 'refusal 13' \
+        "$menduvo" picture cases/case-a.case "$scratch/wrong" -o "$scratch/none.svg"
+    result 'no picture is left' test ! -e "$scratch/none.svg"
+    says 'a case that never ends' 2 'refusal 1, place 0' bash -c "$menduvo show - </dev/zero"
+    says 'numbers that never end' 2 'over 1048576 bytes' bash -c "yes 1 | $menduvo check cases/case-a.case -"
+}
+
+# A solver's model of case A, as get-value gives it.
+model='((v0 #x0000) (v1 #x0000) (v2 #x0000) (v3 #x0001) (v4 #x0002) (v5 #x0005)
+ (v6 #x0002) (v7 #x0000) (v8 #x0001) (v9 #x0005) (v10 #x0001) (v11 #x0005))'
+
+fake_solvers() {
+    local seen=$scratch/fakes:$seen
+    fake z3 "cat >/dev/null; echo sat; echo '$model'"
+    same solve-sat 1 "$menduvo" solve cases/case-a.case
+    fake z3 'cat >/dev/null; echo unsat; echo "(error no model)"; exit 1'
+    same solve-unsat 0 "$menduvo" solve cases/interlock.case
+    fake z3 "cat >/dev/null; echo sat; echo '${model/v3 #x0001/v3 #x0002}'"
+    same solve-wrong-model 3 "$menduvo" solve cases/case-a.case
+    local body words
+    while IFS='|' read -r body words; do
+        fake z3 "$body"
+        says "a solver that does '$body'" 3 "z3 $words" "$menduvo" solve cases/case-a.case --solver z3
+    done <<'FAKES'
+cat >/dev/null; echo hello world|gave no answer that can be read: it printed 'hello world'
+exit 0|gave no answer that can be read: it printed nothing
+kill -9 $$|gave no answer that can be read: it printed nothing
+echo sat|gave no answer that can be read: no value of v0
+echo sat; echo '((v0 #x0000)'|gave no answer that can be read: a parenthesis is not closed
+echo sat; echo '(error "line 3: oops")'|gave no answer that can be read: the solver reports an error
+printf '\377\376\033[2J\n'|gave no answer that can be read: it printed
+yes|gave no answer that can be read: it printed 'y'
+yes sat|gave no answer that can be read: no value of v0
+echo unknown|says unknown
+FAKES
+    mkdir -p "$scratch/folder" && cp cases/case-a.case cases/interlock.case "$scratch/folder"
+    fake z3 "if grep -q '18 constraints'; then echo sat; echo '$model'; else echo unsat; fi"
+    run "$menduvo" solve "$scratch/folder"
+    sed -i 's/ [0-9]\.[0-9][0-9] / -.-- /' "$scratch/out"
+    matches solve-folder 1
+    head -c 40 cases/case-a.case >"$scratch/folder/damaged.case"
+    run "$menduvo" solve "$scratch/folder"
+    sed -i 's/ [0-9]\.[0-9][0-9] / -.-- /' "$scratch/out"
+    matches solve-folder-damaged 2
+    mkdir -p "$scratch/hollow"
+    says 'a folder without cases' 3 'no file in it ends in .case' "$menduvo" solve "$scratch/hollow"
+    bare
+    seen=$scratch/bare
+    says 'no solver' 3 'no solver is installed' "$menduvo" solve cases/case-a.case
+    says 'no z3' 3 'the solver z3 is not installed' "$menduvo" solve cases/case-a.case --solver z3
+    says 'no cvc5' 3 'the solver cvc5 is not installed' "$menduvo" solve cases/case-a.case --solver cvc5
+    same demo 0 "$menduvo" demo
+}
+
+real_solvers() {
+    local solver
+    for solver in z3 cvc5; do
+        says "$solver, lost-update" 1 'violated: record 9' \
+            "$menduvo" solve cases/lost-update.case --solver "$solver" --keep "$scratch/kept"
+        says "$solver, what was kept is checked" 0 'meets' \
+            "$menduvo" check cases/lost-update.case "$scratch/kept/lost-update.assignment"
+        says "$solver, what was kept is replayed" 1 'violated: record 9' \
+            "$menduvo" replay cases/lost-update.case "$scratch/kept/lost-update.schedule"
+        says "$solver, its own reply is replayed" 1 'violated: record 9' \
+            "$menduvo" replay cases/lost-update.case "$scratch/kept/lost-update.reply"
+        sed 's/^(get-value.*/(get-model)/' "$scratch/kept/lost-update.smt2" >"$scratch/model.smt2"
+        "$solver" "$scratch/model.smt2" >"$scratch/whole.model"
+        says "$solver, its reply to get-model is replayed" 1 'violated: record 9' \
+            "$menduvo" replay cases/lost-update.case "$scratch/whole.model"
+        says "$solver, interlock" 0 "$solver says unsat" "$menduvo" solve cases/interlock.case --solver "$solver"
+        says "$solver, all cases" 1 '6 cases: 3 violated, 3 unsat, 0 refused, 0 failed' \
+            "$menduvo" solve cases --solver "$solver"
+        says "$solver, one constraint that nothing meets" 0 "unsat" "$menduvo" solve "$scratch/empty.case" --solver "$solver"
+    done
+    says 'demo with a solver' 0 'z3 looks for itself' "$menduvo" demo
+}
+
+outputs() {
+    run bash -c "$menduvo list cases/case-a.case >&-"
+    result 'standard output is closed' eval '[ "$status" = 3 ] && [[ $out = *"standard output is closed"* ]]'
+    run bash -c "$menduvo list cases/case-a.case >/dev/full"
+    result 'standard output is full' eval '[ "$status" = 3 ] && [[ $out = *"standard output: "* ]]'
+    run bash -c "{ sleep 0.2; $menduvo list cases/case-a.case; echo \$? >'$scratch/status'; } | true"
+    result 'nobody reads standard output' eval '[ "$out" = "" ] && [ "$(<"$scratch/status")" = 3 ]'
+    run bash -c "$menduvo show cases/interlock.case | head -n 1"
+    result 'head reads a line' eval '[ "$status" = 0 ] && [ "$(wc -l <"$scratch/out")" = 1 ]'
+    run bash -c "$menduvo list none.case 2>&-"
+    result 'standard error is closed' test "$status" = 3
+}
+
+# The script bin/menduvo in a scratch repository, where rt and cargo are fakes that note their calls.
+building() {
+    local repo=$scratch/repo seen=$scratch/bare
+    unset MENDUVO_LIB_DIR
+    bare mkdir touch mv chmod
+    mkdir -p "$repo"/{bin,crates,tool,bindings,cases} && cp bin/menduvo "$repo/bin/" && touch "$repo"/crates.txt
+    touch "$repo"/cases/lost-update.{case,assignment}
+    fake rt 'echo rt >>calls; mkdir -p target/staticlib; touch target/staticlib/libmenduvo.a; [ ! -e broken ]'
+    fake cargo 'cd "${0%/fakes/*}/repo"; echo cargo >>calls; mkdir -p target/menduvo/release
+        printf "#!%s\necho it runs\n" "$BASH" >target/menduvo/release/menduvo; chmod +x target/menduvo/release/menduvo'
+    says 'rt is missing' 3 'rt is not installed' "$repo/bin/menduvo"
+    mv "$scratch/fakes/rt" "$scratch/bare/"
+    says 'cargo is missing' 3 'cargo is not installed' "$repo/bin/menduvo"
+    seen+=:$scratch/fakes
+    : >"$repo/calls"
+    says 'it builds the command' 0 'it runs' "$repo/bin/menduvo"
+    result 'the library is built once' test "$(<"$repo/calls")" = cargo
+    run "$repo/bin/menduvo"
+    result 'nothing to do, nothing said' eval '[ "$out" = "it runs" ] && [ "$(<"$repo/calls")" = cargo ]'
+    sleep 0.02
+    : >"$repo/calls" && : >"$repo/tool/new.rs"
+    run "$repo/bin/menduvo"
+    result 'the command changed' test "$(<"$repo/calls")" = cargo
+    sleep 0.02
+    : >"$repo/calls" && : >"$repo/crates/new.rt"
+    run "$repo/bin/menduvo"
+    result 'the library changed' test "$(<"$repo/calls")" = $'rt\ncargo'
+    : >"$repo/calls" && rm -r "$repo/target"
+    run "$repo/bin/menduvo"
+    result 'target/ is gone' test "$(<"$repo/calls")" = $'rt\ncargo'
+    sleep 0.02
+    : >"$repo/broken" && : >"$repo/crates/newer.rt"
+    says 'a proof fails' 3 'rt staticlib menduvo failed' "$repo/bin/menduvo"
+    says 'it is not forgotten' 3 'rt staticlib menduvo failed' "$repo/bin/menduvo"
+}
+
+calling
+reading
+numbers
+refusals
+fake_solvers
+real_solvers
+outputs
+building
+echo "$passed passed, $failed failed"
+[ "$failed" = 0 ]

@@ -1,0 +1,75 @@
+//! Asking the library under test, with slices of the right size, and with
+//! marked slices that show what was touched.
+
+use crate::calls::{Calls, Checked, Decoded, Encoded, Refusal, Replayed, Verdict};
+use crate::draft::Draft;
+use crate::report::{Outcome, Tally};
+use crate::table::MOST_NUMBERS;
+
+/// Numbers to put in a slice before a call: different from place to place, and
+/// none that a call has a reason to write there.
+pub fn marks(length: usize) -> Vec<u16> {
+    (0..length)
+        .map(|place| 0xa5c3 ^ (place as u16).wrapping_mul(0x9e37))
+        .collect()
+}
+
+/// The reply to a schedule, and the items' values.
+pub fn replay(calls: &dyn Calls, draft: &Draft, schedule: &[u16]) -> (Replayed, Vec<u16>) {
+    let mut items = marks(draft.items());
+    let reply = calls.replay(&draft.bytes(), schedule, &mut items);
+    (reply, items)
+}
+
+/// The reply to a schedule alone.
+pub fn reply(calls: &dyn Calls, draft: &Draft, schedule: &[u16]) -> Replayed {
+    replay(calls, draft, schedule).0
+}
+
+/// The schedule that an assignment decodes to.
+pub fn decode(calls: &dyn Calls, draft: &Draft, assignment: &[u16]) -> Result<Vec<u16>, String> {
+    let mut schedule = marks(draft.schedule_numbers());
+    match calls.decode(&draft.bytes(), assignment, &mut schedule) {
+        Decoded::Schedule { numbers } if usize::from(numbers) == schedule.len() => Ok(schedule),
+        other => Err(format!("{assignment:?} was decoded as {other:?}")),
+    }
+}
+
+pub fn check(calls: &dyn Calls, draft: &Draft, assignment: &[u16]) -> Checked {
+    calls.check(&draft.bytes(), assignment)
+}
+
+/// Demands that each of the five calls meets one refusal, and that none of
+/// them touches what it was lent.
+pub fn refused_by_all(
+    calls: &dyn Calls,
+    case: &[u8],
+    refusal: Refusal,
+    tally: &mut Tally,
+) -> Outcome {
+    let about = || format!("case {case:?}");
+    tally.same(calls.accept(case), Verdict::from(refusal), about)?;
+    for room in [0, MOST_NUMBERS] {
+        let (mut table, mut schedule, mut items) = (marks(room), marks(room), marks(room));
+        tally.same(
+            calls.encode(case, &mut table),
+            Encoded::from(refusal),
+            about,
+        )?;
+        tally.same(
+            calls.check(case, &marks(room)),
+            Checked::from(refusal),
+            about,
+        )?;
+        let decoded = calls.decode(case, &marks(room), &mut schedule);
+        tally.same(decoded, Decoded::from(refusal), about)?;
+        let replayed = calls.replay(case, &marks(room), &mut items);
+        tally.same(replayed, Replayed::from(refusal), about)?;
+        for slice in [table, schedule, items] {
+            tally.holds(slice == marks(room), || {
+                format!("{}: a slice was touched", about())
+            })?;
+        }
+    }
+    Ok(())
+}

@@ -1,0 +1,89 @@
+//! The five calls of the library and their replies.
+//!
+//! Both the second implementation and the proved library stand behind the
+//! trait `Calls`, so that each test can be run on either of them.
+
+/// "Each comes with a place, 0 unless stated".
+#[derive(Clone, Copy, Debug, PartialEq, Eq)]
+pub struct Refusal {
+    pub number: u16,
+    pub place: u16,
+}
+
+#[derive(Clone, Copy, Debug, PartialEq, Eq)]
+pub enum Verdict {
+    Accepted,
+    Refused { number: u16, place: u16 },
+}
+
+#[derive(Clone, Copy, Debug, PartialEq, Eq)]
+pub enum Encoded {
+    Table { constraints: u16, variables: u16 },
+    Refused { number: u16, place: u16 },
+}
+
+#[derive(Clone, Copy, Debug, PartialEq, Eq)]
+pub enum Checked {
+    Meets,
+    /// The first failed constraint, counted from 1.
+    Fails(u16),
+    Refused {
+        number: u16,
+        place: u16,
+    },
+}
+
+#[derive(Clone, Copy, Debug, PartialEq, Eq)]
+pub enum Decoded {
+    /// How many numbers were written.
+    Schedule {
+        numbers: u16,
+    },
+    Refused {
+        number: u16,
+        place: u16,
+    },
+}
+
+#[derive(Clone, Copy, Debug, PartialEq, Eq)]
+pub enum Replayed {
+    /// "the first zero assert in running order"
+    Violated(u16),
+    Clean,
+    /// "the line whose assume or lock failed first"
+    CutOff(u16),
+    Refused {
+        number: u16,
+        place: u16,
+    },
+}
+
+pub trait Calls {
+    fn accept(&self, case: &[u8]) -> Verdict;
+    fn encode(&self, case: &[u8], table: &mut [u16]) -> Encoded;
+    fn check(&self, case: &[u8], assignment: &[u16]) -> Checked;
+    fn decode(&self, case: &[u8], assignment: &[u16], schedule: &mut [u16]) -> Decoded;
+    fn replay(&self, case: &[u8], schedule: &[u16], items: &mut [u16]) -> Replayed;
+}
+
+/// Every reply can be made from a refusal.
+macro_rules! replies_that_can_refuse {
+    ($($reply:ident),*) => { $(
+        impl From<Refusal> for $reply {
+            fn from(refusal: Refusal) -> Self {
+                $reply::Refused { number: refusal.number, place: refusal.place }
+            }
+        }
+    )* };
+}
+
+replies_that_can_refuse!(Verdict, Encoded, Checked, Decoded, Replayed);
+
+impl Verdict {
+    pub fn refusal(self) -> Option<Refusal> {
+        match self {
+            Verdict::Accepted => None,
+            Verdict::Refused { number, place } => Some(Refusal { number, place }),
+        }
+    }
+}

@@ -1,0 +1,56 @@
+//! All schedules of a small case.
+
+use crate::draft::Draft;
+
+/// Every vector of n + 1 block lengths that add up to each thread's lines, in
+/// ascending order.
+pub fn block_lengths(draft: &Draft) -> Vec<Vec<u16>> {
+    let left: Vec<u16> = draft
+        .chains()
+        .iter()
+        .map(|chain| chain.len() as u16)
+        .collect();
+    let mut all = Vec::new();
+    extend(draft, &mut Vec::new(), &left, &mut all);
+    all
+}
+
+/// Takes the lengths of the first blocks and the lines that are left to each
+/// thread, and tries every length for the block that comes next.
+fn extend(draft: &Draft, lengths: &mut Vec<u16>, left: &[u16], all: &mut Vec<Vec<u16>>) {
+    let block = lengths.len();
+    if block == draft.blocks() {
+        if left.iter().all(|&lines| lines == 0) {
+            all.push(lengths.clone());
+        }
+        return;
+    }
+    let thread = block % usize::from(draft.threads);
+    for length in 0..=left[thread] {
+        let mut left = left.to_vec();
+        left[thread] -= length;
+        lengths.push(length);
+        extend(draft, lengths, &left, all);
+        lengths.pop();
+    }
+}
+
+/// Every schedule whose input values are among those given.
+pub fn schedules(draft: &Draft, input_values: &[u16]) -> Vec<Vec<u16>> {
+    let mut schedules = block_lengths(draft);
+    for _ in draft.inputs() {
+        schedules = with_each(&schedules, input_values);
+    }
+    schedules
+}
+
+/// Each vector followed by each of the values.
+pub fn with_each(vectors: &[Vec<u16>], values: &[u16]) -> Vec<Vec<u16>> {
+    let longer = |vector: &Vec<u16>| {
+        let vector = vector.clone();
+        values
+            .iter()
+            .map(move |&value| [vector.as_slice(), &[value]].concat())
+    };
+    vectors.iter().flat_map(longer).collect()
+}

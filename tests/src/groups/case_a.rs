@@ -1,0 +1,158 @@
+//! Case A and the table P1 to P10 of document 01.
+
+use crate::ask::{check, decode, replay};
+use crate::calls::{Calls, Checked, Refusal, Replayed, Verdict};
+use crate::determined::Determined;
+use crate::draft::Draft;
+use crate::enumerate::block_lengths;
+use crate::report::{Outcome, Report, Tally};
+use crate::samples::{case_a, CASE_A_LISTING};
+use crate::search::block_numbers;
+use crate::table::{listing_of, table_of};
+
+const P1_ASSIGNMENT: [u16; 12] = [0, 0, 0, 1, 2, 5, 2, 0, 1, 5, 1, 5];
+const P2_ASSIGNMENT: [u16; 12] = [2, 5, 2, 6, 2, 6, 2, 0, 1, 5, 0, 5];
+
+pub fn run(calls: &dyn Calls, report: &mut Report) {
+    report.check("listing", |tally| {
+        let text = listing_of(calls, &case_a().bytes())?;
+        tally.same(text.as_str(), CASE_A_LISTING, || "the listing".into())
+    });
+    // Name, schedule, reply, and the global at the end.
+    let replays = [
+        ("P1", [2, 1, 2], Replayed::Violated(4), 5),
+        ("P2", [0, 1, 4], Replayed::Violated(4), 6),
+        ("P3", [1, 1, 3], Replayed::Clean, 1),
+        ("P4", [3, 1, 1], Replayed::Clean, 5),
+        ("P5", [4, 1, 0], Replayed::Clean, 5),
+    ];
+    for (name, schedule, reply, global) in replays {
+        report.check(name, |tally| {
+            let got = replay(calls, &case_a(), &schedule);
+            tally.same(got, (reply, vec![global]), || {
+                format!("schedule {schedule:?}")
+            })
+        });
+    }
+    report.check("P1 to P5 are all schedules", |tally| {
+        let all = block_lengths(&case_a());
+        let listed = [[0, 1, 4], [1, 1, 3], [2, 1, 2], [3, 1, 1], [4, 1, 0]];
+        tally.same(all, listed.map(Vec::from).to_vec(), || {
+            "all schedules".into()
+        })
+    });
+    report.check("P6", |tally| {
+        passes(calls, &P1_ASSIGNMENT, [2, 1, 2], tally)
+    });
+    report.check("P7", |tally| {
+        passes(calls, &P2_ASSIGNMENT, [0, 1, 4], tally)
+    });
+    report.check("P8", |tally| no_complete_run(calls, tally));
+    report.check("P9", |tally| one_clean_run(calls, tally));
+    report.check("P10", |tally| nothing_meets(calls, tally));
+    report.check("a changed number fails", |tally| {
+        changed_number_fails(calls, tally)
+    });
+}
+
+fn passes(calls: &dyn Calls, numbers: &[u16], schedule: [u16; 3], tally: &mut Tally) -> Outcome {
+    let draft = case_a();
+    tally.same(check(calls, &draft, numbers), Checked::Meets, || {
+        "the checker".into()
+    })?;
+    let decoded = decode(calls, &draft, numbers)?;
+    tally.same(decoded, schedule.to_vec(), || "the decoder".into())
+}
+
+fn case_a_with_switches(switches: u16) -> Draft {
+    Draft {
+        switches,
+        ..case_a()
+    }
+}
+
+/// "n 0 has no complete run": thread 1 has a line and no block.
+fn no_complete_run(calls: &dyn Calls, tally: &mut Tally) -> Outcome {
+    let draft = case_a_with_switches(0);
+    for length in (0..=10).chain([65_535]) {
+        let (reply, _) = replay(calls, &draft, &[length]);
+        let refused = Replayed::from(Refusal {
+            number: 13,
+            place: 0,
+        });
+        tally.same(reply, refused, || format!("schedule {length}"))?;
+    }
+    let table = table_of(calls, &draft.bytes())?;
+    tally.same(block_numbers(&draft, &table).len(), 0, || {
+        "block numbers".into()
+    })
+}
+
+/// "n 1 has one, and it is clean".
+fn one_clean_run(calls: &dyn Calls, tally: &mut Tally) -> Outcome {
+    let draft = case_a_with_switches(1);
+    for first in 0..=6 {
+        for second in 0..=6 {
+            let (reply, _) = replay(calls, &draft, &[first, second]);
+            let wanted = match (first, second) {
+                (4, 1) => Replayed::Clean,
+                _ => Replayed::Refused {
+                    number: 13,
+                    place: 0,
+                },
+            };
+            tally.same(reply, wanted, || format!("schedule {first}, {second}"))?;
+        }
+    }
+    let table = table_of(calls, &draft.bytes())?;
+    let blocks = block_numbers(&draft, &table);
+    tally.same(blocks.clone(), vec![vec![0, 0, 0, 0, 1]], || {
+        "block numbers".into()
+    })?;
+    // No inputs, so the numbers that are left are determined; only the 7 fails.
+    let numbers = Determined::assignment(&draft, &table, &blocks[0], &[0; 5])?;
+    let last = Checked::Fails(table.rows.len() as u16);
+    tally.same(check(calls, &draft, &numbers), last, || {
+        "the checker".into()
+    })
+}
+
+/// "a case with R 0 and n 0 has one constraint, which nothing meets".
+fn nothing_meets(calls: &dyn Calls, tally: &mut Tally) -> Outcome {
+    let draft = Draft::new(2, 0);
+    tally.same(calls.accept(&draft.bytes()), Verdict::Accepted, || {
+        "accepted".into()
+    })?;
+    let table = table_of(calls, &draft.bytes())?;
+    tally.same(table.rows, vec![[7, 0, 0, 0, 0, 0]], || "the table".into())?;
+    tally.same(table.variables, 0, || "variables".into())?;
+    // The only assignment has no numbers.
+    tally.same(check(calls, &draft, &[]), Checked::Fails(1), || {
+        "the checker".into()
+    })?;
+    let (reply, _) = replay(calls, &draft, &[0]);
+    tally.same(reply, Replayed::Clean, || "the only schedule".into())
+}
+
+/// Changing any one number of P6 by one makes some constraint fail; which one
+/// is first was worked out by hand.
+fn changed_number_fails(calls: &dyn Calls, tally: &mut Tally) -> Outcome {
+    let firsts = [1, 11, 3, 12, 5, 13, 7, 14, 9, 15, 16, 13];
+    for (variable, first) in firsts.into_iter().enumerate() {
+        let mut numbers = P1_ASSIGNMENT;
+        numbers[variable] += 1;
+        let got = check(calls, &case_a(), &numbers);
+        tally.same(got, Checked::Fails(first), || format!("v{variable} one up"))?;
+    }
+    // An even block number over n passes its 3 and fails the 2 of the last
+    // line, however large it is; no value may be looked at before.
+    for block in [4, 16, 40, 256, 65_534] {
+        let mut numbers = P1_ASSIGNMENT;
+        numbers[6] = block;
+        let got = check(calls, &case_a(), &numbers);
+        tally.same(got, Checked::Fails(8), || {
+            format!("line 4 in block {block}")
+        })?;
+    }
+    Ok(())
+}

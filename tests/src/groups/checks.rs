@@ -1,0 +1,77 @@
+//! Checks worked out by hand: each kind of constraint fails first.
+
+use crate::ask::check;
+use crate::calls::{Calls, Checked};
+use crate::draft::Draft;
+use crate::line::*;
+use crate::report::Report;
+
+/// Thread 0 stores 4 under the mutex; thread 1 loads under it, and asserts
+/// that it loads 0. Global 0 begins at 0.
+///
+/// The table: constraints 1 to 16 are the 3s, 1s and 2s of lines 1 to 8; then
+/// come 17 and 18 (line 1), 19, 20, 21 and 22 (line 4), 23, 24 and 25 (line 6),
+/// 26, 27; then 28 to 33 are the 6s, and 34 is the 7.
+fn shared() -> Draft {
+    storing(4)
+}
+
+fn storing(number: u16) -> Draft {
+    let first = [lock(0), store(0, constant(number)), unlock(0)];
+    let second = [
+        lock(0),
+        load(0, 0),
+        assume([LESS, 0, CONSTANT, 9]),
+        assert([EQUAL, 0, CONSTANT, 0]),
+        unlock(0),
+    ];
+    let draft = Draft::new(2, 3).with_globals(&[0]).with_mutexes(1);
+    draft.with_thread(0, &first).with_thread(1, &second)
+}
+
+/// Thread 0 in block 0, then thread 1 in block 1: the assert is zero. Block
+/// number and value of each line, then global and mutex after blocks 0 to 2.
+const MEETS: [u16; 22] = [
+    0, 1, 0, 4, 0, 0, 1, 1, 1, 4, 1, 1, 1, 0, 1, 0, 4, 0, 4, 0, 4, 0,
+];
+
+pub fn run(calls: &dyn Calls, report: &mut Report) {
+    let mut fails = |name: &str, draft: Draft, numbers: [u16; 22], constraint: u16| {
+        report.check(name, |tally| {
+            let wanted = Checked::Fails(constraint);
+            tally.same(check(calls, &draft, &numbers), wanted, || draft.to_string())
+        });
+    };
+    let with = |changes: &[(usize, u16)]| {
+        let mut numbers = MEETS;
+        for &(variable, number) in changes {
+            numbers[variable] = number;
+        }
+        numbers
+    };
+    // Line 1 goes to block 2, after line 2.
+    fails("a 1 fails first", shared(), with(&[(0, 2)]), 2);
+    // Line 3 goes past block 3.
+    fails("a 2 fails first", shared(), with(&[(4, 4)]), 6);
+    fails("a 2 fails far out", shared(), with(&[(4, 65_534)]), 6);
+    // Line 4 of thread 1 goes to a block of thread 0.
+    fails("a 3 fails first", shared(), with(&[(6, 2)]), 7);
+    fails("a 4 fails first", shared(), with(&[(3, 5)]), 19);
+    // The unlock goes to block 2, so that block 1 finds the mutex at 1.
+    let held = with(&[(4, 2), (17, 1)]);
+    fails("the 5 of a lock fails first", shared(), held, 22);
+    // Thread 1 loads 20, which is not less than 9.
+    let large = with(&[(3, 20), (9, 20), (11, 0), (16, 20), (18, 20), (20, 20)]);
+    fails("the 5 of an assume fails first", storing(20), large, 25);
+    // Nothing reads the global after block 2 but its own 6.
+    fails("a 6 fails first", shared(), with(&[(20, 5)]), 32);
+    // Thread 0 comes after thread 1, in block 2: the assert holds.
+    let after = [
+        2, 1, 2, 4, 2, 0, 1, 1, 1, 0, 1, 1, 1, 1, 1, 0, 0, 0, 0, 0, 4, 0,
+    ];
+    fails("the 7 fails first", shared(), after, 34);
+    report.check("all are met", |tally| {
+        let checked = check(calls, &shared(), &MEETS);
+        tally.same(checked, Checked::Meets, || shared().to_string())
+    });
+}

@@ -1,0 +1,75 @@
+//! Demand 3 by trying everything on small cases.
+
+use crate::calls::Calls;
+use crate::demand3::{compare, seen_alike};
+use crate::generate::{accepted, Shape};
+use crate::generate::{ANY, BUSY, BUSY_WITH_INPUTS, FOUR_THREADS, FULL, LONG, SMALL};
+use crate::random::Random;
+use crate::report::{Outcome, Report, Tally};
+use crate::table::table_of;
+use crate::vary::schedule;
+
+/// How many large cases are taken.
+const LARGE_CASES: u64 = 900;
+
+/// Values for each input: 0, which a false guard wants, and both ends.
+const INPUT_VALUES: [u16; 4] = [0, 1, 2, 65_535];
+
+pub fn run(calls: &dyn Calls, report: &mut Report) {
+    // Small cases are there for their odd forms (no switch, no global, no line
+    // in some thread), busy ones for the order of blocks to matter.
+    report.check("small cases", |tally| {
+        enough(calls, SMALL, 600, 5, &[0], tally)
+    });
+    report.check("busy cases", |tally| {
+        enough(calls, BUSY, 1_000, 150, &[0], tally)
+    });
+    report.check("four threads", |tally| {
+        enough(calls, FOUR_THREADS, 300, 40, &[0], tally)
+    });
+    report.check("large cases, some schedules each", |tally| {
+        some_schedules(calls, tally)
+    });
+    report.check("with inputs", |tally| {
+        enough(calls, BUSY_WITH_INPUTS, 500, 75, &INPUT_VALUES, tally)
+    });
+}
+
+/// Compares, and demands that the cases were of use: that there were so many
+/// whose schedules differ, many without violation, and every reply many times.
+fn enough(
+    calls: &dyn Calls,
+    shape: Shape,
+    cases: u64,
+    mixed: u64,
+    input_values: &[u16],
+    tally: &mut Tally,
+) -> Outcome {
+    compare(calls, shape, cases, input_values, tally)?;
+    tally.saw_often("a case with and without violation", mixed)?;
+    tally.saw_often("a case without violation", cases / 8)?;
+    for reply in ["violated", "clean", "cut off"] {
+        tally.saw_often(reply, cases / 2)?;
+    }
+    let false_inputs = if shape.inputs > 0 { cases } else { 0 };
+    tally.saw_often("refused 14", false_inputs)
+}
+
+/// Large cases have too many schedules; random ones are taken.
+fn some_schedules(calls: &dyn Calls, tally: &mut Tally) -> Outcome {
+    for seed in 0..LARGE_CASES {
+        let mut random = Random::from_seed(80_000_000 + seed);
+        let draft = accepted(&mut random, [ANY, LONG, FULL][seed as usize % 3]);
+        let table = table_of(calls, &draft.bytes())?;
+        for _ in 0..10 {
+            if let Some(schedule) = schedule(&mut random, &draft) {
+                seen_alike(calls, &draft, &table, &schedule, tally)
+                    .map_err(|message| format!("seed {seed}: {message}; case {draft}"))?;
+            }
+        }
+    }
+    for reply in ["violated", "clean", "cut off", "refused 14"] {
+        tally.saw_often(reply, 100)?;
+    }
+    Ok(())
+}

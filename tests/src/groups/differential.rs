@@ -1,0 +1,76 @@
+//! The library under test beside the second implementation. Each check also
+//! demands that every reply was met often.
+
+use crate::calls::Calls;
+use crate::compare::{checks, decodings, lengths, replays, tables, verdicts, Comparison};
+use crate::report::Report;
+
+/// How often each reply must have been met at least.
+const OFTEN: u64 = 50;
+
+const VERDICTS: [&str; 10] = [
+    "accepted",
+    "refused 1",
+    "refused 2",
+    "refused 3",
+    "refused 4",
+    "refused 5",
+    "refused 6",
+    "refused 7",
+    "refused 8",
+    "refused 9",
+];
+
+const CHECKS: [&str; 9] = [
+    "met",
+    "a 1 failed first",
+    "a 2 failed first",
+    "a 3 failed first",
+    "a 4 failed first",
+    "a 5 failed first",
+    "a 6 failed first",
+    "a 7 failed first",
+    "refused 11",
+];
+
+const DECODINGS: [&str; 4] = ["decoded", "refused 10", "refused 11", "refused 15"];
+
+const REPLAYS: [&str; 7] = [
+    "violated",
+    "clean",
+    "cut off",
+    "refused 10",
+    "refused 12",
+    "refused 13",
+    "refused 14",
+];
+
+const COMPARISONS: [(&str, Comparison, u64, &[&str]); 6] = [
+    ("verdicts", verdicts, 20_000, &VERDICTS),
+    (
+        "tables",
+        tables,
+        10_000,
+        &["encoded", "refused 6", "refused 9"],
+    ),
+    ("checks", checks, 4_000, &CHECKS),
+    ("decodings", decodings, 4_000, &DECODINGS),
+    ("replays", replays, 20_000, &REPLAYS),
+    (
+        "every length of every slice",
+        lengths,
+        200,
+        &["encoded", "refused 10", "decoded"],
+    ),
+];
+
+pub fn run(calls: &dyn Calls, report: &mut Report) {
+    for (name, comparison, rounds, replies) in COMPARISONS {
+        report.check(name, |tally| {
+            comparison(calls, rounds, tally)?;
+            replies
+                .iter()
+                .try_for_each(|reply| tally.saw_often(reply, OFTEN))
+        });
+    }
+}

@@ -1,0 +1,242 @@
+//! Both sides of every limit.
+
+use crate::ask::{refused_by_all, replay};
+use crate::calls::{Calls, Checked, Refusal, Replayed, Verdict};
+use crate::draft::Draft;
+use crate::enumerate::block_lengths;
+use crate::fill::fill;
+use crate::line::*;
+use crate::report::{Outcome, Report, Tally};
+use crate::table::table_of;
+
+pub fn run(calls: &dyn Calls, report: &mut Report) {
+    report.check("lengths of the file", |tally| file_lengths(calls, tally));
+    report.check("threads 1, 2, 4, 5", |tally| {
+        for (threads, number) in [(0, 2), (1, 2), (2, 0), (3, 0), (4, 0), (5, 2), (65_535, 2)] {
+            stands(calls, &Draft::new(threads, 1), number, tally)?;
+        }
+        Ok(())
+    });
+    report.check("switches 15, 16", |tally| {
+        for (switches, number) in [(0, 0), (15, 0), (16, 3), (256, 3), (65_535, 3)] {
+            stands(calls, &Draft::new(2, switches), number, tally)?;
+        }
+        Ok(())
+    });
+    report.check("globals 8, 9", |tally| {
+        for (globals, number) in [(0, 0), (8, 0), (9, 4), (256, 4), (65_535, 4)] {
+            stands(
+                calls,
+                &Draft {
+                    globals,
+                    ..Draft::new(2, 1)
+                },
+                number,
+                tally,
+            )?;
+        }
+        Ok(())
+    });
+    report.check("mutexes 4, 5", |tally| {
+        for (mutexes, number) in [(0, 0), (4, 0), (5, 4), (256, 4), (65_535, 4)] {
+            stands(
+                calls,
+                &Draft {
+                    mutexes,
+                    ..Draft::new(2, 1)
+                },
+                number,
+                tally,
+            )?;
+        }
+        Ok(())
+    });
+    report.check("lines 64, 65", |tally| {
+        for (lines, number) in [(63, 0), (64, 0), (65, 8), (66, 8), (256, 8)] {
+            for thread in [0, 1] {
+                let lines = vec![compute(0, constant(1)); lines];
+                stands(
+                    calls,
+                    &Draft::new(2, 3).with_thread(thread, &lines),
+                    number,
+                    tally,
+                )?;
+            }
+        }
+        Ok(())
+    });
+    report.check("records 256, 257", |tally| records(calls, tally));
+    report.check("the largest case", |tally| largest_case(calls, tally));
+    report.check("15 switches are all used", |tally| {
+        all_switches_used(calls, tally)
+    });
+    report.check("fewer blocks than threads", |tally| {
+        fewer_blocks(calls, tally)
+    });
+}
+
+/// Demands that the draft meets the refusal in each call, or none for 0.
+fn stands(calls: &dyn Calls, draft: &Draft, number: u16, tally: &mut Tally) -> Outcome {
+    if number == 0 {
+        let verdict = calls.accept(&draft.bytes());
+        return tally.same(verdict, Verdict::Accepted, || draft.to_string());
+    }
+    refused_by_all(calls, &draft.bytes(), Refusal { number, place: 0 }, tally)
+}
+
+/// "The case is not 32 + 16R bytes with R from 0 to 256."
+fn file_lengths(calls: &dyn Calls, tally: &mut Tally) -> Outcome {
+    let whole = Draft::new(2, 0)
+        .with_thread(0, &[compute(0, constant(1))])
+        .bytes();
+    let refusal = Refusal {
+        number: 1,
+        place: 0,
+    };
+    for length in (0..48).filter(|&length| length != 32) {
+        refused_by_all(calls, &whole[..length], refusal, tally)?;
+    }
+    for length in 49..64 {
+        let longer = [&whole[..], &vec![0; length - 48]].concat();
+        refused_by_all(calls, &longer, refusal, tally)?;
+    }
+    tally.same(calls.accept(&whole), Verdict::Accepted, || {
+        "48 bytes".into()
+    })?;
+    let header = Draft::new(2, 0).bytes();
+    tally.same(calls.accept(&header), Verdict::Accepted, || {
+        "32 bytes".into()
+    })?;
+    // 32 bytes of 0 have no threads.
+    refused_by_all(
+        calls,
+        &[0; 32],
+        Refusal {
+            number: 2,
+            place: 0,
+        },
+        tally,
+    )?;
+    // 48 bytes of which the record is in no chain.
+    let stray = [&header[..], &[0; 16]].concat();
+    refused_by_all(
+        calls,
+        &stray,
+        Refusal {
+            number: 7,
+            place: 0,
+        },
+        tally,
+    )
+}
+
+/// Four threads of 64 lines are 256 records.
+fn full(lines: &[Line]) -> Draft {
+    let most = Draft::new(4, 15)
+        .with_globals(&[1, 2, 3, 4, 5, 6, 7, 8])
+        .with_mutexes(4);
+    (0..4).fold(most, |draft, thread| draft.with_thread(thread, lines))
+}
+
+fn records(calls: &dyn Calls, tally: &mut Tally) -> Outcome {
+    let draft = full(&[compute(0, constant(1)); 64]);
+    stands(calls, &draft, 0, tally)?;
+    for more in [1, 2, 256, 4_000] {
+        let mut longer = draft.bytes();
+        longer.extend(vec![0; 16 * more]);
+        refused_by_all(
+            calls,
+            &longer,
+            Refusal {
+                number: 1,
+                place: 0,
+            },
+            tally,
+        )?;
+    }
+    Ok(())
+}
+
+/// 256 assumes with all items: the largest table, 1,205 constraints.
+fn largest_case(calls: &dyn Calls, tally: &mut Tally) -> Outcome {
+    let mut lines = [assume(constant(1)); 64];
+    lines[0] = assume(local(0)).guarded(1);
+    let draft = full(&lines);
+    let table = table_of(calls, &draft.bytes())?;
+    tally.same(table.rows.len(), 1_205, || "constraints".into())?;
+    tally.same(table.variables, 692, || "variables".into())?;
+    let schedule = [16; 16];
+    let numbers = fill(&draft, &schedule);
+    let checked = calls.check(&draft.bytes(), &numbers);
+    tally.same(checked, Checked::Fails(1_205), || "only the 7 fails".into())?;
+    let (reply, items) = replay(calls, &draft, &schedule);
+    let at_end = vec![1, 2, 3, 4, 5, 6, 7, 8, 0, 0, 0, 0];
+    tally.same((reply, items), (Replayed::Clean, at_end), || {
+        "the run".into()
+    })?;
+    // 256 inputs: the longest schedule has 272 numbers.
+    let inputs = full(&[input(3); 64]);
+    tally.same(inputs.schedule_numbers(), 272, || "schedule numbers".into())?;
+    let schedule = [[16; 16].as_slice(), &[65_535; 256]].concat();
+    tally.same(replay(calls, &inputs, &schedule).0, Replayed::Clean, || {
+        "inputs".into()
+    })
+}
+
+/// Threads that must take turns sixteen times to violate.
+fn all_switches_used(calls: &dyn Calls, tally: &mut Tally) -> Outcome {
+    // Thread 0 puts odd numbers, thread 1 even ones, each after the other's.
+    let turn = |number: u16| {
+        [
+            load(0, 0),
+            compute(1, [EQUAL, 0, CONSTANT, number]),
+            store(0, [SUM, 0, CONSTANT, 1]).guarded(2),
+        ]
+    };
+    let turns = |first: u16| {
+        (0..8)
+            .flat_map(|round| turn(first + 2 * round))
+            .collect::<Vec<_>>()
+    };
+    let last = [load(2, 0), assert([LESS, 2, CONSTANT, 16])];
+    let draft = Draft::new(2, 15)
+        .with_globals(&[0])
+        .with_thread(0, &turns(0))
+        .with_thread(1, &[turns(1), last.to_vec()].concat());
+    let mut schedule = [3; 16];
+    schedule[15] = 5;
+    let wanted = (Replayed::Violated(draft.records.len() as u16), vec![16]);
+    tally.same(replay(calls, &draft, &schedule), wanted, || {
+        "in turn".into()
+    })?;
+    let numbers = fill(&draft, &schedule);
+    let checked = calls.check(&draft.bytes(), &numbers);
+    tally.same(checked, Checked::Meets, || "the filled assignment".into())?;
+    let mut decoded = vec![0; 16];
+    calls.decode(&draft.bytes(), &numbers, &mut decoded);
+    tally.same(decoded, schedule.to_vec(), || "decoded".into())
+}
+
+/// With n + 1 < T some threads have no block: they may have no lines.
+fn fewer_blocks(calls: &dyn Calls, tally: &mut Tally) -> Outcome {
+    let line = [assert(constant(0))];
+    let lines_in = |thread: usize| Draft::new(4, 1).with_thread(thread, &line);
+    for (thread, complete) in [(0, 1), (1, 1), (2, 0), (3, 0)] {
+        let draft = lines_in(thread);
+        let schedules = block_lengths(&draft);
+        tally.same(schedules.len(), complete, || format!("thread {thread}"))?;
+        for schedule in schedules {
+            let reply = replay(calls, &draft, &schedule).0;
+            tally.same(reply, Replayed::Violated(1), || format!("thread {thread}"))?;
+        }
+        for schedule in [[0, 0], [2, 0], [0, 2], [1, 1]] {
+            let reply = replay(calls, &draft, &schedule).0;
+            let refused = Replayed::Refused {
+                number: 13,
+                place: 0,
+            };
+            tally.same(reply, refused, || format!("thread {thread}, {schedule:?}"))?;
+        }
+    }
+    Ok(())
+}

@@ -1,0 +1,78 @@
+//! The groups of tests. Each is run on the library under test: the proved one
+//! with the feature `proved`, else the second implementation itself.
+
+mod case_a;
+mod checks;
+mod decodings;
+mod demand_3;
+mod differential;
+mod fields;
+mod generator;
+mod limits;
+mod listing;
+mod mutants;
+mod refusals;
+mod refusals_of_calls;
+mod runs;
+mod slices;
+mod solvers;
+mod tables;
+
+use crate::calls::Calls;
+use crate::report::Report;
+
+pub struct Group {
+    pub name: &'static str,
+    pub about: &'static str,
+    pub run: fn(&dyn Calls, &mut Report),
+    /// Whether it is run when no group is named.
+    pub by_default: bool,
+}
+
+/// All groups in the order in which they are run.
+pub fn all() -> Vec<Group> {
+    let group = |name, about, run| Group {
+        name,
+        about,
+        run,
+        by_default: true,
+    };
+    let mut groups = vec![
+        group("case-a", "case A's listing and P1 to P10", case_a::run),
+        group("tables", "tables worked out by hand", tables::run),
+        group("runs", "runs worked out by hand", runs::run),
+        group("checks", "each kind of constraint fails first", checks::run),
+        group("decodings", "decodings worked out by hand", decodings::run),
+        group("fields", "refusal 9, field by field", fields::run),
+        group("limits", "both sides of every limit", limits::run),
+        group("refusals", "refusals 1 to 9 and their order", refusals::run),
+        group(
+            "calls",
+            "refusals 10 to 15 and their order",
+            refusals_of_calls::run,
+        ),
+        group(
+            "generator",
+            "random cases have all there is",
+            generator::run,
+        ),
+        group("slices", "what calls leave in slices", slices::run),
+        group("demand-3", "demand 3 by trying everything", demand_3::run),
+        group("solvers", "z3 and cvc5 beside replay", solvers::run),
+        group("mutants", "deliberate mistakes are found", mutants::run),
+    ];
+    // Beside itself the second implementation would always be right.
+    groups.push(Group {
+        by_default: cfg!(feature = "proved"),
+        ..group(
+            "differential",
+            "beside the second implementation",
+            differential::run,
+        )
+    });
+    groups.push(Group {
+        by_default: std::env::var_os(listing::PROGRAM).is_some(),
+        ..group("listing", "the program in MENDUVO_LISTING", listing::run)
+    });
+    groups
+}

@@ -1,0 +1,71 @@
+//! Deliberate mistakes in the second implementation. Each must be found by
+//! every comparison named for it; the right one must pass them all.
+
+use crate::calls::Calls;
+use crate::compare::{checks, decodings, lengths, replays, tables, verdicts, Comparison};
+use crate::demand3::compare;
+use crate::generate::{BUSY, BUSY_WITH_INPUTS, SMALL};
+use crate::report::{outcome_of, Outcome, Report, Tally};
+use crate::second::{Second, Wrong, RIGHT};
+
+/// Rounds for each comparison: few, since a mistake should be found soon.
+const ROUNDS: u64 = 150;
+
+const MISTAKES: [(Wrong, &[Comparison]); 15] = [
+    (Wrong::StrayNextUnseen, &[verdicts]),
+    (Wrong::DropsA6, &[tables, demand_3]),
+    (Wrong::FivesLast, &[tables]),
+    (Wrong::GuardedStoreIsNoCopy, &[tables, demand_3]),
+    (Wrong::EmptyThreadPassedOver, &[replays, demand_3_small]),
+    (Wrong::CopyFromEarlierBlock, &[checks, demand_3]),
+    (Wrong::NoWalkBack, &[checks, demand_3]),
+    (Wrong::ValuesBeforeBlocks, &[checks]),
+    (Wrong::FalseInputKept, &[decodings, demand_3_with_inputs]),
+    (Wrong::GoesOnAfterAssume, &[replays, demand_3]),
+    (Wrong::ViolatedThoughCutOff, &[replays, demand_3]),
+    (Wrong::LengthsWrap, &[replays]),
+    (Wrong::LengthBeforeRoom, &[decodings, lengths]),
+    (Wrong::WritesThoughRefused, &[replays, lengths]),
+    (Wrong::ClearsTheTail, &[tables, decodings, replays, lengths]),
+];
+
+const ALL: [Comparison; 9] = [
+    verdicts,
+    tables,
+    checks,
+    decodings,
+    replays,
+    lengths,
+    demand_3,
+    demand_3_small,
+    demand_3_with_inputs,
+];
+
+pub fn run(_: &dyn Calls, report: &mut Report) {
+    report.check("no mistake", |tally| {
+        let mut all = ALL.iter();
+        all.try_for_each(|comparison| comparison(&RIGHT, ROUNDS, tally))
+    });
+    for (wrong, comparisons) in MISTAKES {
+        report.check(&format!("{wrong:?} is found"), |tally| {
+            let mistaken = Second { wrong };
+            for (place, comparison) in comparisons.iter().enumerate() {
+                let outcome = outcome_of(|tally| comparison(&mistaken, ROUNDS, tally), tally);
+                tally.holds(outcome.is_err(), || format!("not by comparison {place}"))?;
+            }
+            Ok(())
+        });
+    }
+}
+
+fn demand_3(calls: &dyn Calls, rounds: u64, tally: &mut Tally) -> Outcome {
+    compare(calls, BUSY, rounds, &[0], tally)
+}
+
+fn demand_3_small(calls: &dyn Calls, rounds: u64, tally: &mut Tally) -> Outcome {
+    compare(calls, SMALL, rounds, &[0], tally)
+}
+
+fn demand_3_with_inputs(calls: &dyn Calls, rounds: u64, tally: &mut Tally) -> Outcome {
+    compare(calls, BUSY_WITH_INPUTS, rounds, &[0, 3], tally)
+}

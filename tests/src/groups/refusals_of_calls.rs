@@ -1,0 +1,276 @@
+//! Refusals 10 to 15 with their places, and the order between them.
+
+use crate::ask::{marks, replay, reply};
+use crate::calls::{Calls, Checked, Decoded, Encoded, Replayed};
+use crate::draft::Draft;
+use crate::line::*;
+use crate::report::{Outcome, Report, Tally};
+use crate::samples::case_a;
+
+/// P6: meets case A's table.
+const GOOD: [u16; 12] = [0, 0, 0, 1, 2, 5, 2, 0, 1, 5, 1, 5];
+/// Fails first at the 2 of line 4, the eighth constraint.
+const BAD: [u16; 12] = [0, 0, 0, 1, 2, 5, 4, 0, 1, 5, 1, 5];
+
+pub fn run(calls: &dyn Calls, report: &mut Report) {
+    report.check("10: encoding", |tally| short_table(calls, tally));
+    report.check("10: decoding", |tally| short_schedule(calls, tally));
+    report.check("10: replaying", |tally| short_items(calls, tally));
+    report.check("11: checking and decoding", |tally| {
+        wrong_assignment(calls, tally)
+    });
+    report.check("12: replaying", |tally| wrong_schedule(calls, tally));
+    report.check("13: lengths do not add up", |tally| {
+        wrong_sums(calls, tally)
+    });
+    report.check("14: an input with a false guard", |tally| {
+        false_inputs(calls, tally)
+    });
+    report.check("14 and cut-off: the one met first", |tally| {
+        met_first(calls, tally)
+    });
+    report.check("15: the first failed constraint", |tally| {
+        failed_decoding(calls, tally)
+    });
+}
+
+/// Case A's table has 18 × 6 numbers.
+fn short_table(calls: &dyn Calls, tally: &mut Tally) -> Outcome {
+    for room in 0..=109 {
+        let mut table = marks(room);
+        let wanted = match room {
+            0..=107 => Encoded::Refused {
+                number: 10,
+                place: 0,
+            },
+            _ => Encoded::Table {
+                constraints: 18,
+                variables: 12,
+            },
+        };
+        let reply = calls.encode(&case_a().bytes(), &mut table);
+        tally.same(reply, wanted, || format!("room for {room}"))?;
+        let from = if room < 108 { 0 } else { 108 };
+        let kept = table[from..] == marks(room)[from..];
+        tally.holds(kept, || format!("room for {room}: more was touched"))?;
+    }
+    Ok(())
+}
+
+/// Case A's schedules have 3 numbers. Too little room comes before a wrong
+/// assignment, be it of the wrong length or one that fails.
+fn short_schedule(calls: &dyn Calls, tally: &mut Tally) -> Outcome {
+    for assignment in [&GOOD[..], &BAD[..], &GOOD[..11], &[]] {
+        for room in 0..3 {
+            let mut schedule = marks(room);
+            let reply = calls.decode(&case_a().bytes(), assignment, &mut schedule);
+            let refused = Decoded::Refused {
+                number: 10,
+                place: 0,
+            };
+            tally.same(reply, refused, || format!("room for {room}"))?;
+            tally.same(schedule, marks(room), || "the slice".into())?;
+        }
+    }
+    let mut schedule = marks(5);
+    let reply = calls.decode(&case_a().bytes(), &GOOD, &mut schedule);
+    tally.same(reply, Decoded::Schedule { numbers: 3 }, || {
+        "room for 5".into()
+    })?;
+    let wanted = [&[2, 1, 2], &marks(5)[3..]].concat();
+    tally.same(schedule, wanted, || "the slice".into())
+}
+
+/// Case A has one item. Too little room comes before whatever is wrong with
+/// the schedule, and before what the run would meet.
+fn short_items(calls: &dyn Calls, tally: &mut Tally) -> Outcome {
+    for schedule in [&[2, 1, 2][..], &[2, 1, 1], &[2, 1], &[], &[2, 1, 2, 0]] {
+        let reply = calls.replay(&case_a().bytes(), schedule, &mut []);
+        let refused = Replayed::Refused {
+            number: 10,
+            place: 0,
+        };
+        tally.same(reply, refused, || format!("schedule {schedule:?}"))?;
+    }
+    let draft = false_input_case();
+    let reply = calls.replay(&draft.bytes(), &[2, 0, 1], &mut []);
+    tally.same(
+        reply,
+        Replayed::Refused {
+            number: 10,
+            place: 0,
+        },
+        || "before 14".into(),
+    )?;
+    // Nothing is written for a case without items, so nothing is short.
+    let bare = Draft::new(2, 0).with_thread(0, &[assert(local(3))]);
+    let reply = calls.replay(&bare.bytes(), &[1], &mut []);
+    tally.same(reply, Replayed::Violated(1), || "no items".into())
+}
+
+fn wrong_assignment(calls: &dyn Calls, tally: &mut Tally) -> Outcome {
+    let case = case_a().bytes();
+    let longest = [&GOOD[..], &[0; 700]].concat();
+    for length in (0..30).chain([692, 712]).filter(|&length| length != 12) {
+        let assignment = &longest[..length];
+        let about = || format!("{length} numbers");
+        let refused = Checked::Refused {
+            number: 11,
+            place: 0,
+        };
+        tally.same(calls.check(&case, assignment), refused, about)?;
+        let mut schedule = marks(4);
+        let refused = Decoded::Refused {
+            number: 11,
+            place: 0,
+        };
+        tally.same(
+            calls.decode(&case, assignment, &mut schedule),
+            refused,
+            about,
+        )?;
+        tally.same(schedule, marks(4), about)?;
+    }
+    Ok(())
+}
+
+/// "exactly n + 1 numbers and one for each input line"; before 13, so the sums
+/// do not matter.
+fn wrong_schedule(calls: &dyn Calls, tally: &mut Tally) -> Outcome {
+    let with_inputs = Draft::new(2, 2)
+        .with_thread(0, &[input(0), input(1)])
+        .with_thread(1, &[input(0)]);
+    for (draft, right) in [(case_a(), 3), (with_inputs, 6)] {
+        for length in (0..12).filter(|&length| length != right) {
+            for number in [0, 1, 65_535] {
+                let (reply, items) = replay(calls, &draft, &vec![number; length]);
+                let refused = Replayed::Refused {
+                    number: 12,
+                    place: 0,
+                };
+                tally.same(reply, refused, || format!("{length} numbers"))?;
+                tally.same(items, marks(draft.items()), || "the items".into())?;
+            }
+        }
+    }
+    Ok(())
+}
+
+/// Sums are not taken modulo 65,536; 13 comes before anything in the run.
+fn wrong_sums(calls: &dyn Calls, tally: &mut Tally) -> Outcome {
+    let refused = Replayed::Refused {
+        number: 13,
+        place: 0,
+    };
+    for schedule in [
+        [0, 0, 0],
+        [2, 1, 1],
+        [2, 1, 3],
+        [2, 0, 2],
+        [2, 2, 2],
+        [4, 1, 65_535],
+        // These two sums are 65,536 + 4.
+        [5, 1, 65_535],
+        [65_535, 1, 5],
+        [32_770, 1, 32_770],
+    ] {
+        let (reply, items) = replay(calls, &case_a(), &schedule);
+        tally.same(reply, refused, || format!("schedule {schedule:?}"))?;
+        tally.same(items, marks(1), || "the items".into())?;
+    }
+    // The second number is right for thread 1, which has no line: 65,536 not.
+    let draft = Draft::new(2, 3).with_thread(0, &[assert(constant(0))]);
+    for schedule in [[1, 32_768, 0, 32_768], [0, 0, 0, 0], [1, 1, 0, 0]] {
+        tally.same(reply(calls, &draft, &schedule), refused, || {
+            format!("{schedule:?}")
+        })?;
+    }
+    // An input with a false guard comes later.
+    let draft = false_input_case();
+    tally.same(reply(calls, &draft, &[1, 0, 1]), refused, || {
+        "before 14".into()
+    })
+}
+
+/// Record 2 is an input whose guard is false, since local 4 has 0.
+fn false_input_case() -> Draft {
+    let lines = [store(0, constant(9)), input(0).guarded(5)];
+    Draft::new(2, 1).with_globals(&[3]).with_thread(0, &lines)
+}
+
+fn false_inputs(calls: &dyn Calls, tally: &mut Tally) -> Outcome {
+    let draft = false_input_case();
+    let wanted = (Replayed::Clean, vec![9]);
+    tally.same(replay(calls, &draft, &[2, 0, 0]), wanted, || {
+        "value 0".into()
+    })?;
+    for value in [1, 2, 256, 65_535] {
+        let wanted = (
+            Replayed::Refused {
+                number: 14,
+                place: 2,
+            },
+            marks(1),
+        );
+        let got = replay(calls, &draft, &[2, 0, value]);
+        tally.same(got, wanted, || format!("value {value}"))?;
+    }
+    // A zero assert before it does not matter, and the first one met counts,
+    // which is thread 1's here.
+    let draft = Draft::new(2, 2)
+        .with_thread(0, &[assert(constant(0)), input(0).guarded(5)])
+        .with_thread(1, &[input(0).guarded(5)]);
+    let refused = |place: u16| Replayed::Refused { number: 14, place };
+    tally.same(reply(calls, &draft, &[1, 1, 1, 7, 7]), refused(3), || {
+        "thread 1".into()
+    })?;
+    tally.same(reply(calls, &draft, &[2, 1, 0, 7, 7]), refused(2), || {
+        "thread 0".into()
+    })?;
+    tally.same(reply(calls, &draft, &[1, 1, 1, 7, 0]), refused(2), || {
+        "later".into()
+    })?;
+    let violated = Replayed::Violated(1);
+    tally.same(reply(calls, &draft, &[1, 1, 1, 0, 0]), violated, || {
+        "both 0".into()
+    })
+}
+
+/// "Refusal 14 and a cut-off exclude each other: the one met first is given."
+fn met_first(calls: &dyn Calls, tally: &mut Tally) -> Outcome {
+    let cutting = [assume(constant(0)), lock(0), lock(0)];
+    for cut in [&cutting[..1], &cutting[1..]] {
+        let draft = Draft::new(2, 2)
+            .with_mutexes(1)
+            .with_thread(0, cut)
+            .with_thread(1, &[input(0).guarded(1)]);
+        let lines = cut.len() as u16;
+        let cut_first = reply(calls, &draft, &[lines, 1, 0, 8]);
+        tally.same(cut_first, Replayed::CutOff(lines), || {
+            format!("{cut:?} first")
+        })?;
+        let (input_first, items) = replay(calls, &draft, &[0, 1, lines, 8]);
+        let refused = Replayed::Refused {
+            number: 14,
+            place: lines + 1,
+        };
+        tally.same(input_first, refused, || format!("{cut:?} later"))?;
+        tally.same(items, marks(1), || "the items".into())?;
+    }
+    Ok(())
+}
+
+/// The place is "the first failed constraint, from 1".
+fn failed_decoding(calls: &dyn Calls, tally: &mut Tally) -> Outcome {
+    let clean = [0, 0, 2, 1, 2, 1, 2, 1, 1, 5, 0, 5];
+    for (assignment, place) in [(BAD, 8), ([0; 12], 9), ([65_535; 12], 1), (clean, 18)] {
+        let mut schedule = marks(4);
+        let reply = calls.decode(&case_a().bytes(), &assignment, &mut schedule);
+        let refused = Decoded::Refused { number: 15, place };
+        tally.same(reply, refused, || format!("{assignment:?}"))?;
+        tally.same(schedule, marks(4), || "the slice".into())?;
+        let checked = calls.check(&case_a().bytes(), &assignment);
+        tally.same(checked, Checked::Fails(place), || format!("{assignment:?}"))?;
+    }
+    Ok(())
+}

@@ -1,0 +1,110 @@
+//! Outside tests of the bounded-checking library, with a runner of their own.
+//!
+//! `cargo run --release --offline -q -- [group]...` runs the named groups, or
+//! all that make sense. The last line is `N passed, M failed`.
+
+#![forbid(unsafe_code)]
+
+mod ask;
+mod calls;
+mod compare;
+mod damage;
+mod demand3;
+mod determined;
+mod draft;
+mod enumerate;
+mod fill;
+mod generate;
+mod groups;
+mod line;
+mod program;
+#[cfg(feature = "proved")]
+mod proved;
+mod random;
+mod report;
+mod samples;
+mod search;
+mod second;
+mod smt;
+mod solver;
+mod table;
+mod vary;
+
+use std::process::{exit, ExitCode};
+use std::sync::{Arc, Mutex};
+use std::thread;
+use std::time::Duration;
+
+use groups::Group;
+use report::{Report, Totals};
+
+/// The most that a whole run may take. A run that takes longer has failed.
+const TIME_LIMIT: Duration = Duration::from_secs(900);
+
+#[cfg(feature = "proved")]
+fn under_test() -> impl calls::Calls {
+    proved::Proved
+}
+
+#[cfg(not(feature = "proved"))]
+fn under_test() -> impl calls::Calls {
+    second::RIGHT
+}
+
+fn main() -> ExitCode {
+    let names: Vec<String> = std::env::args().skip(1).collect();
+    let Some(chosen) = chosen_groups(&names) else {
+        print_groups();
+        return ExitCode::from(2);
+    };
+    // A panic is told with the check that it ended.
+    std::panic::set_hook(Box::new(|_| {}));
+    let calls = under_test();
+    let mut report = Report::new();
+    watch(report.totals.clone());
+    for group in chosen {
+        report.begin_group(group.name);
+        (group.run)(&calls, &mut report);
+        report.end_group();
+    }
+    let totals = report
+        .totals
+        .lock()
+        .expect("no check panics while it counts");
+    println!("{} passed, {} failed", totals.passed, totals.failed);
+    ExitCode::from(u8::from(totals.failed != 0))
+}
+
+/// The groups that were named, or those that are run by default; none if a
+/// name is not known. Names may be written with two dashes in front.
+fn chosen_groups(names: &[String]) -> Option<Vec<Group>> {
+    let names: Vec<&str> = names
+        .iter()
+        .map(|name| name.trim_start_matches('-'))
+        .collect();
+    let known = |name: &&str| groups::all().iter().any(|group| group.name == *name);
+    if !names.iter().all(known) {
+        return None;
+    }
+    let is_chosen =
+        |group: &Group| names.contains(&group.name) || (names.is_empty() && group.by_default);
+    Some(groups::all().into_iter().filter(is_chosen).collect())
+}
+
+fn print_groups() {
+    println!("groups:");
+    for group in groups::all() {
+        println!("  {:<14} {}", group.name, group.about);
+    }
+}
+
+/// Ends the run when its time is up, since a call under test may hang.
+fn watch(totals: Arc<Mutex<Totals>>) {
+    thread::spawn(move || {
+        thread::sleep(TIME_LIMIT);
+        let totals = totals.lock().expect("no check panics while it counts");
+        println!("FAILED {}: not done within {TIME_LIMIT:?}", totals.group);
+        println!("{} passed, {} failed", totals.passed, totals.failed + 1);
+        exit(1);
+    });
+}

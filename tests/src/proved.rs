@@ -1,0 +1,51 @@
+//! The proved library, through its safe wrapper in `bindings/rust`.
+
+use crate::calls::{Calls, Checked, Decoded, Encoded, Replayed, Verdict};
+
+pub struct Proved;
+
+impl Calls for Proved {
+    fn accept(&self, case: &[u8]) -> Verdict {
+        match menduvo::accept(case) {
+            menduvo::Verdict::Accepted => Verdict::Accepted,
+            menduvo::Verdict::Refused { number, place } => Verdict::Refused { number, place },
+        }
+    }
+
+    fn encode(&self, case: &[u8], table: &mut [u16]) -> Encoded {
+        match menduvo::encode(case, table) {
+            menduvo::Encoded::Table {
+                constraints,
+                variables,
+            } => Encoded::Table {
+                constraints,
+                variables,
+            },
+            menduvo::Encoded::Refused { number, place } => Encoded::Refused { number, place },
+        }
+    }
+
+    fn check(&self, case: &[u8], assignment: &[u16]) -> Checked {
+        match menduvo::check(case, assignment) {
+            menduvo::Checked::Meets => Checked::Meets,
+            menduvo::Checked::Fails(constraint) => Checked::Fails(constraint),
+            menduvo::Checked::Refused { number, place } => Checked::Refused { number, place },
+        }
+    }
+
+    fn decode(&self, case: &[u8], assignment: &[u16], schedule: &mut [u16]) -> Decoded {
+        match menduvo::decode(case, assignment, schedule) {
+            menduvo::Decoded::Schedule { numbers } => Decoded::Schedule { numbers },
+            menduvo::Decoded::Refused { number, place } => Decoded::Refused { number, place },
+        }
+    }
+
+    fn replay(&self, case: &[u8], schedule: &[u16], items: &mut [u16]) -> Replayed {
+        match menduvo::replay(case, schedule, items) {
+            menduvo::Replayed::Violated(record) => Replayed::Violated(record),
+            menduvo::Replayed::Clean => Replayed::Clean,
+            menduvo::Replayed::CutOff(record) => Replayed::CutOff(record),
+            menduvo::Replayed::Refused { number, place } => Replayed::Refused { number, place },
+        }
+    }
+}

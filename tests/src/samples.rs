@@ -1,0 +1,93 @@
+//! Cases written down by hand.
+
+use crate::draft::Draft;
+use crate::line::*;
+
+/// Case A of document 01.
+pub fn case_a() -> Draft {
+    Draft {
+        firsts: [1, 5, 0, 0],
+        records: vec![
+            [2, 3, 0, 0, 0, 0, 0, 0].into(),
+            [3, 2, 0, 0, 1, 0, 16, 1].into(),
+            [4, 3, 0, 1, 0, 0, 0, 0].into(),
+            [0, 5, 0, 0, 5, 1, 16, 1].into(),
+            [0, 2, 0, 0, 0, 16, 0, 5].into(),
+        ],
+        ..Draft::new(2, 2).with_globals(&[0])
+    }
+}
+
+/// The listing of case A, as document 01 prints it.
+pub const CASE_A_LISTING: &str = "\
+18 12
+3 1 2 0 0 0
+1 1 2 0 0 0
+3 2 2 0 0 0
+1 2 3 0 0 0
+3 3 2 0 0 0
+1 3 4 0 0 0
+3 4 2 0 0 0
+2 4 2 0 0 0
+3 5 2 1 0 0
+2 5 2 0 0 0
+4 1 0 0 0 0
+4 2 0 1 0 0
+4 3 0 2 0 0
+4 4 0 3 0 0
+4 5 0 0 0 0
+6 0 0 2 0 0
+6 0 1 5 0 0
+7 0 0 0 0 0
+";
+
+/// Two threads that add to one global under a mutex, and a third that looks
+/// at the sum; the lock of thread 1 is guarded, so it may be forgotten.
+pub fn guarded_counter() -> Draft {
+    let add = |guard: u16| {
+        [
+            load(0, 1),
+            lock(0).guarded(guard),
+            load(1, 0),
+            store(0, [SUM, 1, CONSTANT, 1]),
+            unlock(0).guarded(guard),
+        ]
+    };
+    let look = [
+        load(2, 0),
+        assume([COPY, 2, 0, 0]),
+        assert([EQUAL, 2, CONSTANT, 2]),
+    ];
+    Draft::new(3, 7)
+        .with_globals(&[0, 0])
+        .with_mutexes(1)
+        .with_thread(0, &add(0))
+        .with_thread(1, &add(1))
+        .with_thread(2, &look)
+}
+
+/// The table of `guarded_counter`, worked out by hand: the copies of each
+/// name are marked in the comments.
+pub const GUARDED_COUNTER_VALUE_ROWS: [[u16; 6]; 16] = [
+    // Thread 0: records 1 to 5.
+    [4, 1, 0, 0, 0, 0],
+    [4, 2, 0, 0, 0, 0],
+    [5, 2, 0, 0, 0, 0],
+    [4, 3, 0, 0, 0, 0],
+    // local 1 was loaded in record 3
+    [4, 4, 0, 3, 0, 0],
+    // the mutex was locked in record 2
+    [4, 5, 0, 0, 0, 2],
+    // Thread 1: records 6 to 10; the guards look at local 0 of record 6.
+    [4, 6, 0, 0, 0, 0],
+    [4, 7, 6, 0, 0, 0],
+    [5, 7, 6, 0, 0, 0],
+    [4, 8, 0, 0, 0, 0],
+    [4, 9, 0, 8, 0, 0],
+    [4, 10, 6, 0, 0, 7],
+    // Thread 2: records 11 to 13.
+    [4, 11, 0, 0, 0, 0],
+    [4, 12, 0, 11, 0, 0],
+    [5, 12, 0, 0, 0, 0],
+    [4, 13, 0, 11, 0, 0],
+];

@@ -1,0 +1,191 @@
+//! What the constraints say of an assignment.
+
+use super::case::{Case, Name, Record, ASSERT, ASSUME, INPUT, LOAD, LOCK, UNLOCK};
+use super::encode::{is_copy, Row};
+use super::wrong::Wrong;
+
+/// An assignment to the variables of a case.
+pub struct Assigned<'a> {
+    pub case: &'a Case,
+    pub numbers: &'a [u16],
+}
+
+impl Assigned<'_> {
+    /// The first failed constraint, counted from 1; none if all are met.
+    pub fn first_failed(&self, rows: &[Row]) -> Option<u16> {
+        let mut order: Vec<usize> = (0..rows.len()).collect();
+        if self.case.wrong == Wrong::ValuesBeforeBlocks {
+            order.sort_by_key(|&index| rows[index][0] <= 3);
+        }
+        let failed = order.into_iter().find(|&index| !self.holds(rows[index]))?;
+        Some(failed as u16 + 1)
+    }
+
+    /// Whether one constraint holds.
+    fn holds(&self, row: Row) -> bool {
+        let [kind, line, ..] = row;
+        match kind {
+            // "the block number does not fall"
+            1 => self.block(line) <= self.block(row[2]),
+            // "the block number is at most n"
+            2 => self.block(line) <= row[2],
+            // "the block number modulo T is the thread"
+            3 => self.block(line) % row[2] == row[3],
+            4 => self.value_is_kept(row),
+            5 => self.demand_is_met(row),
+            6 => self.block_value_is_kept(row),
+            // "some assert has value 0"
+            _ => self.some_assert_is_zero(),
+        }
+    }
+
+    /// "Record k has variable 2(k − 1), its block number".
+    pub fn block(&self, line: u16) -> u16 {
+        self.numbers[2 * (usize::from(line) - 1)]
+    }
+
+    /// "and 2(k − 1) + 1, its value".
+    pub fn value(&self, line: u16) -> u16 {
+        self.numbers[2 * (usize::from(line) - 1) + 1]
+    }
+
+    /// "block i (0 ≤ i < n), item g at 2R + i × (G + M) + g". No other block is
+    /// asked for once the 1s and 2s are met; a mistaken order that asks all
+    /// the same gets 0.
+    fn block_value(&self, block: usize, item: usize) -> u16 {
+        let first = 2 * self.case.records.len();
+        let variable = first + block * self.case.items() + item;
+        self.numbers.get(variable).copied().unwrap_or(0)
+    }
+
+    /// The item's value when a block begins: "the block value of g at k's
+    /// block less one, or its initial value when k is in block 0".
+    fn value_before(&self, block: usize, item: usize) -> u16 {
+        match block {
+            0 => self.case.initial_value(item),
+            _ => self.block_value(block - 1, item),
+        }
+    }
+
+    /// A local's value by its copy; "a local without copy has 0".
+    fn local(&self, copy: u16) -> u16 {
+        if copy == 0 {
+            0
+        } else {
+            self.value(copy)
+        }
+    }
+
+    pub fn guard_is_true(&self, record: &Record, guard_copy: u16) -> bool {
+        record.guard_is_true(self.local(guard_copy))
+    }
+
+    /// "Reading item g at line k with copy p: if p is not 0 and has k's block
+    /// number, p's value; otherwise the block value".
+    fn item_read(&self, item: usize, line: u16, copy: u16) -> u16 {
+        let any_block = self.case.wrong == Wrong::CopyFromEarlierBlock;
+        if copy != 0 && (any_block || self.block(copy) == self.block(line)) {
+            self.value(copy)
+        } else {
+            self.value_before(usize::from(self.block(line)), item)
+        }
+    }
+
+    fn name_read(&self, name: Name, line: u16, copy: u16) -> u16 {
+        match self.case.item_number(name) {
+            None => self.local(copy),
+            Some(item) => self.item_read(item, line, copy),
+        }
+    }
+
+    fn value_is_kept(&self, row: Row) -> bool {
+        let [_, line, guard_copy, ..] = row;
+        let record = self.case.record(line);
+        let guarded_in = self.guard_is_true(record, guard_copy);
+        if guarded_in && record.kind == INPUT {
+            // "an input is free"
+            return true;
+        }
+        let wanted = if guarded_in {
+            self.value_if_guard_is_true(record, row)
+        } else {
+            self.value_if_guard_is_false(record, row)
+        };
+        self.value(line) == wanted
+    }
+
+    /// "Guard true: the expression; for a load, the item read with the a copy;
+    /// 1 for lock, 0 for unlock; assert and assume give 1 if the expression is
+    /// not zero, else 0".
+    fn value_if_guard_is_true(&self, record: &Record, row: Row) -> u16 {
+        let [_, line, _, a_copy, b_copy, _] = row;
+        match record.kind {
+            LOAD => self.item_read(usize::from(record.a), line, a_copy),
+            LOCK => 1,
+            UNLOCK => 0,
+            ASSERT | ASSUME => u16::from(self.expression(record, a_copy, b_copy) != 0),
+            _ => self.expression(record, a_copy, b_copy),
+        }
+    }
+
+    /// "Guard false: the target's old value (a local without copy has 0, an
+    /// item is read), and 1 for assert and assume."
+    fn value_if_guard_is_false(&self, record: &Record, row: Row) -> u16 {
+        let [_, line, _, _, _, target_copy] = row;
+        match record.target_name() {
+            Some(name) => self.name_read(name, line, target_copy),
+            None => 1,
+        }
+    }
+
+    fn expression(&self, record: &Record, a_copy: u16, b_copy: u16) -> u16 {
+        let operand = |operand: u16, copy: u16| match operand {
+            16 => record.c,
+            _ => self.local(copy),
+        };
+        record.expression(operand(record.a, a_copy), operand(record.b, b_copy))
+    }
+
+    /// "an assume's value is 1 (both copies then 0); a lock whose guard is
+    /// true reads 0".
+    fn demand_is_met(&self, row: Row) -> bool {
+        let [_, line, guard_copy, target_copy, ..] = row;
+        let record = self.case.record(line);
+        if record.kind == ASSUME {
+            return self.value(line) == 1;
+        }
+        let mutex = Name::Mutex(record.target);
+        !self.guard_is_true(record, guard_copy) || self.name_read(mutex, line, target_copy) == 0
+    }
+
+    /// "walking back over that thread's copies of the item, the block value is
+    /// that of the first with block number i; if none, the block value at
+    /// i − 1, or the initial one for i = 0".
+    fn block_value_is_kept(&self, row: Row) -> bool {
+        let [_, item, block, last_copy, ..] = row;
+        let (item, block) = (usize::from(item), usize::from(block));
+        let wanted = match self.deciding_copy(item, block, last_copy) {
+            Some(copy) => self.value(copy),
+            None => self.value_before(block, item),
+        };
+        self.block_value(block, item) == wanted
+    }
+
+    fn deciding_copy(&self, item: usize, block: usize, last_copy: u16) -> Option<u16> {
+        let name = self.case.item_name(item);
+        let chain = &self.case.chains[self.case.thread_of_block(block)];
+        let end = chain.iter().position(|&line| line == last_copy)? + 1;
+        let lines_back = chain[..end].iter().rev().copied();
+        let mut copies_back = lines_back.filter(|&line| is_copy(self.case, line, name));
+        let is_here = |copy: &u16| usize::from(self.block(*copy)) == block;
+        if self.case.wrong == Wrong::NoWalkBack {
+            return copies_back.next().filter(is_here);
+        }
+        copies_back.find(is_here)
+    }
+
+    fn some_assert_is_zero(&self) -> bool {
+        let mut lines = self.case.chains.iter().flatten();
+        lines.any(|&line| self.case.record(line).kind == ASSERT && self.value(line) == 0)
+    }
+}

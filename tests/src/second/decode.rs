@@ -1,0 +1,47 @@
+//! The schedule that an assignment stands for.
+
+use super::check::Assigned;
+use super::encode::Row;
+use super::wrong::Wrong;
+
+/// The block lengths, then the input values "by thread and then by chain".
+pub fn schedule(assigned: &Assigned, rows: &[Row]) -> Vec<u16> {
+    let case = assigned.case;
+    let blocks = 0..=case.switches;
+    let mut schedule: Vec<u16> = blocks.map(|block| block_length(assigned, block)).collect();
+    schedule.extend(
+        case.inputs()
+            .iter()
+            .map(|&line| input_value(assigned, rows, line)),
+    );
+    schedule
+}
+
+/// "the length of block i is the number of lines of thread i modulo T whose
+/// block number is i"
+fn block_length(assigned: &Assigned, block: usize) -> u16 {
+    let case = assigned.case;
+    let lines = case.chains[case.thread_of_block(block)].iter();
+    lines
+        .filter(|&&line| usize::from(assigned.block(line)) == block)
+        .count() as u16
+}
+
+/// "a run input line with a true guard has its variable's value, any other
+/// input line 0"
+fn input_value(assigned: &Assigned, rows: &[Row], line: u16) -> u16 {
+    let record = assigned.case.record(line);
+    let guarded_in = assigned.guard_is_true(record, guard_copy(rows, line));
+    if guarded_in || assigned.case.wrong == Wrong::FalseInputKept {
+        assigned.value(line)
+    } else {
+        0
+    }
+}
+
+/// The guard copy stands in the line's 4.
+fn guard_copy(rows: &[Row], line: u16) -> u16 {
+    let mut rows = rows.iter();
+    rows.find(|row| row[0] == 4 && row[1] == line)
+        .map_or(0, |row| row[2])
+}

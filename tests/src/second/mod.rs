@@ -1,0 +1,210 @@
+//! The second implementation: accept, encode, check, decode and replay,
+//! written from document 01 alone and kept as plain as can be.
+
+mod case;
+mod check;
+mod decode;
+mod encode;
+mod read;
+mod replay;
+mod wrong;
+
+pub use wrong::Wrong;
+
+use crate::calls::{Calls, Checked, Decoded, Encoded, Refusal, Replayed, Verdict};
+use case::Case;
+use check::Assigned;
+use read::{read, refusal};
+use replay::{Machine, Stop};
+
+/// The second implementation, with at most one deliberate mistake.
+pub struct Second {
+    pub wrong: Wrong,
+}
+
+/// The second implementation as it should be.
+pub const RIGHT: Second = Second {
+    wrong: Wrong::Nothing,
+};
+
+pub fn accept(case: &[u8]) -> Verdict {
+    RIGHT.accept(case)
+}
+
+pub fn encode(case: &[u8], table: &mut [u16]) -> Encoded {
+    RIGHT.encode(case, table)
+}
+
+pub fn check(case: &[u8], assignment: &[u16]) -> Checked {
+    RIGHT.check(case, assignment)
+}
+
+pub fn decode(case: &[u8], assignment: &[u16], schedule: &mut [u16]) -> Decoded {
+    RIGHT.decode(case, assignment, schedule)
+}
+
+pub fn replay(case: &[u8], schedule: &[u16], items: &mut [u16]) -> Replayed {
+    RIGHT.replay(case, schedule, items)
+}
+
+impl Calls for Second {
+    fn accept(&self, case: &[u8]) -> Verdict {
+        read(case, self.wrong).map_or_else(Verdict::from, |_| Verdict::Accepted)
+    }
+
+    fn encode(&self, case: &[u8], table: &mut [u16]) -> Encoded {
+        self.try_encode(case, table).unwrap_or_else(Encoded::from)
+    }
+
+    fn check(&self, case: &[u8], assignment: &[u16]) -> Checked {
+        self.try_check(case, assignment)
+            .unwrap_or_else(Checked::from)
+    }
+
+    fn decode(&self, case: &[u8], assignment: &[u16], schedule: &mut [u16]) -> Decoded {
+        self.try_decode(case, assignment, schedule)
+            .unwrap_or_else(Decoded::from)
+    }
+
+    fn replay(&self, case: &[u8], schedule: &[u16], items: &mut [u16]) -> Replayed {
+        self.try_replay(case, schedule, items)
+            .unwrap_or_else(Replayed::from)
+    }
+}
+
+impl Second {
+    fn try_encode(&self, bytes: &[u8], table: &mut [u16]) -> Result<Encoded, Refusal> {
+        let case = read(bytes, self.wrong)?;
+        let rows = encode::rows(&case);
+        room_for(6 * rows.len(), table)?;
+        self.write(&rows.concat(), table);
+        Ok(Encoded::Table {
+            constraints: rows.len() as u16,
+            variables: case.variables() as u16,
+        })
+    }
+
+    fn try_check(&self, bytes: &[u8], assignment: &[u16]) -> Result<Checked, Refusal> {
+        let case = read(bytes, self.wrong)?;
+        fits_variables(&case, assignment)?;
+        let assigned = Assigned {
+            case: &case,
+            numbers: assignment,
+        };
+        let failed = assigned.first_failed(&encode::rows(&case));
+        Ok(failed.map_or(Checked::Meets, Checked::Fails))
+    }
+
+    fn try_decode(
+        &self,
+        bytes: &[u8],
+        assignment: &[u16],
+        schedule: &mut [u16],
+    ) -> Result<Decoded, Refusal> {
+        let case = read(bytes, self.wrong)?;
+        if self.wrong == Wrong::LengthBeforeRoom {
+            fits_variables(&case, assignment)?;
+        }
+        room_for(case.schedule_numbers(), schedule)?;
+        fits_variables(&case, assignment)?;
+        let rows = encode::rows(&case);
+        let assigned = Assigned {
+            case: &case,
+            numbers: assignment,
+        };
+        if let Some(place) = assigned.first_failed(&rows) {
+            return Err(Refusal { number: 15, place });
+        }
+        let decoded = decode::schedule(&assigned, &rows);
+        self.write(&decoded, schedule);
+        Ok(Decoded::Schedule {
+            numbers: decoded.len() as u16,
+        })
+    }
+
+    fn try_replay(
+        &self,
+        bytes: &[u8],
+        schedule: &[u16],
+        items: &mut [u16],
+    ) -> Result<Replayed, Refusal> {
+        let case = read(bytes, self.wrong)?;
+        room_for(case.items(), items)?;
+        fits_blocks_and_inputs(&case, schedule)?;
+        block_lengths_add_up(&case, schedule)?;
+        let mut machine = Machine::new(&case, schedule);
+        let stop = machine.run();
+        if let Some(Stop::FalseInput(place)) = stop {
+            if self.wrong == Wrong::WritesThoughRefused {
+                self.write(&machine.items(), items);
+            }
+            return Err(Refusal { number: 14, place });
+        }
+        self.write(&machine.items(), items);
+        Ok(self.answer(stop, machine.zero_assert))
+    }
+
+    /// "After a zero assert it goes on; a later cut-off is then the reply."
+    fn answer(&self, stop: Option<Stop>, zero_assert: Option<u16>) -> Replayed {
+        let assert_decides = self.wrong == Wrong::ViolatedThoughCutOff;
+        match (stop, zero_assert) {
+            (_, Some(line)) if assert_decides => Replayed::Violated(line),
+            (Some(Stop::CutOff(line)), _) => Replayed::CutOff(line),
+            (_, Some(line)) => Replayed::Violated(line),
+            (_, None) => Replayed::Clean,
+        }
+    }
+
+    /// "An output slice is written from its start; numbers beyond the result
+    /// keep their values."
+    fn write(&self, result: &[u16], output: &mut [u16]) {
+        let (start, tail) = output.split_at_mut(result.len());
+        start.copy_from_slice(result);
+        if self.wrong == Wrong::ClearsTheTail {
+            tail.fill(0);
+        }
+    }
+}
+
+/// "10. An output slice is shorter than what would be written", measured
+/// against what would be written if nothing else refused.
+fn room_for(numbers: usize, output: &[u16]) -> Result<(), Refusal> {
+    if output.len() < numbers {
+        return Err(refusal(10));
+    }
+    Ok(())
+}
+
+/// "11. The assignment does not have exactly 2R + n × (G + M) numbers."
+fn fits_variables(case: &Case, assignment: &[u16]) -> Result<(), Refusal> {
+    if assignment.len() != case.variables() {
+        return Err(refusal(11));
+    }
+    Ok(())
+}
+
+/// "12. The schedule does not have exactly n + 1 numbers and one for each
+/// input line."
+fn fits_blocks_and_inputs(case: &Case, schedule: &[u16]) -> Result<(), Refusal> {
+    if schedule.len() != case.schedule_numbers() {
+        return Err(refusal(12));
+    }
+    Ok(())
+}
+
+/// "13. The block lengths of some thread do not add up to its lines." The sum
+/// is a number as on paper: it does not wrap at 65,536.
+fn block_lengths_add_up(case: &Case, schedule: &[u16]) -> Result<(), Refusal> {
+    let mut sums = vec![0u32; case.threads];
+    for block in 0..=case.switches {
+        sums[case.thread_of_block(block)] += u32::from(schedule[block]);
+    }
+    if case.wrong == Wrong::LengthsWrap {
+        sums.iter_mut().for_each(|sum| *sum %= 65_536);
+    }
+    let lines = case.chains.iter().map(|chain| chain.len() as u32);
+    if !lines.eq(sums) {
+        return Err(refusal(13));
+    }
+    Ok(())
+}

@@ -1,0 +1,151 @@
+//! "The run of a schedule is what this machine does. It is fed the case and
+//! the schedule and knows nothing else."
+
+use super::case::{Case, Record, ASSERT, ASSUME, COMPUTE, INPUT, LOAD, LOCK, STORE, UNLOCK};
+use super::wrong::Wrong;
+
+/// What ends a run before its last step.
+#[derive(Clone, Copy)]
+pub enum Stop {
+    /// "an assume that is zero or a lock whose mutex is not 0 ends the run"
+    CutOff(u16),
+    /// "an input's schedule value must be 0 (else refusal 14)"
+    FalseInput(u16),
+}
+
+/// "It holds for each thread its next line, at first the thread's first
+/// record, and 16 locals at 0".
+struct Thread {
+    next_line: u16,
+    locals: [u16; 16],
+}
+
+pub struct Machine<'a> {
+    case: &'a Case,
+    schedule: &'a [u16],
+    threads: Vec<Thread>,
+    /// "globals are at their initial values and mutexes at 0"
+    globals: Vec<u16>,
+    mutexes: Vec<u16>,
+    /// "the first zero assert in running order"
+    pub zero_assert: Option<u16>,
+}
+
+impl<'a> Machine<'a> {
+    pub fn new(case: &'a Case, schedule: &'a [u16]) -> Self {
+        let firsts = &case.firsts[..case.threads];
+        let at_start = |&first: &u16| Thread {
+            next_line: first,
+            locals: [0; 16],
+        };
+        Machine {
+            case,
+            schedule,
+            threads: firsts.iter().map(at_start).collect(),
+            globals: case.initial[..case.globals].to_vec(),
+            mutexes: vec![0; case.mutexes],
+            zero_assert: None,
+        }
+    }
+
+    /// "For i from 0 to n it steps the thread of block i as often as the
+    /// length of block i says".
+    pub fn run(&mut self) -> Option<Stop> {
+        for block in 0..=self.case.switches {
+            for _ in 0..self.schedule[block] {
+                let stop = self.step(self.case.thread_of_block(block));
+                if stop.is_some() {
+                    return stop;
+                }
+            }
+        }
+        None
+    }
+
+    /// The items' values, "globals first, then mutexes".
+    pub fn items(&self) -> Vec<u16> {
+        [self.globals.as_slice(), self.mutexes.as_slice()].concat()
+    }
+
+    /// "A step takes the thread's next line."
+    fn step(&mut self, thread: usize) -> Option<Stop> {
+        let case = self.case;
+        let line = self.threads[thread].next_line;
+        if line == 0 {
+            // "no thread has more steps than lines", unless sums are mistaken
+            return None;
+        }
+        let record = case.record(line);
+        let stop = if self.guard_is_true(thread, record) {
+            self.run_line(thread, line, record)
+        } else {
+            self.pass_line(line, record)
+        };
+        if stop.is_none() {
+            // "After any other step the record that follows becomes the next
+            // line."
+            self.threads[thread].next_line = record.next;
+        }
+        stop
+    }
+
+    fn guard_is_true(&self, thread: usize, record: &Record) -> bool {
+        let local = record.guard_local().unwrap_or(0);
+        record.guard_is_true(self.threads[thread].locals[usize::from(local)])
+    }
+
+    /// "Guard false: no local, global or mutex changes, and an input's
+    /// schedule value must be 0".
+    fn pass_line(&self, line: u16, record: &Record) -> Option<Stop> {
+        let refused = record.kind == INPUT && self.input_value(line) != 0;
+        refused.then_some(Stop::FalseInput(line))
+    }
+
+    /// "Guard true: compute, store, load, lock and unlock do what Kinds says,
+    /// an input puts its schedule value in its target, an assert that is zero
+    /// is noted and changes nothing."
+    fn run_line(&mut self, thread: usize, line: u16, record: &Record) -> Option<Stop> {
+        let target = usize::from(record.target);
+        let expression = self.expression(thread, record);
+        match record.kind {
+            COMPUTE => self.threads[thread].locals[target] = expression,
+            STORE => self.globals[target] = expression,
+            LOAD => self.threads[thread].locals[target] = self.globals[usize::from(record.a)],
+            INPUT => self.threads[thread].locals[target] = self.input_value(line),
+            ASSERT if expression == 0 => {
+                self.zero_assert.get_or_insert(line);
+            }
+            ASSUME if expression == 0 => return self.cut_off(line),
+            LOCK if self.mutexes[target] != 0 => return Some(Stop::CutOff(line)),
+            LOCK => self.mutexes[target] = 1,
+            UNLOCK => self.mutexes[target] = 0,
+            _ => {}
+        }
+        None
+    }
+
+    fn cut_off(&self, line: u16) -> Option<Stop> {
+        (self.case.wrong != Wrong::GoesOnAfterAssume).then_some(Stop::CutOff(line))
+    }
+
+    /// The line's expression; 0 for a kind that has none, where it is not
+    /// looked at.
+    fn expression(&self, thread: usize, record: &Record) -> u16 {
+        if !record.has_expression() {
+            return 0;
+        }
+        let operand = |operand: u16| match operand {
+            16 => record.c,
+            local => self.threads[thread].locals[usize::from(local)],
+        };
+        record.expression(operand(record.a), operand(record.b))
+    }
+
+    /// The schedule has "one value for each input line, by thread and then by
+    /// chain", after the n + 1 block lengths.
+    fn input_value(&self, line: u16) -> u16 {
+        let inputs = self.case.inputs();
+        let place = inputs.iter().position(|&input| input == line);
+        self.schedule[self.case.switches + 1 + place.expect("the line is an input")]
+    }
+}

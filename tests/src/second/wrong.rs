@@ -1,0 +1,39 @@
+//! Deliberate mistakes, each of which the tests must find.
+//!
+//! The switch travels with the case that was read, so that each rule can look
+//! at it in one short line. `Wrong::Nothing` is the second implementation.
+
+#[derive(Clone, Copy, Debug, PartialEq, Eq)]
+pub enum Wrong {
+    Nothing,
+    /// Acceptance looks at next numbers only along the chains.
+    StrayNextUnseen,
+    /// The encoder leaves out the last 6.
+    DropsA6,
+    /// All 5s stand after all 4s.
+    FivesLast,
+    /// A store with a guard is not taken as a copy.
+    GuardedStoreIsNoCopy,
+    /// Thread 1 gets block 0 when thread 0 has no lines.
+    EmptyThreadPassedOver,
+    /// An item is read from the latest copy, whatever its block.
+    CopyFromEarlierBlock,
+    /// A 6 looks at the last copy alone.
+    NoWalkBack,
+    /// Values are tested before block numbers.
+    ValuesBeforeBlocks,
+    /// The decoder hands on the variable of an input whose guard is false.
+    FalseInputKept,
+    /// The replayer goes on after a failed assume.
+    GoesOnAfterAssume,
+    /// A zero assert is the reply, whatever cuts the run off later.
+    ViolatedThoughCutOff,
+    /// Block lengths are added modulo 65,536.
+    LengthsWrap,
+    /// Lengths of what is read are tested before the room for what is written.
+    LengthBeforeRoom,
+    /// A run that refusal 14 ends still writes the items.
+    WritesThoughRefused,
+    /// Numbers beyond the result are set to 0.
+    ClearsTheTail,
+}

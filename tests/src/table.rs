@@ -1,0 +1,85 @@
+//! A table of constraints as the encoder under test wrote it.
+
+use crate::calls::{Calls, Encoded};
+use crate::draft::Draft;
+
+pub type Row = [u16; 6];
+
+/// More numbers than any table has: 1,205 constraints is the most.
+pub const MOST_NUMBERS: usize = 6 * 1_205;
+
+pub struct Table {
+    pub rows: Vec<Row>,
+    pub variables: usize,
+}
+
+/// Asks for the table of an accepted case.
+pub fn table_of(calls: &dyn Calls, case: &[u8]) -> Result<Table, String> {
+    let mut numbers = vec![0; MOST_NUMBERS];
+    match calls.encode(case, &mut numbers) {
+        Encoded::Table {
+            constraints,
+            variables,
+        } => {
+            let rows = numbers.chunks_exact(6).take(usize::from(constraints));
+            let rows = rows
+                .map(|row| row.try_into().expect("six numbers"))
+                .collect();
+            Ok(Table {
+                rows,
+                variables: usize::from(variables),
+            })
+        }
+        refused => Err(format!("an accepted case was not encoded: {refused:?}")),
+    }
+}
+
+impl Table {
+    /// The 4 of a line.
+    pub fn value_row(&self, line: u16) -> Result<Row, String> {
+        let mut rows = self.rows.iter();
+        let row = rows.find(|row| row[0] == 4 && row[1] == line);
+        row.copied().ok_or_else(|| format!("line {line} has no 4"))
+    }
+
+    /// The copies of an item that a 6 looks at, from the last one back. The
+    /// copy before a copy is the target copy in its 4.
+    pub fn copies_back(&self, last_copy: u16) -> Result<Vec<u16>, String> {
+        let mut copies = Vec::new();
+        let mut copy = last_copy;
+        while copy != 0 {
+            if copies.contains(&copy) {
+                return Err(format!("the copies before {last_copy} go in a circle"));
+            }
+            copies.push(copy);
+            copy = self.value_row(copy)?[5];
+        }
+        Ok(copies)
+    }
+
+    /// What the listing program prints for it: "the count of constraints and
+    /// of variables, then one constraint a line".
+    pub fn listing(&self) -> String {
+        let mut text = format!("{} {}\n", self.rows.len(), self.variables);
+        for row in &self.rows {
+            let numbers: Vec<String> = row.iter().map(u16::to_string).collect();
+            text.push_str(&numbers.join(" "));
+            text.push('\n');
+        }
+        text
+    }
+}
+
+/// What the listing program prints for any file; "For a refused case it prints
+/// the number and place on one line."
+pub fn listing_of(calls: &dyn Calls, case: &[u8]) -> Result<String, String> {
+    match calls.accept(case).refusal() {
+        Some(refusal) => Ok(format!("{} {}\n", refusal.number, refusal.place)),
+        None => Ok(table_of(calls, case)?.listing()),
+    }
+}
+
+/// Splits an assignment of the draft's variables into a readable form.
+pub fn variable_of_block_value(draft: &Draft, block: usize, item: usize) -> usize {
+    2 * draft.records.len() + block * draft.items() + item
+}

@@ -1,0 +1,100 @@
+//! Assignments and schedules of all sorts for a case: filled, random and
+//! damaged ones.
+
+use crate::draft::Draft;
+use crate::fill::fill;
+use crate::random::Random;
+
+/// A random schedule that refusals 12 and 13 do not meet; none if a thread has
+/// lines and no block. Input values are often 0, since a false guard wants 0.
+pub fn schedule(random: &mut Random, draft: &Draft) -> Option<Vec<u16>> {
+    let (threads, blocks) = (usize::from(draft.threads), draft.blocks());
+    let mut schedule = vec![0; blocks];
+    for (thread, chain) in draft.chains().iter().enumerate() {
+        if !chain.is_empty() && thread >= blocks {
+            return None;
+        }
+        for _ in chain {
+            let turns = (blocks - thread).div_ceil(threads);
+            schedule[thread + threads * random.below(turns)] += 1;
+        }
+    }
+    let only_zeros = random.chance(40);
+    let inputs = draft.inputs().len();
+    schedule.extend((0..inputs).map(|_| if only_zeros { 0 } else { random.word() }));
+    Some(schedule)
+}
+
+/// A random schedule of the right length, also where no sums can be right.
+pub fn schedule_or_zeros(random: &mut Random, draft: &Draft) -> Vec<u16> {
+    schedule(random, draft).unwrap_or(vec![0; draft.schedule_numbers()])
+}
+
+/// A schedule with another length, other sums, or sums that are right only
+/// modulo 65,536.
+pub fn damage_schedule(random: &mut Random, draft: &Draft, schedule: &mut Vec<u16>) {
+    let (blocks, threads) = (draft.blocks(), usize::from(draft.threads));
+    match random.below(4) {
+        0 => schedule.truncate(random.below(schedule.len())),
+        1 => schedule.push(random.word()),
+        2 => schedule[random.below(blocks)] = random.word(),
+        _ if blocks > threads => {
+            let block = random.below(blocks - threads);
+            schedule[block] += 30_000;
+            schedule[block + threads] += 35_536;
+        }
+        _ => schedule[0] += 1,
+    }
+}
+
+/// The filled assignment of a random schedule, or zeros if there is none.
+pub fn filled(random: &mut Random, draft: &Draft) -> Vec<u16> {
+    match schedule(random, draft) {
+        Some(schedule) => fill(draft, &schedule),
+        None => vec![0; draft.variables()],
+    }
+}
+
+/// Assignments of all sorts for one case.
+pub fn assignments(random: &mut Random, draft: &Draft) -> Vec<Vec<u16>> {
+    let mut all = vec![random.words(draft.variables())];
+    for _ in 0..8 {
+        let filled = filled(random, draft);
+        all.push(damaged_assignment(random, draft, &filled));
+        all.push(filled);
+    }
+    let other_length = random.below(2 * draft.variables() + 2);
+    all.push(random.words(other_length));
+    all
+}
+
+/// The assignment with one or two numbers changed, mostly by little.
+fn damaged_assignment(random: &mut Random, draft: &Draft, numbers: &[u16]) -> Vec<u16> {
+    let mut numbers = numbers.to_vec();
+    if numbers.is_empty() {
+        return numbers;
+    }
+    let (switches, threads) = (draft.switches, draft.threads);
+    for _ in 0..random.between(1, 2) {
+        let place = random.below(numbers.len());
+        numbers[place] = match random.below(6) {
+            0 => numbers[place].wrapping_add(1),
+            1 => numbers[place].wrapping_add(threads),
+            2 => numbers[place].wrapping_sub(threads),
+            3 => switches + random.between(0, threads),
+            4 => random.pick(&[0, 1, 65_534, 65_535]),
+            _ => random.word(),
+        };
+    }
+    numbers
+}
+
+/// Room for a result: mostly enough, at times too little or some to spare.
+pub fn some_room(random: &mut Random, needed: usize) -> usize {
+    match random.below(10) {
+        0 => needed.saturating_sub(1),
+        1 => random.below(needed + 1),
+        2..=5 => needed + 1 + random.below(3),
+        _ => needed,
+    }
+}
