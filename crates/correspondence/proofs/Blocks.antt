@@ -19,10 +19,7 @@ use Rattle.model.specs.Schedule.{linesInBlock}
 use Rattle.correspondence.specs.Meaning.{AllThreads, WellFormed, Ordered, Counted}
 use Rattle.correspondence.specs.Trace.{MayBeLeft}
 use Rattle.correspondence.proofs.AllLines.{all-threads, each-thread}
-use Rattle.correspondence.proofs.Order.{runMore, runMore-and-rest, RunBefore, NextIn, run-before-weakened}
-use Rattle.correspondence.proofs.Order.{run-before-has-none, run-before-after-block, linesInBlock-of-reverse, ordered-weakened}
-use Rattle.correspondence.proofs.Order.{ordered-past-other-thread, ordered-end-is-left, left-is-ordered, counted-block-is-next}
-use Rattle.correspondence.proofs.Order.{next-is-ordered, next-is-counted}
+use Rattle.correspondence.proofs.Order.{runMore, runMore-and-rest, RunBefore, NextIn, run-before-weakened, run-before-has-none, run-before-after-block, linesInBlock-of-reverse, ordered-weakened, ordered-past-other-thread, ordered-end-is-left, left-is-ordered, counted-block-is-next, next-is-ordered, next-is-counted}
 
 -- A function changed at one number.
 unfoldable pub changed : {A : Type 0} → (ℕ → A) → ℕ → A → ℕ → A

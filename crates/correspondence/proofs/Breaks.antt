@@ -20,8 +20,7 @@ use Rattle.correspondence.proofs.AllLines.{each-thread}
 use Rattle.correspondence.proofs.Order.{runMore, NextIn}
 use Rattle.correspondence.proofs.Block.{BlockRuns, same-readers}
 use Rattle.correspondence.proofs.Blocks.{changed-same, changed-other, restsAfter, earlierAfter, BlocksNext, turn, own-rest-after, other-rest-after}
-use Rattle.correspondence.proofs.Values.{Invariant, BlocksRun, rest-positive, memory-fits, correspondence-at-block}
-use Rattle.correspondence.proofs.Values.{invariant-after-block}
+use Rattle.correspondence.proofs.Values.{Invariant, BlocksRun, rest-positive, memory-fits, correspondence-at-block, invariant-after-block}
 
 pub brokenIn-append : (es fs : List Event) → brokenIn (es ++ fs) ≡ brokenIn es + brokenIn fs
 brokenIn-append [] fs = sym (zero-add (brokenIn fs))

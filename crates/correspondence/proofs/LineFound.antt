@@ -9,7 +9,7 @@ use borrow.Author.Tests.{eq-eqb}
 use Rattle.model.specs.CaseFile.{Line, Case, linesOf, sumOfLines, sumOfThreads, hasNumber, findLine, findThread, lineAt}
 use Rattle.laws.proofs.Counting.{own-number-counts, number-is-other}
 use Rattle.laws.proofs.Lines.{find-nothing}
-use Rattle.correspondence.specs.Meaning.{AllLines, WellFormed}
+use Rattle.correspondence.specs.Meaning.{AllLines}
 use Rattle.correspondence.proofs.AllLines.{all-lines-map}
 
 find-passes-one : (k : ℕ) (l : Line) (ls : List Line) (other : Line) → hasNumber k l ≡ 0 → findLine k (l ∷ ls) other ≡ findLine k ls other
@@ -48,7 +48,8 @@ found-in-threads (ls ∷ threads) once (suc t) =
     (λ l h. (find-nothing (l .number) ls (findThread (l .number) threads) (omega (arith, once (l .number), h .1)) ∙ h .0, omega (arith, h .1)))
     (found-in-threads threads (λ k. omega (arith, once k)) t)
 
-pub line-found : (case : Case) → WellFormed case → (t : ℕ) → AllLines (λ l. lineAt case (l .number) ≡ l) (linesOf case t)
-line-found case wf t =
+pub line-found : (case : Case) → ((k : ℕ) → sumOfThreads (hasNumber k) (case .threads) ≤ 1) → (t : ℕ)
+    → AllLines (λ l. lineAt case (l .number) ≡ l) (linesOf case t)
+line-found case once t =
     all-lines-map (FoundAmong (case .threads)) (λ l. lineAt case (l .number) ≡ l) (linesOf case t) (λ l h. h .0)
-    (found-in-threads (case .threads) (wf .once) t)
+    (found-in-threads (case .threads) once t)

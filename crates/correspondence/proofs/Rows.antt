@@ -157,7 +157,7 @@ module _ (case : Case) (wf : WellFormed case) (α : Assignment) where
       let last = all-hold-split case α (blockRows case 0 (case .n)) (goalRow ∷ []) (later .1) in (
         record {
           order = λ t few. rw (zero-add t) at (order-of-all-rows case α 0 (case .threads) (after .0) t (omega (arith, wf .thread-count)));
-          lines = λ t few. lines-of-all-rows case (wf .few-items) α (case .threads) (line-found case wf) (later .0) t;
+          lines = λ t few. lines-of-all-rows case (wf .few-items) α (case .threads) (line-found case (wf .once)) (later .0) t;
           blocks = λ i few g some. blocks-of-rows case α 0 (case .n) (last .0) i (omega arith) (omega arith) g some;
         },
         count-of-goal (last .1 .0),
@@ -169,7 +169,7 @@ module _ (case : Case) (wf : WellFormed case) (α : Assignment) where
       all-hold-append case α (allOrderRows case 0 (case .threads)) _
       (all-rows-of-order case α 0 (case .threads) (λ t few. rw (zero-add t) (m .order t (omega (arith, wf .thread-count)))))
       (all-hold-append case α (allValueRows case (case .threads)) _
-      (all-rows-of-lines case (wf .few-items) α (case .threads) (line-found case wf) (λ t few. m .lines t (omega (arith, wf .thread-count))))
+      (all-rows-of-lines case (wf .few-items) α (case .threads) (line-found case (wf .once)) (λ t few. m .lines t (omega (arith, wf .thread-count))))
       (all-hold-append case α (blockRows case 0 (case .n)) (goalRow ∷ [])
       (rows-of-blocks case α 0 (case .n) (λ i few g some. m .blocks i (omega arith) g some))
       (goal-of-count h, tt)))

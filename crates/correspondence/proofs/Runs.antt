@@ -18,9 +18,7 @@ use Rattle.correspondence.specs.Fill.{tracedRun}
 use Rattle.correspondence.proofs.Blocks.{BlocksNext, blocks-of-order, order-of-blocks}
 use Rattle.correspondence.proofs.Values.{Invariant, BlocksRun, blocks-run, decoded-of-run}
 use Rattle.correspondence.proofs.Breaks.{run-breaks-alike}
-use Rattle.correspondence.proofs.Traces.{run-agrees, run-agrees-items, run-is-legal, agreed-run, sum-of-run, traced-agrees-with}
-use Rattle.correspondence.proofs.Traces.{traced-agrees-with-items, length-of-snapshots, agreeing-records-are-same}
-use Rattle.correspondence.proofs.Traces.{agreeing-blocks-are-same}
+use Rattle.correspondence.proofs.Traces.{run-agrees, run-agrees-items, run-is-legal, agreed-run, sum-of-run, traced-agrees-with, traced-agrees-with-items, length-of-snapshots, agreeing-records-are-same, agreeing-blocks-are-same}
 
 -- At the start no thread has run a line.
 abbrev pub noneRun : ℕ → List Line

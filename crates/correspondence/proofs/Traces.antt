@@ -14,8 +14,7 @@ use Rattle.model.specs.CaseFile.{Line, Case, itemCount, sumOfLines, sumOfThread
 use Rattle.model.specs.Machine.{Memory, State, stepped, restIn, memoryIn}
 use Rattle.model.specs.Assignment.{Assignment}
 use Rattle.correspondence.specs.Meaning.{AllLines, AllThreads, WellFormed}
-use Rattle.correspondence.specs.Trace.{Event, blockEvents, leftEvents, allLeftEvents, events, snapshots, nextState, sumOfEvents}
-use Rattle.correspondence.specs.Trace.{LegalBlock, Legal, MayBeLeft, Agrees, AgreesItems}
+use Rattle.correspondence.specs.Trace.{Event, blockEvents, leftEvents, allLeftEvents, events, snapshots, nextState, sumOfEvents, LegalBlock, Legal, MayBeLeft, Agrees, AgreesItems}
 use Rattle.correspondence.specs.Fill.{blockIn, valueIn, traced}
 use Rattle.correspondence.proofs.Order.{NextIn}
 use Rattle.correspondence.proofs.Block.{BlockRuns}

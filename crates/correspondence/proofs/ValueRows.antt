@@ -29,7 +29,7 @@ guard-same l r r' e = ap (λ (x : ℕ). cond (eqb (l .guard) 0) true (cond (ltb 
 
 module _ (case : Case) (few : localCount + itemCount case ≤ noName) (α : Assignment) where
   -- the copy that the table has for a name reads as the name
-  copy-reads : (i : ℕ) (earlier : List Line) (name : ℕ) → readName case α i name (copyOf (case .G) name earlier) ≡ readAfter case α i earlier name
+  pub copy-reads : (i : ℕ) (earlier : List Line) (name : ℕ) → readName case α i name (copyOf (case .G) name earlier) ≡ readAfter case α i earlier name
   unfolding copyOf readAfter
   copy-reads i earlier name = go (eq-view name noName)
     where
@@ -42,21 +42,24 @@ module _ (case : Case) (few : localCount + itemCount case ≤ noName) (α : Assi
       ≡ readsAfter case α earlier l
   row-reads earlier l = ap (λ (f : ℕ → ℕ). readsOf (case .G) f l (α .value (l .number))) (fun-ext (copy-reads (α .block (l .number)) earlier))
 
+  pub value-row-holds : (earlier : List Line) (l : Line) → lineAt case (l .number) ≡ l
+      → holds case α (valueRow case earlier l) ≡ eqb (α .value (l .number)) (valueOf l (readsAfter case α earlier l))
+  unfolding holds
+  value-row-holds earlier l found = rw found (ap (λ (reads : Reads). eqb (α .value (l .number)) (valueOf l reads)) (row-reads earlier l))
+
   value-of-row : (earlier : List Line) (l : Line) → lineAt case (l .number) ≡ l → holds case α (valueRow case earlier l) ≡ true
       → α .value (l .number) ≡ valueOf l (readsAfter case α earlier l)
-  unfolding holds
-  value-of-row earlier l found h = eqb-true _ _ (rw found at h) ∙ ap (valueOf l) (row-reads earlier l)
+  value-of-row earlier l found h = eqb-true _ _ (sym (value-row-holds earlier l found) ∙ h)
 
   row-of-value : (earlier : List Line) (l : Line) → lineAt case (l .number) ≡ l → α .value (l .number) ≡ valueOf l (readsAfter case α earlier l)
       → holds case α (valueRow case earlier l) ≡ true
-  unfolding holds
-  row-of-value earlier l found h = rw found (eq-eqb _ _ (h ∙ ap (valueOf l) (sym (row-reads earlier l))))
+  row-of-value earlier l found h = value-row-holds earlier l found ∙ eq-eqb _ _ h
 
   -- what constraint 5 reads of a lock
-  abbrev lockReads : List Line → Line → Reads
+  abbrev pub lockReads : List Line → Line → Reads
   lockReads earlier l = readsWith case α l (copyOf (case .G) (guardName l) earlier) 0 0 (copyOf (case .G) (targetName (case .G) l) earlier)
 
-  lock-guard : (earlier : List Line) (l : Line) → guardTrue l (lockReads earlier l) ≡ guardTrue l (readsAfter case α earlier l)
+  pub lock-guard : (earlier : List Line) (l : Line) → guardTrue l (lockReads earlier l) ≡ guardTrue l (readsAfter case α earlier l)
   lock-guard earlier l = guard-same l (lockReads earlier l) (readsAfter case α earlier l) (copy-reads (α .block (l .number)) earlier (guardName l))
 
   demand-of-rows : (kind : Kind) (earlier : List Line) (l : Line) → l .kind ≡ kind → lineAt case (l .number) ≡ l

@@ -22,11 +22,8 @@ use Rattle.correspondence.proofs.Step.{MemoryFits, Corresponds}
 use Rattle.correspondence.proofs.AllLines.{each-thread, all-earlier-and-rest}
 use Rattle.correspondence.proofs.Order.{runMore, RunBefore, NextIn}
 use Rattle.correspondence.proofs.Walk.{walkBack-past-later-blocks, walkBack-is-reading-latest, readItem-at-start}
-use Rattle.correspondence.proofs.Block.{BlockRuns, LinesDecoded, steps-fit, block-keeps-correspondence, decoded-block-runs}
-use Rattle.correspondence.proofs.Block.{block-that-runs-is-decoded}
-use Rattle.correspondence.proofs.Blocks.{each-after-change, of-changed-thread, of-other-thread, Place, place-after-block, restsAfter}
-use Rattle.correspondence.proofs.Blocks.{earlierAfter, BlocksNext, Places, turn, turn-in, rests-kept, places-after-block, ordered-after-block}
-use Rattle.correspondence.proofs.Blocks.{order-of-blocks}
+use Rattle.correspondence.proofs.Block.{BlockRuns, LinesDecoded, steps-fit, block-keeps-correspondence, decoded-block-runs, block-that-runs-is-decoded}
+use Rattle.correspondence.proofs.Blocks.{each-after-change, of-changed-thread, of-other-thread, Place, place-after-block, restsAfter, earlierAfter, BlocksNext, Places, turn, turn-in, rests-kept, places-after-block, ordered-after-block, order-of-blocks}
 
 reverse-of-reverseAux : (earlier ls later : List Line) → reverseAux (reverseAux earlier ls) later ≡ reverseAux ls (earlier ++ later)
 reverse-of-reverseAux [] ls later = refl

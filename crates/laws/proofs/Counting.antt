@@ -14,7 +14,7 @@ use Rattle.model.specs.CaseFile.{Line, sumOfLines, sumOfThreads, hasNumber}
 use Rattle.laws.proofs.Views.{EqView, same, diff, eq-view}
 
 -- f i + f (i + 1) + .. : so many numbers
-abbrev sumFrom : (ℕ → ℕ) → ℕ → ℕ → ℕ
+abbrev pub sumFrom : (ℕ → ℕ) → ℕ → ℕ → ℕ
 sumFrom f i zero = 0
 sumFrom f i (suc many) = f i + sumFrom f (suc i) many
 

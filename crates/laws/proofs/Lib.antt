@@ -10,3 +10,5 @@ pub mod Reached
 pub mod Accepted
 pub mod Lines
 pub mod Rules
+pub mod Following
+pub mod RecordSums
