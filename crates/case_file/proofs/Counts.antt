@@ -1,36 +1,27 @@
--- The counts that the code keeps are how often each record is reached.
+-- The counts that the code keeps are how often each record is reached, and their sum says whether each is.
 -- Assumes nothing.
 use mathlib.Core.Path.{_≡_, refl, sym, ap, _∙_}
 use mathlib.Core.Logic.{_≢_}
 use Prim.Native.Nat.{ℕ, zero, suc, _+_, _-_, _≤_, _<_}
-use mathlib.Core.Bool.{Bool, true, false, _&&_}
+use mathlib.Core.Bool.{true, false}
 use mathlib.Core.List.{List, [], _∷_}
 use native.Mathlib.Omega.{arith}
-use borrow.Author.Tests.{le-leb}
-use lib.Dec.{leb, eqb}
+use borrow.Author.Tests.{le-leb, leb-true}
+use lib.Dec.{eqb}
 use lib.ListN.{length, getD, set, replicate, length-set, length-replicate}
-use lib.Seq.{getD-set-same, getD-set-other, set-out}
+use lib.Seq.{getD-set-same, getD-set-other}
 use Rattle.model.specs.Word.{bit}
 use Rattle.model.specs.Limits.{mostRecords}
-use Rattle.model.specs.Lists.{allFrom}
-use Rattle.model.specs.CaseFile.{Line, records, threadCount, firstRecord, nextRecord, chain, chains, sumOfLines, sumOfThreads, hasNumber}
-use Rattle.model.specs.Accept.{timesReached}
-use Rattle.laws.specs.Accepted.{linesFrom}
-use Rattle.laws.proofs.Views.{EqView, same, diff, eq-view, LtView, below, above, lt-view}
-use Rattle.case_file.specs.Counts.{countLines, countThreads, reachedOf, between}
-use Rattle.case_file.proofs.Ranges.{all-of-same}
-use Rattle.case_file.proofs.Chains.{chain-of-none, chain-of-end, chain-of-record, chain-at-most, chains-go-on, chains-at-end}
+use Rattle.model.specs.CaseFile.{Line, records, threadCount, nextRecord, chain, chains, sumOfLines, sumOfThreads, hasNumber}
+use Rattle.model.specs.Accept.{timesReached, reachedOk}
+use Rattle.laws.proofs.Views.{EqView, same, diff, eq-view}
+use Rattle.case_file.specs.Passed.{onceOk}
+use Rattle.case_file.specs.Counts.{counted, countLines, countThreads, reachedOf, sumTo, Marks, Twice}
+use Rattle.case_file.proofs.Ranges.{all-of-each, unless-each}
+use Rattle.case_file.proofs.Chains.{chain-of-end, chain-of-record}
 
--- The counts with one more at k.
-abbrev counted : List ℕ → ℕ → List ℕ
-counted counts k = set counts k (getD counts k 0 + 1)
-
--- The loop along a chain.
+-- Along a chain.
 module _ (bytes counts : List ℕ) (most k : ℕ) where
-  pub count-at-none : most ≤ 0 → countLines counts (chain bytes 0 most k) ≡ counts
-  unfolding countLines
-  count-at-none h = rw (chain-of-none bytes 0 most k h)
-
   pub count-at-end : k ≡ 0 → countLines counts (chain bytes 0 most k) ≡ counts
   unfolding countLines
   count-at-end h = rw (chain-of-end bytes 0 most k h)
@@ -39,27 +30,12 @@ module _ (bytes counts : List ℕ) (most k : ℕ) where
   unfolding countLines
   count-goes-on h n = rw (chain-of-record bytes 0 most k h n)
 
--- One more at k: what held with `left` to come holds with one less.
-pub counted-within : (counts : List ℕ) (k left bound : ℕ) → 0 < left → ((j : ℕ) → getD counts j 0 + left ≤ bound) → (j : ℕ) → getD (counted counts k) j 0 + (left - 1) ≤ bound
-counted-within counts k left bound p h j = go (eq-view j k) (lt-view k (length counts))
-  where
-    go : EqView j k → LtView k (length counts) → getD (counted counts k) j 0 + (left - 1) ≤ bound
-    go (diff n q) w = rw (getD-set-other counts k j (getD counts k 0 + 1) 0 n) (omega (arith, h j))
-    go (same e q) (below l w) = rw (e, getD-set-same counts k (getD counts k 0 + 1) 0 l) (omega (arith, h k))
-    go (same e q) (above l w) = rw (set-out counts k (getD counts k 0 + 1) l) (omega (arith, h j))
-
-count-within : (counts : List ℕ) (ls : List Line) (bound : ℕ) → ((j : ℕ) → getD counts j 0 ≤ bound) → (j : ℕ) → getD (countLines counts ls) j 0 ≤ bound + length ls
-unfolding countLines
-count-within counts [] bound h j = omega (arith, h j)
-count-within counts (l ∷ ls) bound h j =
-    omega (arith, count-within (counted counts (l .number)) ls (bound + 1) (λ i. omega (arith, counted-within counts (l .number) 1 (bound + 1) (omega arith) (λ i'. omega (arith, h i')) i)) j)
-
 pub zeros-are-0 : (n j : ℕ) → getD (replicate n 0) j 0 ≤ 0
 zeros-are-0 zero j = omega arith
 zeros-are-0 (suc n) zero = omega arith
 zeros-are-0 (suc n) (suc j) = zeros-are-0 n j
 
-length-of-count : (counts : List ℕ) (ls : List Line) → length (countLines counts ls) ≡ length counts
+pub length-of-count : (counts : List ℕ) (ls : List Line) → length (countLines counts ls) ≡ length counts
 unfolding countLines
 length-of-count counts [] = refl
 length-of-count counts (l ∷ ls) = length-of-count (counted counts (l .number)) ls ∙ length-set counts (l .number) (getD counts (l .number) 0 + 1)
@@ -84,42 +60,86 @@ count-of-threads counts [] j h = omega arith
 count-of-threads counts (ls ∷ threads) j h =
     omega (arith, count-of-threads (countLines counts ls) threads j (omega (arith, length-of-count counts ls)), count-of-lines counts ls j h)
 
--- The counts of all threads, from 0, for checks 6 and 7.
-module _ (bytes counts : List ℕ) (few : records bytes ≤ mostRecords) (e : counts ≡ reachedOf bytes) where
-  count-is-reached : (j : ℕ) → j < mostRecords + 1 → getD counts j 0 ≡ timesReached bytes j
-  count-is-reached j h =
-      rw e (omega (arith, count-of-threads (replicate (mostRecords + 1) 0) (chains bytes 0 (threadCount bytes)) j (omega (arith, length-replicate {A = ℕ} (mostRecords + 1) 0)), zeros-are-0 (mostRecords + 1) j))
+-- No count falls.
+pub count-grows : (counts : List ℕ) (ls : List Line) (j : ℕ) → j < length counts → getD counts j 0 ≤ getD (countLines counts ls) j 0
+count-grows counts ls j h = omega (arith, count-of-lines counts ls j h)
 
-  pub counts-of-6 : allFrom (between counts 0 1) 1 (records bytes) ≡ allFrom (λ k. leb (timesReached bytes k) 1) 1 (records bytes)
-  counts-of-6 = all-of-same _ _ 1 (records bytes) (λ j a b. rw (count-is-reached j (omega arith), le-leb 0 (timesReached bytes j) (omega arith)))
-
-  pub counts-of-7 : ((j : ℕ) → getD counts j 0 ≤ 65535) → allFrom (between counts 1 65535) 1 (records bytes) ≡ allFrom (λ k. leb 1 (timesReached bytes k)) 1 (records bytes)
-  counts-of-7 small =
-      all-of-same _ _ 1 (records bytes)
-      (λ j a b. rw (le-leb (getD counts j 0) 65535 (small j)) (and-one (leb 1 (getD counts j 0)) ∙ ap (leb 1) (count-is-reached j (omega arith))))
-    where
-      and-one : (q : Bool) → (q && true) ≡ q
-      and-one true = refl
-      and-one false = refl
+pub twice-goes-on : (counts : List ℕ) (threads : List (List Line)) (most : ℕ) → most < length counts → Twice counts most → Twice (countThreads counts threads) most
+twice-goes-on counts threads most h two =
+    record { place = two .place; low = two .low; high = two .high; count = omega (arith, two .count, count-of-threads counts threads (two .place) (omega (arith, two .high))) }
 
 -- The thread plays no part in the counts.
-count-of-any : (bytes counts : List ℕ) (t u most k : ℕ) → countLines counts (chain bytes t most k) ≡ countLines counts (chain bytes u most k)
+pub count-of-any : (bytes counts : List ℕ) (t u most k : ℕ) → countLines counts (chain bytes t most k) ≡ countLines counts (chain bytes u most k)
 unfolding countLines chain
 count-of-any bytes counts t u zero k = refl
 count-of-any bytes counts t u (suc most) zero = refl
 count-of-any bytes counts t u (suc most) (suc k) = count-of-any bytes (counted counts (suc k)) t u most (nextRecord bytes (suc k))
 
--- The loop over the threads.
-module _ (bytes counts r : List ℕ) (first : ℕ) (e : r ≡ countLines counts (linesFrom bytes 0 first)) where
-  pub thread-within : (bound : ℕ) → records bytes ≤ mostRecords → ((j : ℕ) → getD counts j 0 ≤ bound) → (j : ℕ) → getD r j 0 ≤ bound + (mostRecords + 1)
-  thread-within bound few h j = rw e (omega (arith, count-within counts (linesFrom bytes 0 first) bound h j, chain-at-most bytes 0 (suc (records bytes)) first))
+-- The sum of the counts of records 1 to `most`.
+pub sum-of-zeros : (n most : ℕ) → sumTo (replicate n 0) most ≡ 0
+unfolding sumTo
+sum-of-zeros n zero = refl
+sum-of-zeros n (suc most) = omega (arith, sum-of-zeros n most, zeros-are-0 n (suc most))
 
-  pub threads-go-on : (t to : ℕ) (all : List ℕ) → countThreads counts (chains bytes t (to - t)) ≡ all → t < to → first ≡ firstRecord bytes t → countThreads r (chains bytes (t + 1) (to - (t + 1))) ≡ all
-  unfolding countThreads
-  threads-go-on t to all inv h g =
-      rw (e, g, count-of-any bytes counts 0 t (suc (records bytes)) (firstRecord bytes t)) (sym (ap (countThreads counts) (chains-go-on bytes t to h)) ∙ inv)
+sum-beyond : (counts : List ℕ) (k x most : ℕ) → most < k → sumTo (set counts k x) most ≡ sumTo counts most
+unfolding sumTo
+sum-beyond counts k x zero h = refl
+sum-beyond counts k x (suc most) h = omega (arith, sum-beyond counts k x most (omega arith), getD-set-other counts k (suc most) x 0 (λ e. omega arith))
 
-pub threads-at-end : (bytes counts start : List ℕ) (t to T : ℕ) → countThreads counts (chains bytes t (to - t)) ≡ countThreads start (chains bytes 0 (to - 0)) → to ≤ t → to ≡ T → counts ≡ countThreads start (chains bytes 0 T)
-unfolding countThreads
-threads-at-end bytes counts start t to T inv h e =
-    sym (ap (countThreads counts) (chains-at-end bytes t to h)) ∙ inv ∙ ap (λ (m : ℕ). countThreads start (chains bytes 0 m)) (omega arith)
+pub sum-of-counted : (counts : List ℕ) (k most : ℕ) → 0 < k → k ≤ most → most < length counts → sumTo (counted counts k) most ≡ sumTo counts most + 1
+unfolding sumTo
+sum-of-counted counts k zero p h l = absurd (omega arith)
+sum-of-counted counts k (suc most) p h l = go (λ i. sum-of-counted counts k most p i (omega arith)) (eq-view (suc most) k)
+  where
+    go : (k ≤ most → sumTo (counted counts k) most ≡ sumTo counts most + 1) → EqView (suc most) k → sumTo (counted counts k) most + getD (counted counts k) (suc most) 0 ≡ sumTo counts most + getD counts (suc most) 0 + 1
+    go before (same e q) =
+        let s : getD (counted counts k) (suc most) 0 ≡ getD counts (suc most) 0 + 1 = rw e (getD-set-same counts k (getD counts k 0 + 1) 0 (omega arith)) in
+        omega (arith, s, sum-beyond counts k (getD counts k 0 + 1) most (omega arith))
+    go before (diff n q) = omega (arith, before (omega arith), getD-set-other counts k (suc most) (getD counts k 0 + 1) 0 n)
+
+pub sum-at-most : (counts : List ℕ) (most : ℕ) → ((j : ℕ) → getD counts j 0 ≤ 1) → sumTo counts most ≤ most
+unfolding sumTo
+sum-at-most counts zero h = omega arith
+sum-at-most counts (suc most) h = omega (arith, sum-at-most counts most h, h (suc most))
+
+sum-at-least : (counts : List ℕ) (most : ℕ) → ((j : ℕ) → 0 < j → j ≤ most → 1 ≤ getD counts j 0) → most ≤ sumTo counts most
+unfolding sumTo
+sum-at-least counts zero h = omega arith
+sum-at-least counts (suc most) h = omega (arith, sum-at-least counts most (λ j a b. h j a (omega arith)), h (suc most) (omega arith) (omega arith))
+
+-- Where no count is over 1 and the sum is full, no count is 0.
+none-is-0 : (counts : List ℕ) (most : ℕ) → ((j : ℕ) → getD counts j 0 ≤ 1) → most ≤ sumTo counts most → (j : ℕ) → 0 < j → j ≤ most → 1 ≤ getD counts j 0
+unfolding sumTo
+none-is-0 counts zero single full j a b = absurd (omega arith)
+none-is-0 counts (suc most) single full j a b = go (none-is-0 counts most single (omega (arith, full, single (suc most))) j a) (eq-view j (suc most))
+  where
+    go : (j ≤ most → 1 ≤ getD counts j 0) → EqView j (suc most) → 1 ≤ getD counts j 0
+    go before (same e q) = rw e (omega (arith, full, sum-at-most counts most single))
+    go before (diff n q) = before (omega arith)
+
+-- The counts of all threads, from 0, for checks 6 and 7.
+module _ (bytes : List ℕ) (few : records bytes ≤ mostRecords) where
+  times-of-count : (j : ℕ) → j ≤ records bytes → getD (reachedOf bytes) j 0 ≡ timesReached bytes j
+  times-of-count j h =
+      omega (arith, count-of-threads (replicate (mostRecords + 1) 0) (chains bytes 0 (threadCount bytes)) j (omega (arith, length-replicate {A = ℕ} (mostRecords + 1) 0)), zeros-are-0 (mostRecords + 1) j)
+
+  pub twice-reached : Twice (reachedOf bytes) (records bytes) → onceOk bytes ≡ false
+  twice-reached two =
+      unless-each _ 1 (records bytes)
+      (λ each. omega (arith, leb-true (timesReached bytes (two .place)) 1 (each (two .place) (two .low) (omega (arith, two .high))), times-of-count (two .place) (two .high), two .count))
+
+  module _ (counts : List ℕ) (e : counts ≡ reachedOf bytes) (marks : Marks counts) where
+    is-times : (j : ℕ) → j ≤ records bytes → getD counts j 0 ≡ timesReached bytes j
+    is-times j h = ap (λ (xs : List ℕ). getD xs j 0) e ∙ times-of-count j h
+
+    pub once-reached : onceOk bytes ≡ true
+    once-reached = all-of-each _ 1 (records bytes) (λ j a b. le-leb (timesReached bytes j) 1 (omega (arith, is-times j (omega arith), marks .single j)))
+
+    pub all-reached : records bytes ≤ sumTo counts (records bytes) → reachedOk bytes ≡ true
+    all-reached full =
+        all-of-each _ 1 (records bytes) (λ j a b. le-leb 1 (timesReached bytes j) (omega (arith, is-times j (omega arith), none-is-0 counts (records bytes) (marks .single) full j a (omega arith))))
+
+    pub not-all-reached : sumTo counts (records bytes) < records bytes → reachedOk bytes ≡ false
+    not-all-reached less =
+        unless-each _ 1 (records bytes)
+        (λ each. omega (arith, less, sum-at-least counts (records bytes) (λ j a b. omega (arith, is-times j b, leb-true 1 (timesReached bytes j) (each j a (omega arith))))))

@@ -1,5 +1,6 @@
 pub mod Ranges
 pub mod Chains
 pub mod Counts
+pub mod Walks
 pub mod FieldRules
 pub mod Verdicts

@@ -8,7 +8,7 @@ use native.Mathlib.Numerals.{add-one}
 use borrow.Author.Tests.{le-leb, lt-leb}
 use lib.Dec.{leb}
 use Rattle.model.specs.Lists.{allFrom, lowestFailing}
-use Rattle.laws.proofs.Views.{EqView, same, diff, eq-view, and-true}
+use Rattle.laws.proofs.Views.{EqView, same, diff, eq-view, and-true, true-and}
 
 -- From i to before `to`.
 module _ (test : ℕ → Bool) (i to : ℕ) where
@@ -23,6 +23,10 @@ module _ (test : ℕ → Bool) (i to : ℕ) where
   pub all-goes-on : i < to → test i ≡ true → allFrom test i (to - i) ≡ allFrom test (i + 1) (to - (i + 1))
   unfolding allFrom
   all-goes-on h ok = let e : to - i ≡ suc (to - (i + 1)) = omega arith in rw (e, ok, add-one)
+
+  pub all-next : i < to → allFrom test i (to - i) ≡ (test i && allFrom test (i + 1) (to - (i + 1)))
+  unfolding allFrom
+  all-next h = let e : to - i ≡ suc (to - (i + 1)) = omega arith in rw (e, add-one)
 
   pub lowest-at-end : to ≤ i → lowestFailing test i (to - i) ≡ 0
   unfolding lowestFailing
@@ -58,6 +62,18 @@ one-of-all test i (suc many) e j a b = go (eq-view i j) (one-of-all test (suc i)
     go : EqView i j → (suc i ≤ j → j < suc i + many → test j ≡ true) → test j ≡ true
     go (same h q) later = rw (← h) (both .0)
     go (diff n q) later = later (omega arith) (omega arith)
+
+pub all-of-each : (test : ℕ → Bool) (i many : ℕ) → ((j : ℕ) → i ≤ j → j < i + many → test j ≡ true) → allFrom test i many ≡ true
+unfolding allFrom
+all-of-each test i zero h = refl
+all-of-each test i (suc many) h = true-and (test i) (allFrom test (suc i) many) (h i (omega arith) (omega arith)) (all-of-each test (suc i) many (λ j a b. h j (omega arith) (omega arith)))
+
+pub unless-each : (test : ℕ → Bool) (i many : ℕ) → (((j : ℕ) → i ≤ j → j < i + many → test j ≡ true) → ⊥) → allFrom test i many ≡ false
+unless-each test i many never = go (allFrom test i many) refl
+  where
+    go : (q : Bool) → allFrom test i many ≡ q → q ≡ false
+    go true e = absurd (never (one-of-all test i many e))
+    go false e = refl
 
 -- A number x that was read as r.
 pub over-leb : {r x m : ℕ} → r ≡ x → m < r → leb x m ≡ false

@@ -2,27 +2,22 @@
 -- Assumes nothing.
 use mathlib.Core.Path.{_≡_, refl, sym, ap, ap₂, _∙_}
 use mathlib.Core.Logic.{_≢_}
-use Prim.Native.Nat.{ℕ, suc, _+_, _-_, _%_, _≤_, _<_}
+use Prim.Native.Nat.{ℕ, _+_, _-_, _%_, _≤_}
 use mathlib.Core.Bool.{Bool, true, false, not, cond, _&&_}
-use mathlib.Core.List.{List, []}
+use mathlib.Core.List.{List}
 use native.Mathlib.Omega.{arith}
-use native.Mathlib.Nat.{zero-add}
 use borrow.Author.Tests.{eq-eqb, ne-eqb, leb-true, eqb-true, le-leb, lt-leb, not-true, not-false}
 use lib.Dec.{leb, eqb}
-use lib.ListN.{length, getD}
-use Rattle.model.specs.Limits.{leastThreads, mostThreads, mostGlobals, mostLines, mostRecords, headerBytes, recordBytes}
+use lib.ListN.{length}
+use Rattle.model.specs.Limits.{leastThreads, mostThreads, mostGlobals, mostRecords, headerBytes, recordBytes}
 use Rattle.model.specs.Lists.{allFrom, unless}
-use Rattle.model.specs.CaseFile.{field, records, threadCount, globalCount, firstRecord, nextRecord, chains}
-use Rattle.model.specs.Accept.{sizeOk, threadsOk, switchesOk, itemsOk, absentOk, timesReached, linksOk, reachedOk, lengthsOk, brokenRecord, verdict}
+use Rattle.model.specs.CaseFile.{field, records, threadCount, globalCount, firstRecord, nextRecord}
+use Rattle.model.specs.Accept.{sizeOk, threadsOk, switchesOk, itemsOk, absentOk, linksOk, reachedOk, lengthsOk, brokenRecord, verdict}
 use Rattle.model.specs.declared.Verdict.{Verdict}
 use Rattle.model.specs.declared.Verdict.the-variants.{Accepted, Refused}
-use Rattle.laws.specs.Accepted.{linesFrom}
-use Rattle.laws.proofs.Views.{EqView, same, diff, eq-view, and-true, true-and}
-use Rattle.case_file.specs.Passed.{Sized, Linked, firstsIn, nextsIn, HeaderPassed}
-use Rattle.case_file.specs.Counts.{reachedOf, mostReached, between}
+use Rattle.laws.proofs.Views.{EqView, same, diff, eq-view, and-true}
+use Rattle.case_file.specs.Passed.{Sized, Linked, firstsIn, nextsIn, HeaderPassed, onceOk, firstFailing}
 use Rattle.case_file.proofs.Ranges.{all-of-same, one-of-all}
-use Rattle.case_file.proofs.Chains.{chain-of-thread, chain-length-of-any}
-use Rattle.case_file.proofs.Counts.{counts-of-6, counts-of-7}
 
 -- The answer r of a check, and whether the code went on.
 pub failed : {r check : Bool} → r ≡ check → not r ≡ true → check ≡ false
@@ -36,6 +31,22 @@ stop q next refusal e = rw e
 
 pass : (q : Bool) (next refusal : Verdict) → q ≡ true → cond q next refusal ≡ next
 pass q next refusal e = rw e
+
+-- Checks 6 to 8, then what follows them; and the same by the number of the first that fails.
+abbrev from-number : Bool → Bool → Bool → Verdict → Verdict
+from-number six seven eight next = unless six (Refused 6 0) (unless seven (Refused 7 0) (unless eight (Refused 8 0) next))
+
+numbered : (p q r : Bool) (next : Verdict) (n : ℕ) → n ≡ firstFailing p q r → n ≢ 0 → from-number p q r next ≡ Refused n 0
+numbered false q r next n e h = rw e
+numbered true false r next n e h = rw e
+numbered true true false next n e h = rw e
+numbered true true true next n e h = absurd (h e)
+
+none-failed : (p q r : Bool) (next : Verdict) (n : ℕ) → n ≡ firstFailing p q r → n ≡ 0 → from-number p q r next ≡ next
+none-failed false q r next n e h = absurd (omega arith)
+none-failed true false r next n e h = absurd (omega arith)
+none-failed true true false next n e h = absurd (omega arith)
+none-failed true true true next n e h = refl
 
 module _ (bytes : List ℕ) where
   pub refused-1 : sizeOk bytes ≡ false → Refused 1 0 ≡ verdict bytes
@@ -64,37 +75,25 @@ module _ (bytes : List ℕ) where
   module _ (h : HeaderPassed bytes) where
     -- Checks 6 to 9 alone.
     abbrev from-6 : Verdict
-    from-6 =
-        unless (linksOk bytes) (Refused 6 0)
-        (unless (reachedOk bytes) (Refused 7 0)
-        (unless (lengthsOk bytes) (Refused 8 0)
-        (unless (eqb (brokenRecord bytes) 0) (Refused 9 (brokenRecord bytes))
-        Accepted)))
+    from-6 = from-number (linksOk bytes) (reachedOk bytes) (lengthsOk bytes) (unless (eqb (brokenRecord bytes) 0) (Refused 9 (brokenRecord bytes)) Accepted)
 
     header-passed : verdict bytes ≡ from-6
     unfolding verdict
     header-passed = pass _ _ _ (h .size-ok) ∙ pass _ _ _ (h .threads-ok) ∙ pass _ _ _ (h .switches-ok) ∙ pass _ _ _ (h .items-ok) ∙ pass _ _ _ (h .absent-ok)
 
-    pub refused-6 : linksOk bytes ≡ false → Refused 6 0 ≡ verdict bytes
-    refused-6 bad = sym (header-passed ∙ stop _ _ _ bad)
+    module _ (number : ℕ) (en : number ≡ firstFailing (linksOk bytes) (reachedOk bytes) (lengthsOk bytes)) where
+      pub refused-by-number : number ≢ 0 → Refused number 0 ≡ verdict bytes
+      refused-by-number bad = sym (header-passed ∙ numbered (linksOk bytes) (reachedOk bytes) (lengthsOk bytes) _ number en bad)
 
-    module _ (six : linksOk bytes ≡ true) where
-      pub refused-7 : reachedOk bytes ≡ false → Refused 7 0 ≡ verdict bytes
-      refused-7 bad = sym (header-passed ∙ pass _ _ _ six ∙ stop _ _ _ bad)
+      module _ (ok : number ≡ 0) (place : ℕ) (e : place ≡ brokenRecord bytes) where
+        from-9 : verdict bytes ≡ unless (eqb place 0) (Refused 9 place) Accepted
+        from-9 = header-passed ∙ none-failed (linksOk bytes) (reachedOk bytes) (lengthsOk bytes) _ number en ok ∙ rw (← e)
 
-      module _ (seven : reachedOk bytes ≡ true) where
-        pub refused-8 : lengthsOk bytes ≡ false → Refused 8 0 ≡ verdict bytes
-        refused-8 bad = sym (header-passed ∙ pass _ _ _ six ∙ pass _ _ _ seven ∙ stop _ _ _ bad)
+        pub refused-9 : place ≢ 0 → Refused 9 place ≡ verdict bytes
+        refused-9 bad = sym (from-9 ∙ stop _ _ _ (ne-eqb place 0 bad))
 
-        module _ (eight : lengthsOk bytes ≡ true) (place : ℕ) (e : place ≡ brokenRecord bytes) where
-          from-9 : verdict bytes ≡ unless (eqb place 0) (Refused 9 place) Accepted
-          from-9 = header-passed ∙ pass _ _ _ six ∙ pass _ _ _ seven ∙ pass _ _ _ eight ∙ rw (← e)
-
-          pub refused-9 : place ≢ 0 → Refused 9 place ≡ verdict bytes
-          refused-9 bad = sym (from-9 ∙ stop _ _ _ (ne-eqb place 0 bad))
-
-          pub accepted : place ≡ 0 → Accepted ≡ verdict bytes
-          accepted ok = sym (from-9 ∙ pass _ _ _ (eq-eqb place 0 ok))
+        pub accepted : place ≡ 0 → Accepted ≡ verdict bytes
+        accepted good = sym (from-9 ∙ pass _ _ _ (eq-eqb place 0 good))
 
 -- 1
 pub sized : (bytes : List ℕ) → sizeOk bytes ≡ true → Sized bytes
@@ -152,40 +151,13 @@ linked bytes few e =
     }
 
 module _ (bytes : List ℕ) (r : Bool) (e : r ≡ (firstsIn bytes (records bytes) && nextsIn bytes (records bytes))) where
-  pub numbers-fail : not r ≡ true → false ≡ linksOk bytes
-  numbers-fail h = and-stop (firstsIn bytes (records bytes)) (nextsIn bytes (records bytes)) _ (failed e h)
+  pub numbers-fail : r ≡ false → 6 ≡ firstFailing (linksOk bytes) (reachedOk bytes) (lengthsOk bytes)
+  numbers-fail h = ap (λ (q : Bool). firstFailing q (reachedOk bytes) (lengthsOk bytes)) (and-stop (firstsIn bytes (records bytes)) (nextsIn bytes (records bytes)) (onceOk bytes) (sym e ∙ h))
 
-  pub numbers-link : threadCount bytes ≤ mostThreads → not r ≡ false → Linked bytes
-  numbers-link few h = linked bytes few (passed e h)
+  pub numbers-link : threadCount bytes ≤ mostThreads → r ≡ true → Linked bytes
+  numbers-link few h = linked bytes few (sym e ∙ h)
 
-  pub links-are-ok :
-      (counts : List ℕ) (most : ℕ) (all : Bool) → not r ≡ false → records bytes ≤ mostRecords → counts ≡ reachedOf bytes → most ≡ records bytes →
-      all ≡ allFrom (between counts 0 1) 1 most → all ≡ linksOk bytes
-  links-are-ok counts most all h few ec em ea =
-      ea ∙ ap (allFrom (between counts 0 1) 1) em ∙ counts-of-6 bytes counts few ec ∙ and-pass (firstsIn bytes (records bytes)) (nextsIn bytes (records bytes)) _ (passed e h)
-
-pub linked-of-6 : (bytes : List ℕ) → threadsOk bytes ≡ true → linksOk bytes ≡ true → Linked bytes
-linked-of-6 bytes two six =
-    let outer = and-true (firstsIn bytes (records bytes)) (nextsIn bytes (records bytes) && allFrom (λ k. leb (timesReached bytes k) 1) 1 (records bytes)) six in
-    let inner = and-true (nextsIn bytes (records bytes)) (allFrom (λ k. leb (timesReached bytes k) 1) 1 (records bytes)) (outer .1) in
-    linked bytes (at-most-4 bytes two) (true-and (firstsIn bytes (records bytes)) (nextsIn bytes (records bytes)) (outer .0) (inner .0))
-
--- 7
-pub reached-is-ok :
-    (bytes counts : List ℕ) (most : ℕ) (all : Bool) → records bytes ≤ mostRecords → counts ≡ reachedOf bytes → ((j : ℕ) → getD counts j 0 ≤ mostReached) →
-    most ≡ records bytes → all ≡ allFrom (between counts 1 65535) 1 most → all ≡ reachedOk bytes
-reached-is-ok bytes counts most all few ec small em ea = ea ∙ ap (allFrom (between counts 1 65535) 1) em ∙ counts-of-7 bytes counts few ec (λ j. omega (arith, small j))
-
--- 8
--- Thread t has few lines.
-abbrev pub fewLines : List ℕ → ℕ → Bool
-fewLines bytes t = leb (length (getD (chains bytes 0 (threadCount bytes)) t [])) mostLines
-
-pub lines-of-thread :
-    (bytes : List ℕ) (t to first r : ℕ) → t < to → to ≡ threadCount bytes → first ≡ firstRecord bytes t → r ≡ length (linesFrom bytes 0 first) → r ≡ length (getD (chains bytes 0 (threadCount bytes)) t [])
-lines-of-thread bytes t to first r h e ef er =
-    er ∙ ap (λ (k : ℕ). length (linesFrom bytes 0 k)) ef ∙ chain-length-of-any bytes 0 t (suc (records bytes)) (firstRecord bytes t)
-    ∙ sym (ap length (chain-of-thread bytes 0 (threadCount bytes) t (omega arith)) ∙ ap (λ (u : ℕ). length (linesFrom bytes u (firstRecord bytes u))) (zero-add t))
-
-pub lengths-are-ok : (bytes : List ℕ) (to : ℕ) → to ≡ threadCount bytes → allFrom (fewLines bytes) 0 (to - 0) ≡ lengthsOk bytes
-lengths-are-ok bytes to e = ap (allFrom (fewLines bytes) 0) (omega arith)
+  pub numbers-pass :
+      (n : ℕ) → r ≡ true → n ≡ firstFailing (onceOk bytes) (reachedOk bytes) (lengthsOk bytes) → n ≡ firstFailing (linksOk bytes) (reachedOk bytes) (lengthsOk bytes)
+  numbers-pass n h en =
+      en ∙ ap (λ (q : Bool). firstFailing q (reachedOk bytes) (lengthsOk bytes)) (and-pass (firstsIn bytes (records bytes)) (nextsIn bytes (records bytes)) (onceOk bytes) (sym e ∙ h))

@@ -7,9 +7,9 @@ use mathlib.Core.List.{List}
 use lib.Dec.{leb}
 use lib.ListN.{length}
 use Rattle.model.specs.Limits.{mostThreads, mostRecords, headerBytes, recordBytes}
-use Rattle.model.specs.Lists.{allFrom}
+use Rattle.model.specs.Lists.{allFrom, unless}
 use Rattle.model.specs.CaseFile.{records, threadCount, firstRecord, nextRecord}
-use Rattle.model.specs.Accept.{sizeOk, threadsOk, switchesOk, itemsOk, absentOk}
+use Rattle.model.specs.Accept.{sizeOk, threadsOk, switchesOk, itemsOk, absentOk, timesReached}
 
 -- Check 1: the records are there, and are few.
 pub record Sized (bytes : List ℕ) : Type 0 where
@@ -36,3 +36,11 @@ pub record HeaderPassed (bytes : List ℕ) : Type 0 where
   pub switches-ok : switchesOk bytes ≡ true
   pub items-ok : itemsOk bytes ≡ true
   pub absent-ok : absentOk bytes ≡ true
+
+-- Check 6, its last part: no record is reached twice.
+abbrev pub onceOk : List ℕ → Bool
+onceOk bytes = allFrom (λ k. leb (timesReached bytes k) 1) 1 (records bytes)
+
+-- The number of the first of 6, 7 and 8 that fails, 0 if none does.
+abbrev pub firstFailing : Bool → Bool → Bool → ℕ
+firstFailing six seven eight = unless six 6 (unless seven 7 (unless eight 8 0))

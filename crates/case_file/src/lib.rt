@@ -5,7 +5,6 @@ ghost use Prim.Native.Nat.{_+_, _*_, _<_, _≤_};
 ghost use lib.ListN.{length};
 ghost use Rattle.model.specs.CaseFile.{field, records, firstRecord, nextRecord};
 ghost use Rattle.model.specs.Accept.{sizeOk, verdict};
-ghost use Rattle.laws.specs.Accepted.{Accepted, linesFrom};
 ghost use Rattle.case_file.specs.Records.{recordOf};
 ghost use Rattle.case_file.specs.Passed.{HeaderPassed};
 
@@ -87,15 +86,6 @@ pub fn first_of(case: &[u8], t: usize) -> usize
     field_at(case, 4 + t) as usize
 }
 
-// How many lines follow from a record on in an accepted case, with its own.
-pub fn lines_in(case: &[u8], first: usize) -> usize
-    requires { ⌜ Accepted (now case) ⌝ }
-    requires { ⌜ first ≤ records (now case) ⌝ }
-    ensures { λ r. ⌜ r ≡ length (linesFrom (now (case .entry)) 0 first) ⌝ }
-{
-    links::chain_length(case, first)
-}
-
 // Checks 1 to 9: the first that fails gives the refusal.
 pub fn accept(case: &[u8]) -> Verdict
     ensures { λ r. ⌜ r ≡ verdict (now (case .entry)) ⌝ }
@@ -146,23 +136,9 @@ fn accept_records(case: &[u8]) -> Verdict
     requires { ⌜ HeaderPassed (now case) ⌝ }
     ensures { λ r. ⌜ r ≡ verdict (now (case .entry)) ⌝ }
 {
-    if !links::links_ok(case) {
-        return Verdict::Refused {
-            number: 6,
-            place: 0,
-        };
-    }
-    if !links::reached_ok(case) {
-        return Verdict::Refused {
-            number: 7,
-            place: 0,
-        };
-    }
-    if !links::lengths_ok(case) {
-        return Verdict::Refused {
-            number: 8,
-            place: 0,
-        };
+    let number = links::links_refusal(case);
+    if number != 0 {
+        return Verdict::Refused { number, place: 0 };
     }
     let broken = rules::broken_record(case);
     if broken != 0 {

@@ -10,28 +10,40 @@ use Rattle.case_file.proofs.rules.broken_record.Statement.{statement}
 use Rattle.case_file.proofs.rules.broken_record.Tie as tie
 
 abbrev Inv-loop : tie.InvT-loop
-Inv-loop case most k₀ k = (1 ≤ k) × ((most ≡ records case) × (lowestFailing (ruleOk case) k (most + 1 - k) ≡ lowestFailing (ruleOk case) 1 most))
+Inv-loop case most globals limits k₀ k = (1 ≤ k) × ((most ≡ records case) × (lowestFailing (ruleOk case) k (most + 1 - k) ≡ lowestFailing (ruleOk case) 1 most))
 
 abbrev μ-loop : tie.MeasureT-loop
-μ-loop case most k₀ k = most + 1 - k
+μ-loop case most globals limits k₀ k = most + 1 - k
 
 records-requires : tie.Need-records-requires Inv-loop μ-loop
 records-requires c κs = search needs
 
+field-at-requires : tie.Need-field-at-requires Inv-loop μ-loop
+field-at-requires c κs = search needs
+
+field-at-requires-2 : tie.Need-field-at-requires-2 Inv-loop μ-loop
+field-at-requires-2 c κs = search needs
+
+target-limits-requires : tie.Need-target-limits-requires Inv-loop μ-loop
+target-limits-requires c κs = search needs
+
 loop-holds : tie.Need-loop-holds Inv-loop μ-loop
-loop-holds c = (search needs, (c .records .ensures, ap (lowestFailing _ 1) (one-less (c .records .result))))
+loop-holds c = (search needs, (c .before .before .before .records .ensures, ap (lowestFailing _ 1) (one-less (c .before .before .before .records .result))))
 
 add-loop : tie.Need-add-loop Inv-loop μ-loop
 add-loop c = search needs
 
+slice-aggregate-rule-ok : tie.Need-slice-aggregate-rule-ok Inv-loop μ-loop
+slice-aggregate-rule-ok c = search needs
+
 rule-ok-requires : tie.Need-rule-ok-requires Inv-loop μ-loop
-rule-ok-requires c κs = search needs
+rule-ok-requires c κs = (search needs, (c .before .before .before .before .before .field-at .ensures, (cc)))
 
 cast-result : tie.Need-cast-result Inv-loop μ-loop
 cast-result c = search needs
 
 returns : tie.Need-returns Inv-loop μ-loop
-returns c = sym (lowest-found _ _ _ (c .before .before .loop-test .taken) (failed (c .before .rule-ok .ensures) (c .if1 .taken))) ∙ c .before .before .before .loop .inv .1 .1 ∙ ap (lowestFailing _ 1) (c .before .before .before .before .records .ensures)
+returns c = sym (lowest-found _ _ _ (c .before .before .before .loop-test .taken) (failed (c .before .rule-ok .ensures) (c .if1 .taken))) ∙ c .before .before .before .before .loop .inv .1 .1 ∙ ap (lowestFailing _ 1) (c .before .before .before .before .before .before .before .before .records .ensures)
 
 add-k : tie.Need-add-k Inv-loop μ-loop
 add-k c = search needs
@@ -40,10 +52,10 @@ loop-less : tie.Need-loop-less Inv-loop μ-loop
 loop-less c = search needs
 
 loop-again : tie.Need-loop-again Inv-loop μ-loop
-loop-again c = (search needs, (c .before .before .before .before .records .ensures, sym (lowest-goes-on _ _ _ (c .before .before .loop-test .taken) (passed (c .before .rule-ok .ensures) (c .if1 .left))) ∙ c .before .before .before .loop .inv .1 .1))
+loop-again c = (search needs, (c .before .before .before .before .before .before .before .before .records .ensures, sym (lowest-goes-on _ _ _ (c .before .before .before .loop-test .taken) (passed (c .before .rule-ok .ensures) (c .if1 .left))) ∙ c .before .before .before .before .loop .inv .1 .1))
 
 returns-2 : tie.Need-returns-2 Inv-loop μ-loop
-returns-2 c = sym (lowest-at-end _ _ _ (c .loop-test .left)) ∙ c .before .loop .inv .1 .1 ∙ ap (lowestFailing _ 1) (c .before .before .records .ensures)
+returns-2 c = sym (lowest-at-end _ _ _ (c .loop-test .left)) ∙ c .before .loop .inv .1 .1 ∙ ap (lowestFailing _ 1) (c .before .before .before .before .before .records .ensures)
 
 pub broken-record-spec : {M : Type 1} → statement M
 broken-record-spec =
@@ -52,8 +64,12 @@ broken-record-spec =
     Inv-loop
     μ-loop
     records-requires
+    field-at-requires
+    field-at-requires-2
+    target-limits-requires
     loop-holds
     add-loop
+    slice-aggregate-rule-ok
     rule-ok-requires
     cast-result
     returns
