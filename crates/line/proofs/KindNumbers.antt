@@ -7,7 +7,7 @@ use mathlib.Core.Bool.{false, cond}
 use lib.Dec.{eqb}
 use Rattle.laws.proofs.Views.{EqView, same, diff, eq-view}
 use Rattle.model.specs.CaseFile.{Kind, compute, store, load, input, assert, assume, lock, unlock, Line, kindOf}
-use Rattle.model.specs.Line.{Reads, noName, itemName, nameOfA, hasExpression, nameOfTarget, guardedInValue, guardedOutValue, stops, breaks, isInput}
+use Rattle.model.specs.Line.{Reads, noName, itemName, nameOfA, hasExpression, nameOfTarget, guardedInValue, guardedOutValue, breaks, isInput}
 
 -- A kind of number k: one of 1 to 7, or an unlock, which every other number gives.
 pub data KindView (k : ℕ) : Kind → Type 0 where
@@ -32,6 +32,36 @@ unfolding kindOf
 kind-view k =
     branch k 1 _ _ is1 (branch k 2 _ _ is2 (branch k 3 _ _ is3 (branch k 4 _ _ is4
     (branch k 5 _ _ is5 (branch k 6 _ _ is6 (branch k 7 _ _ is7 other))))))
+
+-- The kind of a number that a `match` names.
+module _ (k : ℕ) where
+  pub kind-1 : k ≡ 1 → kindOf k ≡ compute
+  unfolding kindOf
+  kind-1 e = rw e
+
+  pub kind-2 : k ≡ 2 → kindOf k ≡ store
+  unfolding kindOf
+  kind-2 e = rw e
+
+  pub kind-3 : k ≡ 3 → kindOf k ≡ load
+  unfolding kindOf
+  kind-3 e = rw e
+
+  pub kind-4 : k ≡ 4 → kindOf k ≡ input
+  unfolding kindOf
+  kind-4 e = rw e
+
+  pub kind-5 : k ≡ 5 → kindOf k ≡ assert
+  unfolding kindOf
+  kind-5 e = rw e
+
+  pub kind-6 : k ≡ 6 → kindOf k ≡ assume
+  unfolding kindOf
+  kind-6 e = rw e
+
+  pub kind-7 : k ≡ 7 → kindOf k ≡ lock
+  unfolding kindOf
+  kind-7 e = rw e
 
 -- The last arm's facts, as a `match` gives them.
 abbrev pub Not2 : ℕ → ℕ → ℕ → Type 0
@@ -113,20 +143,6 @@ out-other k reads n = go (kindOf k) (kind-view k)
     go assert (is5 e) = absurd (n .0 .1 e)
     go assume (is6 e) = absurd (n .1 e)
     go lock v = refl
-    go unlock v = refl
-
-pub stops-other : (k : ℕ) (l : Line) (reads : Reads) → Not2 k 6 7 → false ≡ stops (kindOf k) l reads
-unfolding stops
-stops-other k l reads n = go (kindOf k) (kind-view k)
-  where
-    go : (κ : Kind) → KindView k κ → false ≡ stops κ l reads
-    go compute v = refl
-    go store v = refl
-    go load v = refl
-    go input v = refl
-    go assert v = refl
-    go assume (is6 e) = absurd (n .0 .1 e)
-    go lock (is7 e) = absurd (n .1 e)
     go unlock v = refl
 
 pub breaks-other : (k : ℕ) (l : Line) (reads : Reads) (value : ℕ) → Unit {0} × k ≢ 5 → false ≡ breaks (kindOf k) l reads value

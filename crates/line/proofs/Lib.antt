@@ -1,1 +1,3 @@
 pub mod KindNumbers
+pub mod Memories
+pub mod Expressions

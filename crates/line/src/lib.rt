@@ -1,24 +1,18 @@
 // What one line names, reads and does. A record's thread and number make no difference to it: the contracts are for all.
 ghost use mathlib.Core.Path.{_≡_};
 ghost use Prim.Native.Nat.{ℕ, _≤_};
+ghost use mathlib.Core.Bool.{true};
+ghost use mathlib.Core.List.{List};
 ghost use Rattle.model.specs.Word.{bit};
-ghost use Rattle.model.specs.CaseFile.{kindOf};
-ghost use Rattle.model.specs.Line.{localName, guardName, operandA, hasExpression, operandB, targetName, guardTrue, operandValue, guardedInValue, guardedOutValue, valueOf, strayInput};
+ghost use Rattle.model.specs.CaseFile.{kindOf, Line};
+ghost use Rattle.model.specs.Line.{localName, itemName, guardName, operandA, hasExpression, operandB, targetName, Reads, guardTrue, operandValue, expression, guardedInValue, guardedOutValue, valueOf};
 ghost use Rattle.model.specs.Line as model;
+ghost use Rattle.model.specs.Machine.{look};
 ghost use Rattle.case_file.specs.Records.{asLine};
-ghost use Rattle.line.specs.LineReads.{asReads};
+ghost use Rattle.line.specs.LineReads.{memory, readsAt};
 use case_file::Record;
 use std::num::wrapping_add_u16;
 use std::num::wrapping_sub_u16;
-
-// What a line reads: its guard's local, its operands, its target before it, and the value given to it if it is an input.
-pub struct Reads {
-    pub guard: u16,
-    pub a: u16,
-    pub b: u16,
-    pub target: u16,
-    pub given: u16,
-}
 
 // A local's name; 28 is no name.
 fn local_name(x: u16) -> usize
@@ -96,16 +90,32 @@ pub fn target_name(globals: usize, l: Record) -> usize
     }
 }
 
-// Whether the line is guarded in.
-pub fn guard_true(l: Record, reads: Reads) -> bool
-    ensures { λ r. ⌜ ((t k : ℕ) → r ≡ guardTrue (asLine l t k) (asReads reads)) ⌝ }
+// The value of local x; what is no local has 0.
+fn local_at(locals: &[u16; 16], x: u16) -> u16
+    ensures { λ r. ⌜ ((items : List ℕ) (count : ℕ) → count ≤ 12 → r ≡ look (memory (now (locals .entry)) items count) (localName x)) ⌝ }
+{
+    let at = x as usize;
+    if at < 16 { locals[at] } else { 0 }
+}
+
+// The value of item g, in a case with so many items.
+pub fn item_at(items: &[u16; 12], count: usize, g: usize) -> u16
+    requires { ⌜ count ≤ 12 ⌝ }
+    ensures { λ r. ⌜ ((locals : List ℕ) → r ≡ look (memory locals (now (items .entry)) count) (itemName g)) ⌝ }
+{
+    if g < count { items[g] } else { 0 }
+}
+
+// Whether the line is guarded in: of what it reads, only the guard's local matters.
+pub fn guarded(locals: &[u16; 16], l: Record) -> bool
+    ensures { λ r. ⌜ ((G count given : ℕ) (items : List ℕ) (t k : ℕ) → count ≤ 12 → r ≡ guardTrue (asLine l t k) (readsAt G count given (now (locals .entry)) items (asLine l t k))) ⌝ }
 {
     let guard = l.guard;
     match guard {
         0 => true,
-        1..=16 => reads.guard != 0,
-        17..=32 => reads.guard == 0,
-        _ => reads.guard == 0,
+        1..=16 => local_at(locals, guard - 1) != 0,
+        17..=32 => local_at(locals, guard - 17) == 0,
+        _ => true,
     }
 }
 
@@ -116,7 +126,7 @@ fn bit_of(x: bool) -> u16
 }
 
 // The value of an op.
-pub fn apply(op: u16, x: u16, y: u16) -> u16
+fn apply(op: u16, x: u16, y: u16) -> u16
     ensures { λ r. ⌜ r ≡ model.apply op x y ⌝ }
 {
     match op {
@@ -131,89 +141,82 @@ pub fn apply(op: u16, x: u16, y: u16) -> u16
 }
 
 // An operand's value: 16 is the constant.
-fn operand_value(operand: u16, c: u16, read: u16) -> u16
-    ensures { λ r. ⌜ r ≡ operandValue operand c read ⌝ }
+fn operand(locals: &[u16; 16], x: u16, c: u16) -> u16
+    ensures { λ r. ⌜ ((items : List ℕ) (count : ℕ) → count ≤ 12 → r ≡ operandValue x c (look (memory (now (locals .entry)) items count) (localName x))) ⌝ }
 {
-    if operand == 16 { c } else { read }
+    if x == 16 { c } else { local_at(locals, x) }
 }
 
-// The value of the line's expression.
-pub fn expression(l: Record, reads: Reads) -> u16
-    ensures { λ r. ⌜ ((t k : ℕ) → r ≡ model.expression (asLine l t k) (asReads reads)) ⌝ }
+// The value of the line's expression, of a kind that has one.
+pub fn expression_of(locals: &[u16; 16], l: Record) -> u16
+    ensures { λ r. ⌜ ((G count given : ℕ) (items : List ℕ) (t k : ℕ) → count ≤ 12 → hasExpression (kindOf (l .kind)) ≡ true → r ≡ expression (asLine l t k) (readsAt G count given (now (locals .entry)) items (asLine l t k))) ⌝ }
 {
-    let x = operand_value(l.a, l.c, reads.a);
-    let y = operand_value(l.b, l.c, reads.b);
+    let x = operand(locals, l.a, l.c);
+    let y = operand(locals, l.b, l.c);
     apply(l.op, x, y)
 }
 
-fn guarded_in_value(l: Record, reads: Reads) -> u16
-    ensures { λ r. ⌜ ((t k : ℕ) → r ≡ guardedInValue (kindOf (l .kind)) (asLine l t k) (asReads reads)) ⌝ }
+// The value of a line with a true guard.
+fn value_in(locals: &[u16; 16], items: &[u16; 12], count: usize, l: Record, given: u16) -> u16
+    requires { ⌜ count ≤ 12 ⌝ }
+    ensures { λ r. ⌜ ((G t k : ℕ) → r ≡ guardedInValue (kindOf (l .kind)) (asLine l t k) (readsAt G count given (now (locals .entry)) (now (items .entry)) (asLine l t k))) ⌝ }
 {
     let kind = l.kind;
     match kind {
-        1 => expression(l, reads),
-        2 => expression(l, reads),
-        3 => reads.a,
-        4 => reads.given,
-        5 => bit_of(expression(l, reads) != 0),
-        6 => bit_of(expression(l, reads) != 0),
+        1 => expression_of(locals, l),
+        2 => expression_of(locals, l),
+        3 => item_at(items, count, l.a as usize),
+        4 => given,
+        5 => bit_of(expression_of(locals, l) != 0),
+        6 => bit_of(expression_of(locals, l) != 0),
         7 => 1,
         _ => 0,
     }
 }
 
-fn guarded_out_value(kind: u16, reads: Reads) -> u16
-    ensures { λ r. ⌜ r ≡ guardedOutValue (kindOf kind) (asReads reads) ⌝ }
+// The value of a line with a false guard: its target's, or 1.
+fn value_out(locals: &[u16; 16], items: &[u16; 12], globals: usize, count: usize, l: Record) -> u16
+    requires { ⌜ (globals ≤ 8) × (count ≤ 12) ⌝ }
+    ensures { λ r. ⌜ ((given t k : ℕ) → r ≡ guardedOutValue (kindOf (l .kind)) (readsAt globals count given (now (locals .entry)) (now (items .entry)) (asLine l t k))) ⌝ }
 {
+    let kind = l.kind;
+    let target = l.target as usize;
     match kind {
+        1 => local_at(locals, l.target),
+        2 => item_at(items, count, target),
+        3 => local_at(locals, l.target),
+        4 => local_at(locals, l.target),
         5 => 1,
         6 => 1,
-        _ => reads.target,
+        _ => item_at(items, count, globals + target),
     }
 }
 
-// The value of the line.
-pub fn value(l: Record, reads: Reads) -> u16
-    ensures { λ r. ⌜ ((t k : ℕ) → r ≡ valueOf (asLine l t k) (asReads reads)) ⌝ }
+// The value of the line, where the locals and the items have these values.
+pub fn value(
+    locals: &[u16; 16],
+    items: &[u16; 12],
+    globals: usize,
+    count: usize,
+    l: Record,
+    given: u16,
+) -> u16
+    requires { ⌜ (globals ≤ 8) × (count ≤ 12) ⌝ }
+    ensures { λ r. ⌜ ((t k : ℕ) → r ≡ valueOf (asLine l t k) (readsAt globals count given (now (locals .entry)) (now (items .entry)) (asLine l t k))) ⌝ }
 {
-    if guard_true(l, reads) {
-        guarded_in_value(l, reads)
+    if guarded(locals, l) {
+        value_in(locals, items, count, l, given)
     } else {
-        guarded_out_value(l.kind, reads)
+        value_out(locals, items, globals, count, l)
     }
 }
 
-// Whether the run ends at the line: an assume that is zero, a lock that is taken.
-pub fn stops(l: Record, reads: Reads) -> bool
-    ensures { λ r. ⌜ ((t k : ℕ) → r ≡ model.stops (kindOf (l .kind)) (asLine l t k) (asReads reads)) ⌝ }
+// Whether a line of a kind, with this value, breaks its assertion.
+pub fn breaks(kind: u16, value: u16) -> bool
+    ensures { λ r. ⌜ ((l : Line) (reads : Reads) → r ≡ model.breaks (kindOf kind) l reads value) ⌝ }
 {
-    let kind = l.kind;
-    let on = guard_true(l, reads);
-    match kind {
-        6 => on && expression(l, reads) == 0,
-        7 => on && reads.target != 0,
-        _ => false,
-    }
-}
-
-// Whether the line, with this value, breaks its assertion.
-pub fn breaks(l: Record, reads: Reads, value: u16) -> bool
-    ensures { λ r. ⌜ ((t k : ℕ) → r ≡ model.breaks (kindOf (l .kind)) (asLine l t k) (asReads reads) value) ⌝ }
-{
-    let kind = l.kind;
     match kind {
         5 => value == 0,
-        _ => false,
-    }
-}
-
-// Whether the line is an input with a false guard that is given a value other than 0.
-pub fn stray_input(l: Record, reads: Reads) -> bool
-    ensures { λ r. ⌜ ((t k : ℕ) → r ≡ strayInput (kindOf (l .kind)) (asLine l t k) (asReads reads)) ⌝ }
-{
-    let kind = l.kind;
-    match kind {
-        4 => !guard_true(l, reads) && reads.given != 0,
         _ => false,
     }
 }

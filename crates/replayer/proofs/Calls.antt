@@ -22,8 +22,7 @@ use Rattle.laws.specs.Accepted.{Accepted}
 use Rattle.turn.specs.TurnState.{itemsOf, givenBy}
 use Rattle.run.specs.declared.Ended.{Ended}
 use Rattle.run.specs.Promises.{Replies}
-use Rattle.replayer.specs.declared.Inputs.{Inputs}
-use Rattle.replayer.specs.InputValues.{putThreads, noInputs}
+use Rattle.replayer.specs.InputValues.{Inputs, putThreads, noInputs}
 use Rattle.replayer.proofs.Values.{used-is, value-is}
 
 -- Values written one by one.

@@ -1,30 +1,35 @@
 -- The loops that put a schedule's values in their places: what is left decides.
 -- Assumes nothing.
 use mathlib.Core.Path.{_≡_, refl, sym, ap, _∙_}
-use Prim.Native.Nat.{ℕ, zero, suc, _+_, _-_, _*_, _≤_, _<_}
+use Prim.Native.Nat.{ℕ, suc, _+_, _-_, _*_, _≤_, _<_}
 use mathlib.Core.Bool.{Bool, true, false}
 use mathlib.Core.List.{List, [], _∷_}
 use native.Mathlib.Omega.{arith}
-use lib.ListN.{length, getD, set}
-use Rattle.model.specs.CaseFile.{Line, records, threadCount, firstRecord, nextRecord, lineOf, kindOf, chains, caseOf}
+use lib.ListN.{length, getD, set, replicate, length-set}
+use lib.Seq.{getD-set-same, getD-set-other}
+use Rattle.model.specs.CaseFile.{Line, records, threadCount, firstRecord, nextRecord, lineOf, kindOf, chains, caseOf, linesOf}
 use Rattle.model.specs.Line.{isInput}
 use Rattle.laws.specs.Accepted.{Accepted, linesFrom}
-use Rattle.laws.proofs.Chains.{linesFrom-end}
+use Rattle.laws.proofs.Chains.{threads-are, linesFrom-end}
+use Rattle.laws.proofs.Views.{EqView, same, diff, eq-view}
 use Rattle.laws.proofs.Lines.{few-lines-from}
 use Rattle.case_file.specs.declared.Record.{Record}
 use Rattle.case_file.specs.Records.{recordOf}
 use Rattle.line.proofs.KindNumbers.{input-other}
-use Rattle.replayer.specs.declared.Inputs.{Inputs}
-use Rattle.replayer.specs.InputValues.{putNext, putLines, putThreads, noInputs}
+use Rattle.replayer.specs.InputValues.{Inputs, putNext, putLines, putThreads}
 
-pub next-is-input : (schedule : List ℕ) (kind k : ℕ) (f : Inputs) (v : ℕ) → kind ≡ 4 → v ≡ getD schedule (f .used) 0
-    → record { given = set (f .given) k v; used = f .used + 1 } ≡ putNext schedule (isInput (kindOf kind)) k f
-unfolding putNext kindOf
-next-is-input schedule kind k f v e is = rw (e, is)
+module _ (schedule : List ℕ) (kind k : ℕ) (f f' : Inputs) where
+  pub next-is-input : (v : ℕ) → kind ≡ 4 → v ≡ getD schedule (f .used) 0 → f' .given ≡ set (f .given) k v → f' .used ≡ f .used + 1
+      → f' ≡ putNext schedule (isInput (kindOf kind)) k f
+  unfolding putNext kindOf
+  next-is-input v e is is-given is-used =
+      let put : f' ≡ record { given = set (f .given) k v; used = f .used + 1 } = λ i. record { given = is-given i; used = is-used i } in
+      put ∙ rw (e, is)
 
-pub next-is-other : (schedule : List ℕ) (kind k : ℕ) (f : Inputs) → (kind ≡ 4 → ⊥) → f ≡ putNext schedule (isInput (kindOf kind)) k f
-unfolding putNext
-next-is-other schedule kind k f other = rw (input-other kind (tt, other))
+  pub next-is-other : (kind ≡ 4 → ⊥) → f' .given ≡ f .given → f' .used ≡ f .used → f' ≡ putNext schedule (isInput (kindOf kind)) k f
+  unfolding putNext
+  next-is-other other is-given is-used =
+      let stays : f' ≡ f = λ i. record { given = is-given i; used = is-used i } in stays ∙ rw (input-other kind (tt, other))
 
 next-used : (schedule : List ℕ) (input : Bool) (k : ℕ) (f : Inputs) → putNext schedule input k f .used ≤ f .used + 1
 unfolding putNext
@@ -38,23 +43,28 @@ lines-used schedule (l ∷ ls) f =
     omega (arith, lines-used schedule ls (putNext schedule (isInput (l .kind)) (l .number) f), next-used schedule (isInput (l .kind)) (l .number) f)
 
 -- Within thread t, at record k.
-pub record Putting (bytes schedule : List ℕ) (t : ℕ) (f₀ : Inputs) (k : ℕ) (f : Inputs) : Type 0 where
+pub record Putting (bytes schedule : List ℕ) (t : ℕ) (f₀ : Inputs) (k : ℕ) (f : Inputs) (lines : ℕ) : Type 0 where
   pub inside : k ≤ records bytes
   pub does : putLines schedule (linesFrom bytes t k) f ≡ putLines schedule (linesFrom bytes t (firstRecord bytes t)) f₀
   pub fits : f .used + length (linesFrom bytes t k) ≤ f₀ .used + 64
+  pub counted : lines + length (linesFrom bytes t k) ≡ length (linesFrom bytes t (firstRecord bytes t))
 
 module _ (bytes schedule : List ℕ) (t : ℕ) (f₀ : Inputs) (ok : Accepted bytes) (thread : t < threadCount bytes) where
-  pub putting-start : (first : ℕ) → first ≡ firstRecord bytes t → Putting bytes schedule t f₀ first f₀
+  pub putting-start : (first : ℕ) → first ≡ firstRecord bytes t → Putting bytes schedule t f₀ first f₀ 0
   putting-start first e = rw e (record {
     inside = ok .firsts t thread;
     does = refl;
     fits = omega (arith, few-lines-from bytes ok t (firstRecord bytes t) (ok .firsts t thread));
+    counted = omega arith;
   })
 
-  module _ (k : ℕ) (f : Inputs) (p : Putting bytes schedule t f₀ k f) where
+  module _ (k : ℕ) (f : Inputs) (lines : ℕ) (p : Putting bytes schedule t f₀ k f lines) where
     pub putting-end : k ≡ 0 → f ≡ putLines schedule (linesFrom bytes t (firstRecord bytes t)) f₀
     unfolding putLines
     putting-end e = sym (ap (λ (ls : List Line). putLines schedule ls f) (ap (linesFrom bytes t) e ∙ linesFrom-end bytes t)) ∙ p .does
+
+    pub lines-end : k ≡ 0 → lines ≡ length (linesFrom bytes t (firstRecord bytes t))
+    lines-end e = omega (arith, p .counted, ap length (ap (linesFrom bytes t) e ∙ linesFrom-end bytes t))
 
     module _ (some : k ≡ 0 → ⊥) (l : Record) (is-record : l ≡ recordOf bytes k) where
       lines-are : linesFrom bytes t k ≡ lineOf bytes t k ∷ linesFrom bytes t (nextRecord bytes k)
@@ -70,36 +80,44 @@ module _ (bytes schedule : List ℕ) (t : ℕ) (f₀ : Inputs) (ok : Accepted by
       pub fewer-lines : length (linesFrom bytes t (l .next)) < length (linesFrom bytes t k)
       fewer-lines = rw next-is (omega (arith, ap length lines-are))
 
-      pub putting-more : (f' : Inputs) → f' ≡ putNext schedule (isInput (kindOf (l .kind))) k f → Putting bytes schedule t f₀ (l .next) f'
+      pub putting-more : (f' : Inputs) → f' ≡ putNext schedule (isInput (kindOf (l .kind))) k f → Putting bytes schedule t f₀ (l .next) f' (lines + 1)
       unfolding putLines
       putting-more f' is-next = rw next-is (record {
         inside = ok .nexts k (omega arith) (p .inside);
         does = ap (putLines schedule (linesFrom bytes t (nextRecord bytes k))) (put-is f' is-next)
             ∙ sym (ap (λ (ls : List Line). putLines schedule ls f) lines-are) ∙ p .does;
         fits = omega (arith, p .fits, ap length lines-are, ap (λ (x : Inputs). x .used) (put-is f' is-next), next-used schedule (isInput (lineOf bytes t k .kind)) k f);
+        counted = omega (arith, p .counted, ap length lines-are);
       })
 
 -- At thread t, with so many threads left.
-pub record Spreading (bytes schedule : List ℕ) (lengths t : ℕ) (f : Inputs) : Type 0 where
-  pub does : putThreads schedule (chains bytes t (threadCount bytes - t)) f ≡ putThreads schedule (caseOf bytes .threads) (noInputs lengths)
-  pub fits : f .used ≤ lengths + 64 * t
+pub record Spreading (bytes schedule : List ℕ) (f₀ : Inputs) (t : ℕ) (f : Inputs) (lines : List ℕ) : Type 0 where
+  pub does : putThreads schedule (chains bytes t (threadCount bytes - t)) f ≡ putThreads schedule (caseOf bytes .threads) f₀
+  pub fits : f .used ≤ f₀ .used + 64 * t
+  pub four : length lines ≡ 4
+  pub counted : (u : ℕ) → u < t → getD lines u 0 ≡ length (linesOf (caseOf bytes) u)
 
-module _ (bytes schedule : List ℕ) (lengths : ℕ) (ok : Accepted bytes) where
-  pub spreading-start : Spreading bytes schedule lengths 0 (noInputs lengths)
+module _ (bytes schedule : List ℕ) (f₀ : Inputs) (ok : Accepted bytes) where
+  pub spreading-start : Spreading bytes schedule f₀ 0 f₀ (replicate 4 0)
   spreading-start =
       let all : threadCount bytes - 0 ≡ threadCount bytes = omega arith in
-      record { does = ap (λ (x : ℕ). putThreads schedule (chains bytes 0 x) (noInputs lengths)) all; fits = omega arith }
+      record {
+        does = ap (λ (x : ℕ). putThreads schedule (chains bytes 0 x) f₀) all;
+        fits = omega arith;
+        four = refl;
+        counted = λ u h. absurd (omega arith);
+      }
 
-  module _ (t : ℕ) (f : Inputs) (s : Spreading bytes schedule lengths t f) where
-    pub spreading-end : threadCount bytes ≤ t → f ≡ putThreads schedule (caseOf bytes .threads) (noInputs lengths)
+  module _ (t : ℕ) (f : Inputs) (lines : List ℕ) (s : Spreading bytes schedule f₀ t f lines) where
+    pub spreading-end : threadCount bytes ≤ t → f ≡ putThreads schedule (caseOf bytes .threads) f₀
     unfolding putThreads chains
     spreading-end over = let none : threadCount bytes - t ≡ 0 = omega arith in
         sym (ap (λ (x : ℕ). putThreads schedule (chains bytes t x) f) none) ∙ s .does
 
-    pub spreading-more : (f' : Inputs) → t < threadCount bytes → f' ≡ putLines schedule (linesFrom bytes t (firstRecord bytes t)) f
-        → Spreading bytes schedule lengths (t + 1) f'
+    pub spreading-more : (f' : Inputs) (many : ℕ) → t < threadCount bytes → f' ≡ putLines schedule (linesFrom bytes t (firstRecord bytes t)) f
+        → many ≡ length (linesFrom bytes t (firstRecord bytes t)) → Spreading bytes schedule f₀ (t + 1) f' (set lines t many)
     unfolding putThreads chains
-    spreading-more f' more is =
+    spreading-more f' many more is are =
         let less : threadCount bytes - t ≡ suc (threadCount bytes - suc t) = omega arith in
         let next : t + 1 ≡ suc t = omega arith in
         record {
@@ -112,4 +130,12 @@ module _ (bytes schedule : List ℕ) (lengths : ℕ) (ok : Accepted bytes) where
             lines-used schedule (linesFrom bytes t (firstRecord bytes t)) f,
             few-lines-from bytes ok t (firstRecord bytes t) (ok .firsts t more),
           );
+          four = length-set lines t many ∙ s .four;
+          counted = λ u h. count u h (eq-view u t);
         }
+      where
+        count : (u : ℕ) → u < t + 1 → EqView u t → getD (set lines t many) u 0 ≡ length (linesOf (caseOf bytes) u)
+        count u h (same e q) =
+            ap (λ (x : ℕ). getD (set lines t many) x 0) e ∙ getD-set-same lines t many 0 (omega (arith, s .four, ok .few-threads))
+            ∙ are ∙ sym (ap length (threads-are bytes t more)) ∙ ap (λ (x : ℕ). length (linesOf (caseOf bytes) x)) (sym e)
+        count u h (diff e q) = getD-set-other lines t u many 0 e ∙ s .counted u (omega arith)

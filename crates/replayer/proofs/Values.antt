@@ -1,7 +1,7 @@
 -- What the spread values come to: as many as there are input lines, and each line's value where its record's number says.
 -- Assumes nothing.
 use mathlib.Core.Path.{_≡_, refl, sym, ap, _∙_}
-use Prim.Native.Nat.{ℕ, zero, suc, _+_, _≤_, _<_}
+use Prim.Native.Nat.{ℕ, suc, _+_, _≤_, _<_}
 use mathlib.Core.Bool.{Bool, true, false, cond}
 use mathlib.Core.List.{List, [], _∷_, _++_}
 use native.Mathlib.Omega.{arith}
@@ -15,8 +15,7 @@ use Rattle.model.specs.Schedule.{inputLines, allInputLines, valueGiven}
 use Rattle.laws.specs.Accepted.{Accepted}
 use Rattle.laws.proofs.Views.{EqView, same, diff, eq-view, LtView, below, above, lt-view}
 use Rattle.laws.proofs.Lines.{numbers-within, numbers-once}
-use Rattle.replayer.specs.declared.Inputs.{Inputs}
-use Rattle.replayer.specs.InputValues.{putNext, putLines, putThreads, noInputs}
+use Rattle.replayer.specs.InputValues.{Inputs, putNext, putLines, putThreads, noInputs}
 
 -- the next value goes to record k
 abbrev put : List ℕ → ℕ → Inputs → Inputs
@@ -168,14 +167,13 @@ pub lengths-fit : (bytes schedule : List ℕ) (lengths : ℕ) (f : Inputs) → f
     → length schedule ≡ f .used → lengths ≤ length schedule
 lengths-fit bytes schedule lengths f is whole = omega (arith, whole, ap (λ (x : Inputs). x .used) is, used-is bytes schedule lengths)
 
+-- Every record number has a place among the values.
+pub places : (bytes schedule : List ℕ) (lengths : ℕ) (f : Inputs) → f ≡ putThreads schedule (caseOf bytes .threads) (noInputs lengths)
+    → length (f .given) ≡ 257
+places bytes schedule lengths f is =
+    ap (λ (x : Inputs). length (x .given)) (is ∙ threads-put schedule (caseOf bytes .threads) (noInputs lengths))
+    ∙ puts-places schedule (allInputLines (caseOf bytes .threads)) (noInputs lengths) ∙ length-replicate {A = ℕ} 257 0
+
 pub records-have-places : (bytes schedule : List ℕ) (lengths : ℕ) (f : Inputs) → Accepted bytes
     → f ≡ putThreads schedule (caseOf bytes .threads) (noInputs lengths) → records bytes < length (f .given)
-records-have-places bytes schedule lengths f ok is =
-    let put-all = threads-put schedule (caseOf bytes .threads) (noInputs lengths) in
-    omega (
-      arith,
-      ok .few-records,
-      ap (λ (x : Inputs). length (x .given)) (is ∙ put-all),
-      puts-places schedule (allInputLines (caseOf bytes .threads)) (noInputs lengths),
-      length-replicate {A = ℕ} 257 0,
-    )
+records-have-places bytes schedule lengths f ok is = omega (arith, ok .few-records, places bytes schedule lengths f is)

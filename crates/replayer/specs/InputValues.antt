@@ -1,12 +1,16 @@
 -- The values that a schedule gives to input lines, put in their places by record number: what the code's loops do.
 -- Assumes nothing.
-use Prim.Native.Nat.{ℕ, suc, _+_}
+use Prim.Native.Nat.{ℕ, _+_}
 use mathlib.Core.Bool.{Bool, cond}
 use mathlib.Core.List.{List, [], _∷_}
 use lib.ListN.{getD, set, replicate}
-use Rattle.model.specs.CaseFile.{Line, switchCount}
+use Rattle.model.specs.CaseFile.{Line}
 use Rattle.model.specs.Line.{isInput}
-use Rattle.replayer.specs.declared.Inputs.{Inputs}
+
+-- The value given to each input line, by record number, and how many numbers of the schedule are used.
+pub record Inputs : Type 0 where
+  pub given : List ℕ
+  pub used : ℕ
 
 -- The next number of the schedule goes to record k, if that is an input.
 unfoldable pub putNext : List ℕ → Bool → ℕ → Inputs → Inputs

@@ -1,11 +1,9 @@
 // The replayer: what a schedule of a case comes to.
 ghost use mathlib.Core.Path.{_≡_};
-ghost use mathlib.Core.Bool.{cond};
-ghost use Prim.Native.Nat.{ℕ, suc, _+_, _%_, _<_, _≤_};
+ghost use Prim.Native.Nat.{ℕ, _<_, _≤_};
 ghost use lib.ListN.{length, getD, take};
-ghost use lib.Dec.{eqb};
 ghost use Rattle.model.specs.Lists.{writtenOver};
-ghost use Rattle.model.specs.CaseFile.{records, threadCount, switchCount, firstRecord, chains, caseOf, itemCount};
+ghost use Rattle.model.specs.CaseFile.{records, threadCount, firstRecord, caseOf, linesOf, itemCount};
 ghost use Rattle.model.specs.Accept.{verdict};
 ghost use Rattle.model.specs.Schedule.{stepsOf, lengthsAddUp};
 ghost use Rattle.model.specs.Machine as machine;
@@ -13,14 +11,20 @@ ghost use Rattle.model.specs.Answers.{answerOfRun, itemsAfter, afterReplayed, r
 ghost use Rattle.model.specs.declared.Verdict.the-variants as verdicts;
 ghost use Rattle.laws.specs.Accepted.{Accepted, linesFrom};
 ghost use Rattle.turn.specs.TurnState.{givenBy};
-ghost use Rattle.replayer.specs.InputValues.{putLines, putThreads, noInputs};
+ghost use Rattle.replayer.specs.InputValues.{putLines, putThreads};
 use model::Replayed;
 use model::Verdict;
 
-// The value given to each input line, by record number, and how many numbers of the schedule are used.
-pub struct Inputs {
-    pub given: [u16; 257],
+// How many numbers of the schedule are used after a thread, and how many lines the thread has.
+pub struct Walked {
     pub used: usize,
+    pub lines: usize,
+}
+
+// How many numbers of the schedule are used by all threads, and how many lines each has.
+pub struct Counts {
+    pub used: usize,
+    pub lines: [usize; 4],
 }
 
 // The number at j; 0 beyond the end.
@@ -30,83 +34,84 @@ fn at(xs: &[u16], j: usize) -> u16
     if j < xs.len() { xs[j] } else { 0 }
 }
 
-// The values of thread t's inputs: each takes the next number. They stay where they are, since they are too many to hand on with
-// each line.
-fn put_thread(case: &[u8], schedule: &[u16], t: usize, f: Inputs) -> Inputs
+// The values of thread t's inputs: each takes the next number, and goes to the place of its record.
+fn put_thread(
+    case: &[u8],
+    schedule: &[u16],
+    t: usize,
+    start: usize,
+    given: &mut [u16; 257],
+) -> Walked
     requires { ⌜ Accepted (now case) ⌝ }
-    requires { ⌜ (t < threadCount (now case)) × (f .used ≤ 1000) ⌝ }
-    ensures { λ r. ⌜ r ≡ putLines (now (schedule .entry)) (linesFrom (now (case .entry)) t (firstRecord (now (case .entry)) t)) f ⌝ }
+    requires { ⌜ (t < threadCount (now case)) × (start ≤ 1000) ⌝ }
+    ensures { λ r. ⌜ record { given = now (given .exit); used = r .used } ≡ putLines (now (schedule .entry)) (linesFrom (now (case .entry)) t (firstRecord (now (case .entry)) t)) (record { given = now (given .entry); used = start }) ⌝ }
+    ensures { λ r. ⌜ r .lines ≡ length (linesFrom (now (case .entry)) t (firstRecord (now (case .entry)) t)) ⌝ }
 {
     let mut k = case_file::first_of(case, t);
-    let mut g = f;
+    let mut used = start;
+    let mut lines = 0;
     while k != 0 {
         let l = case_file::record_at(case, k);
         if l.kind == 4 {
-            let j = g.used;
-            let v = at(schedule, j);
-            g.given[k] = v;
-            g.used = j + 1;
+            given[k] = at(schedule, used);
+            used += 1;
         }
+        lines += 1;
         k = l.next as usize;
     }
-    g
+    Walked { used, lines }
 }
 
-// The values of all inputs; a schedule's block lengths come first.
-fn inputs_of(case: &[u8], schedule: &[u16], lengths: usize) -> Inputs
+// The values of all inputs, by record number; a schedule's block lengths come first.
+fn inputs_of(case: &[u8], schedule: &[u16], lengths: usize, given: &mut [u16; 257]) -> Counts
     requires { ⌜ Accepted (now case) ⌝ }
     requires { ⌜ lengths ≤ 16 ⌝ }
-    ensures { λ r. ⌜ r ≡ putThreads (now (schedule .entry)) (caseOf (now (case .entry)) .threads) (noInputs lengths) ⌝ }
+    ensures { λ r. ⌜ record { given = now (given .exit); used = r .used } ≡ putThreads (now (schedule .entry)) (caseOf (now (case .entry)) .threads) (record { given = now (given .entry); used = lengths }) ⌝ }
+    ensures { λ r. ⌜ ((t : ℕ) → t < threadCount (now (case .entry)) → getD (r .lines) t 0 ≡ length (linesOf (caseOf (now (case .entry))) t)) ⌝ }
 {
     let threads = case_file::field_at(case, 0) as usize;
-    let given = [0u16; 257];
-    let mut f = Inputs {
-        given,
-        used: lengths,
-    };
+    let mut lines = [0usize; 4];
+    let mut used = lengths;
     let mut t = 0;
     while t < threads {
-        f = put_thread(case, schedule, t, f);
+        let w = put_thread(case, schedule, t, used, given);
+        used = w.used;
+        lines[t] = w.lines;
         t += 1;
     }
-    f
+    Counts { used, lines }
 }
 
-fn only_if(test: bool, x: usize) -> usize
-    ensures { λ r. ⌜ r ≡ cond test x 0 ⌝ }
-{
-    if test { x } else { 0 }
-}
-
-// The lengths of thread t's blocks added up, without wrapping.
-fn steps_of(case: &[u8], lengths: &[u16], t: usize) -> usize
+// The lengths of each thread's blocks added up, without wrapping.
+fn sums_of(case: &[u8], lengths: &[u16]) -> [usize; 4]
     requires { ⌜ Accepted (now case) ⌝ }
     requires { ⌜ length (now lengths) ≤ 16 ⌝ }
-    ensures { λ r. ⌜ r ≡ stepsOf (caseOf (now (case .entry))) t 0 (now (lengths .entry)) ⌝ }
+    ensures { λ r. ⌜ ((t : ℕ) → t < 4 → getD r t 0 ≡ stepsOf (caseOf (now (case .entry))) t 0 (now (lengths .entry))) ⌝ }
 {
     let threads = case_file::field_at(case, 0) as usize;
-    let mut sum = 0;
+    let mut sums = [0usize; 4];
     let mut i = 0;
     while i < lengths.len() {
+        let t = i % threads;
         let steps = at(lengths, i) as usize;
-        sum += only_if(t == i % threads, steps);
+        let sum = sums[t] + steps;
+        sums[t] = sum;
         i += 1;
     }
-    sum
+    sums
 }
 
 // Whether the block lengths of each thread add up to its lines.
-fn lengths_add_up(case: &[u8], lengths: &[u16]) -> bool
-    requires { ⌜ Accepted (now case) ⌝ }
-    requires { ⌜ length (now lengths) ≤ 16 ⌝ }
+fn lengths_add_up(case: &[u8], lengths: &[u16], lines: [usize; 4]) -> bool
+    requires { ⌜ Accepted (now case) × (length (now lengths) ≤ 16) ⌝ }
+    requires { ⌜ ((t : ℕ) → t < threadCount (now case) → getD lines t 0 ≡ length (linesOf (caseOf (now case)) t)) ⌝ }
     ensures { λ r. ⌜ r ≡ lengthsAddUp (caseOf (now (case .entry))) (now (lengths .entry)) ⌝ }
 {
     let threads = case_file::field_at(case, 0) as usize;
+    let sums = sums_of(case, lengths);
     let mut t = 0;
     while t < threads {
-        let first = case_file::first_of(case, t);
-        let lines = case_file::lines_in(case, first);
-        if steps_of(case, lengths, t) != lines {
+        if sums[t] != lines[t] {
             return false;
         }
         t += 1;
@@ -177,9 +182,10 @@ fn replay_accepted(case: &[u8], schedule: &[u16], items: &mut [u16]) -> Replayed
         };
     }
     let blocks = switches + 1;
-    let f = inputs_of(case, schedule, blocks);
-    let used = f.used;
-    let given = f.given;
+    let mut given = [0u16; 257];
+    let counts = inputs_of(case, schedule, blocks, &mut given);
+    let used = counts.used;
+    let lines = counts.lines;
     if schedule.len() != used {
         return Replayed::Refused {
             number: 12,
@@ -187,7 +193,7 @@ fn replay_accepted(case: &[u8], schedule: &[u16], items: &mut [u16]) -> Replayed
         };
     }
     let lengths = &schedule[..blocks];
-    if !lengths_add_up(case, lengths) {
+    if !lengths_add_up(case, lengths, lines) {
         return Replayed::Refused {
             number: 13,
             place: 0,

@@ -14,17 +14,13 @@ use Rattle.turn.specs.declared.Event.{Event}
 use Rattle.turn.specs.declared.Event.the-variants.{Ran, Strayed, Stopped}
 use Rattle.turn.specs.declared.Turn.{Turn}
 use Rattle.turn.specs.TurnState.{memoryOf, restOf, givenBy, isRan}
+use Rattle.turn.proofs.Steps.{ran-of}
 use Rattle.turn.specs.Promises.{endBy, endOf, continued, endAfter, Stepped, BlockRan}
 
 -- After some of the steps of a block of thread t, with so many left.
 pub record Going (bytes givens : List ℕ) (t steps : ℕ) (turn₀ : Turn) (left : ℕ) (turn : Turn) : Type 0 where
   pub does : endAfter bytes givens t left turn ≡ endAfter bytes givens t steps turn₀
   pub moves : turn .shared .event ≡ Ran → drop left (restOf bytes t turn) ≡ drop steps (restOf bytes t turn₀)
-
-ran-of : (event : Event) → isRan event ≡ true → event ≡ Ran
-ran-of Ran e = refl
-ran-of (Strayed k) e = absurd (let z : _≡_ {A = ℕ} 0 1 = cc in omega arith)
-ran-of (Stopped k) e = absurd (let z : _≡_ {A = ℕ} 0 1 = cc in omega arith)
 
 -- where the run has ended, nothing follows
 halts : (bytes : List ℕ) (event : Event) (turn : Turn) (next : Memory → ℕ → BlockEnd) → isRan event ≡ false

@@ -1,3 +1,4 @@
 pub mod Memories
 pub mod Steps
+pub mod LineKinds
 pub mod Blocks

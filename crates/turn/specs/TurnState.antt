@@ -9,11 +9,15 @@ use Rattle.model.specs.Machine.{Memory}
 use Rattle.laws.specs.Accepted.{linesFrom}
 use Rattle.turn.specs.declared.Event.{Event}
 use Rattle.turn.specs.declared.Event.the-variants.{Ran, Strayed, Stopped}
+use Rattle.turn.specs.declared.Course.{Course}
 use Rattle.turn.specs.declared.Turn.{Turn}
 
--- The memory of a thread with these locals, where the first so many items are those of the case.
-abbrev pub memory : List ℕ → List ℕ → ℕ → Memory
-memory locals items count = record { locals = locals; items = take count items }
+-- A turn: what goes from step to step, and the locals and items that are lent to the steps.
+abbrev pub turnOf : Course → List ℕ → List ℕ → Turn
+turnOf course locals items = record {
+  thread = record { next = course .next; locals = locals };
+  shared = record { event = course .event; items = items; note = course .note };
+}
 
 abbrev pub itemsOf : List ℕ → List ℕ → List ℕ
 itemsOf bytes items = take (itemCount (caseOf bytes)) items

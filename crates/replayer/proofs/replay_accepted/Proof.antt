@@ -1,13 +1,11 @@
 -- `replayer::replay_accepted` meets its contract. Assumes nothing.
-use mathlib.Core.Path.{_≡_, sym, _∙_}
-use native.Mathlib.Omega.{arith}
-use borrow.Author.Tests.{not-true, not-false}
+use mathlib.Core.Path.{sym}
 use Prim.Native.Nat.{_+_}
+use native.Mathlib.Omega.{arith}
 use lib.Seq.{length-take-le}
-use Rattle.replayer.proofs.Values.{lengths-fit, records-have-places}
+use borrow.Author.Tests.{not-true, not-false}
+use Rattle.replayer.proofs.Values.{lengths-fit, places, records-have-places}
 use Rattle.replayer.proofs.Calls.{answers-10, answers-12, answers-13, answers-run}
-use lib.ListN.{length, length-take}
-use Rattle.replayer.proofs.Values.{lengths-fit}
 use borrow.Author.Needs.{needs}
 use Rattle.replayer.proofs.replay_accepted.Statement.{statement}
 use Rattle.replayer.proofs.replay_accepted.Tie as tie
@@ -43,30 +41,31 @@ inputs-of-requires : tie.Need-inputs-of-requires
 inputs-of-requires c κs = search needs
 
 returns-2 : tie.Need-returns-2
-returns-2 c = answers-12 (c .before .before .before .before .before .before .before .before .before .before .args .case .now) (c .before .before .before .before .before .before .before .before .before .before .args .schedule .now) (c .before .before .before .before .before .before .before .before .before .before .args .items .now) (c .before .before .before .before .before .before .before .before .before .before .pre .0) (c .before .before .before .before .before .before .before .before .before .before .pre .1) _ _ _ (c .before .before .before .before .before .before .field-at .ensures) (c .before .before .before .before .before .field-at2 .ensures) (c .before .before .before .before .field-at3 .ensures) (c .before .before .before .if1 .left) _ (c .before .before .inputs-of .ensures) (c .if2 .taken)
+returns-2 c = answers-12 (c .before .before .before .before .before .before .before .before .before .before .before .args .case .now) (c .before .before .before .before .before .before .before .before .before .before .before .args .schedule .now) (c .before .before .before .before .before .before .before .before .before .before .before .args .items .now) (c .before .before .before .before .before .before .before .before .before .before .before .pre .0) (c .before .before .before .before .before .before .before .before .before .before .before .pre .1) _ _ _ (c .before .before .before .before .before .before .before .field-at .ensures) (c .before .before .before .before .before .before .field-at2 .ensures) (c .before .before .before .before .before .field-at3 .ensures) (c .before .before .before .before .if1 .left) _ (c .before .before .inputs-of .ensures .0) (c .if2 .taken)
 
 slice-aggregate-lengths : tie.Need-slice-aggregate-lengths
-slice-aggregate-lengths c = sym (length-take-le _ _ (lengths-fit _ _ _ _ (c .before .before .before .inputs-of .ensures) (c .before .if2 .left)))
+slice-aggregate-lengths c = sym (length-take-le _ _ (lengths-fit _ _ _ _ (c .before .before .before .inputs-of .ensures .0) (c .before .if2 .left)))
 
 lengths-add-up-requires : tie.Need-lengths-add-up-requires
-lengths-add-up-requires c κs = (c .before .before .before .before .before .before .before .before .before .before .before .pre .0, omega (arith, length-take-le (c .before .before .before .before .before .before .before .field-at .result + 1) (c .before .before .before .before .before .before .before .before .before .before .before .args .schedule .now) (lengths-fit _ _ _ _ (c .before .before .before .inputs-of .ensures) (c .before .if2 .left)), c .before .before .before .before .before .before .before .field-at .ensures, c .before .before .before .before .before .before .before .before .before .before .before .pre .0 .few-switches))
+lengths-add-up-requires c κs =
+    ((c .before .before .before .before .before .before .before .before .before .before .before .before .pre .0, omega (arith, length-take-le (c .before .before .before .before .before .before .before .before .field-at .result + 1) (c .before .before .before .before .before .before .before .before .before .before .before .before .args .schedule .now) (lengths-fit _ _ _ _ (c .before .before .before .inputs-of .ensures .0) (c .before .if2 .left)), c .before .before .before .before .before .before .before .before .field-at .ensures, c .before .before .before .before .before .before .before .before .before .before .before .before .pre .0 .few-switches)), c .before .before .before .inputs-of .ensures .1)
 
 returns-3 : tie.Need-returns-3
-returns-3 c = answers-13 (c .before .before .before .before .before .before .before .before .before .before .before .before .before .args .case .now) (c .before .before .before .before .before .before .before .before .before .before .before .before .before .args .schedule .now) (c .before .before .before .before .before .before .before .before .before .before .before .before .before .args .items .now) (c .before .before .before .before .before .before .before .before .before .before .before .before .before .pre .0) (c .before .before .before .before .before .before .before .before .before .before .before .before .before .pre .1) _ _ _ (c .before .before .before .before .before .before .before .before .before .field-at .ensures) (c .before .before .before .before .before .before .before .before .field-at2 .ensures) (c .before .before .before .before .before .before .before .field-at3 .ensures) (c .before .before .before .before .before .before .if1 .left) _ (c .before .before .before .before .before .inputs-of .ensures) (c .before .before .before .if2 .left) _ (c .before .lengths-add-up .ensures) (not-true _ (c .if3 .taken))
+returns-3 c = answers-13 (c .before .before .before .before .before .before .before .before .before .before .before .before .before .before .args .case .now) (c .before .before .before .before .before .before .before .before .before .before .before .before .before .before .args .schedule .now) (c .before .before .before .before .before .before .before .before .before .before .before .before .before .before .args .items .now) (c .before .before .before .before .before .before .before .before .before .before .before .before .before .before .pre .0) (c .before .before .before .before .before .before .before .before .before .before .before .before .before .before .pre .1) _ _ _ (c .before .before .before .before .before .before .before .before .before .before .field-at .ensures) (c .before .before .before .before .before .before .before .before .before .field-at2 .ensures) (c .before .before .before .before .before .before .before .before .field-at3 .ensures) (c .before .before .before .before .before .before .before .if1 .left) _ (c .before .before .before .before .before .inputs-of .ensures .0) (c .before .before .before .if2 .left) _ (c .before .lengths-add-up .ensures) (not-true _ (c .if3 .taken))
 
 slice-aggregate-replay-blocks : tie.Need-slice-aggregate-replay-blocks
-slice-aggregate-replay-blocks c = search needs
+slice-aggregate-replay-blocks c = sym (places _ _ _ _ (c .before .before .before .before .before .before .inputs-of .ensures .0))
 
 replay-blocks-requires : tie.Need-replay-blocks-requires
 replay-blocks-requires c κs =
-    (c .before .before .before .before .before .before .before .before .before .before .before .before .before .before .before .pre .0, (records-have-places _ _ _ _ (c .before .before .before .before .before .before .before .before .before .before .before .before .before .before .before .pre .0) (c .before .before .before .before .before .before .before .inputs-of .ensures), omega (arith, c .before .before .before .before .before .before .before .before .if1 .left, c .before .before .before .before .before .before .before .before .before .before .field-at2 .ensures, c .before .before .before .before .before .before .before .before .before .field-at3 .ensures)))
+    (c .before .before .before .before .before .before .before .before .before .before .before .before .before .before .before .before .pre .0, (records-have-places _ _ _ _ (c .before .before .before .before .before .before .before .before .before .before .before .before .before .before .before .before .pre .0) (c .before .before .before .before .before .before .before .inputs-of .ensures .0), omega (arith, c .before .before .before .before .before .before .before .before .before .if1 .left, c .before .before .before .before .before .before .before .before .before .before .before .field-at2 .ensures, c .before .before .before .before .before .before .before .before .before .before .field-at3 .ensures)))
 
 same-length : tie.Need-same-length
 same-length c = search needs
 
 returns-4 : tie.Need-returns-4
 returns-4 c =
-    answers-run (c .before .before .before .before .before .before .before .before .before .before .before .before .before .before .before .before .before .before .args .case .now) (c .before .before .before .before .before .before .before .before .before .before .before .before .before .before .before .before .before .before .args .schedule .now) (c .before .before .before .before .before .before .before .before .before .before .before .before .before .before .before .before .before .before .args .items .now) (c .before .before .before .before .before .before .before .before .before .before .before .before .before .before .before .before .before .before .pre .0) (c .before .before .before .before .before .before .before .before .before .before .before .before .before .before .before .before .before .before .pre .1) _ _ _ (c .before .before .before .before .before .before .before .before .before .before .before .before .before .before .field-at .ensures) (c .before .before .before .before .before .before .before .before .before .before .before .before .before .field-at2 .ensures) (c .before .before .before .before .before .before .before .before .before .before .before .before .field-at3 .ensures) (c .before .before .before .before .before .before .before .before .before .before .before .if1 .left) _ (c .before .before .before .before .before .before .before .before .before .before .inputs-of .ensures) (c .before .before .before .before .before .before .before .before .if2 .left) _ (c .before .before .before .before .before .before .lengths-add-up .ensures) _ _ (not-false _ (c .before .before .before .before .before .if3 .left))
+    answers-run (c .before .before .before .before .before .before .before .before .before .before .before .before .before .before .before .before .before .before .before .args .case .now) (c .before .before .before .before .before .before .before .before .before .before .before .before .before .before .before .before .before .before .before .args .schedule .now) (c .before .before .before .before .before .before .before .before .before .before .before .before .before .before .before .before .before .before .before .args .items .now) (c .before .before .before .before .before .before .before .before .before .before .before .before .before .before .before .before .before .before .before .pre .0) (c .before .before .before .before .before .before .before .before .before .before .before .before .before .before .before .before .before .before .before .pre .1) _ _ _ (c .before .before .before .before .before .before .before .before .before .before .before .before .before .before .before .field-at .ensures) (c .before .before .before .before .before .before .before .before .before .before .before .before .before .before .field-at2 .ensures) (c .before .before .before .before .before .before .before .before .before .before .before .before .before .field-at3 .ensures) (c .before .before .before .before .before .before .before .before .before .before .before .before .if1 .left) _ (c .before .before .before .before .before .before .before .before .before .before .inputs-of .ensures .0) (c .before .before .before .before .before .before .before .before .if2 .left) _ (c .before .before .before .before .before .before .lengths-add-up .ensures) _ _ (not-false _ (c .before .before .before .before .before .if3 .left))
     (c .before .before .replay-blocks .ensures .0) (c .before .before .replay-blocks .ensures .1)
 
 pub replay-accepted-spec : {M : Type 1} → statement M

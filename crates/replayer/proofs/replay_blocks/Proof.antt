@@ -1,5 +1,4 @@
 -- `replayer::replay_blocks` meets its contract. Assumes nothing.
-use native.Mathlib.Omega.{arith}
 use Rattle.replayer.proofs.Calls.{ends-refused, ends-written}
 use borrow.Author.Needs.{needs}
 use Rattle.replayer.proofs.replay_blocks.Statement.{statement}
