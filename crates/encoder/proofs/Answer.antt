@@ -7,7 +7,7 @@ use native.Mathlib.Omega.{arith}
 use borrow.Author.Tests.{le-leb, lt-leb}
 use lib.ListN.{length}
 use Rattle.model.specs.Lists.{writtenOver}
-use Rattle.model.specs.CaseFile.{records, threadCount, switchCount, globalCount, mutexCount, chains, caseOf}
+use Rattle.model.specs.CaseFile.{records, switchCount, globalCount, mutexCount, caseOf}
 use Rattle.model.specs.Accept.{verdict}
 use Rattle.model.specs.Assignment.{variables}
 use Rattle.model.specs.Table.{table, numbersOf}
@@ -21,12 +21,14 @@ use Rattle.laws.specs.Accepted as laws
 use Rattle.laws.proofs.Views.{LeView, within, beyond, le-view}
 use Rattle.encoder.specs.Rows.{rowsAt, orderPart, tablePart, encodedAccepted}
 use Rattle.encoder.proofs.Writing.{length-numbers, rows-from-start}
-use Rattle.encoder.proofs.Whole.{rowSum, whole-size, whole-count, whole-is}
+use Rattle.laws.proofs.Counting.{sumFrom}
+use Rattle.encoder.proofs.Records.{recordRows}
+use Rattle.encoder.proofs.Whole.{whole-size, whole-count, whole-is}
 use Rattle.encoder.proofs.Bridge.{table-is}
 
 module _ (bytes : List ℕ) (ok : laws.Accepted bytes) where
-  pub table-count : (n blocks : ℕ) → n ≡ rowSum (chains bytes 0 (threadCount bytes)) → blocks ≡ switchCount bytes * (globalCount bytes + mutexCount bytes) → n + blocks + 1 ≡ length (table (caseOf bytes))
-  table-count n blocks en eb = omega (arith, en, eb, whole-count bytes, ap length (table-is bytes ok))
+  pub table-count : (n blocks : ℕ) → n ≡ sumFrom (recordRows bytes) 1 (records bytes) → blocks ≡ switchCount bytes * (globalCount bytes + mutexCount bytes) → n + blocks + 1 ≡ length (table (caseOf bytes))
+  table-count n blocks en eb = omega (arith, en, eb, whole-count bytes ok, ap length (table-is bytes ok))
 
   -- room for the parts
   table-size : length (numbersOf (table (caseOf bytes))) ≡ 6 * length (orderPart bytes) + 6 * length (tablePart bytes)

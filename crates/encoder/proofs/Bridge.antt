@@ -20,7 +20,7 @@ use Rattle.model.specs.Table.{Row, row, demandRows, valueRows, allValueRows, it
 use Rattle.laws.specs.Accepted.{Accepted}
 use Rattle.laws.proofs.Chains.{length-chains}
 use Rattle.laws.proofs.Views.{EqView, same, diff, eq-view, LtView, below, above, lt-view}
-use Rattle.encoder.specs.Rows.{copiesOf, copyIn, withCopy, noCopies, demandWith, valueRowWith, lineRows, valuesWith, copiesAfter, allValuesWith, allCopiesAfter, itemsWith, blocksWith, finalCopies, orderPart, tablePart, wholeTable}
+use Rattle.encoder.specs.Rows.{copiesOf, copyIn, withCopy, noCopies, demandWith, valueRowWith, lineRows, valuesWith, copiesAfter, allValuesWith, allCopiesAfter, itemsWith, blocksWith, blocksOf, finalCopies, orderPart, tablePart, wholeTable}
 use Rattle.encoder.proofs.Names.{AllNamed, lines-named}
 
 -- The copies of a thread's names after these earlier lines, latest first.
@@ -28,7 +28,7 @@ pub record Knows (G : ℕ) (copies : List ℕ) (earlier : List Line) : Type 0 wh
   pub long : length copies ≡ noName
   pub holds : (name : ℕ) → name < noName → getD copies name 0 ≡ latest G name earlier
 
-copy-known : (G : ℕ) (copies : List ℕ) (earlier : List Line) (name : ℕ) → Knows G copies earlier → name ≤ noName → copyIn copies name ≡ copyOf G name earlier
+pub copy-known : (G : ℕ) (copies : List ℕ) (earlier : List Line) (name : ℕ) → Knows G copies earlier → name ≤ noName → copyIn copies name ≡ copyOf G name earlier
 unfolding copyIn copyOf
 copy-known G copies earlier name v h = go (lt-view name noName)
   where
@@ -62,7 +62,7 @@ module _ (m : List (List ℕ)) (t name k : ℕ) where
       go true = getD-set-other m t s (set (copiesOf m t) name k) [] h
       go false = refl
 
-noted-knows :
+pub noted-knows :
     (G : ℕ) (m : List (List ℕ)) (t : ℕ) (l : Line) (earlier : List Line) → t < length m → Knows G (copiesOf m t) earlier →
     Knows G (copiesOf (withCopy m t (targetName G l) (l .number)) t) (l ∷ earlier)
 unfolding withCopy
@@ -119,7 +119,7 @@ unfolding copiesAfter
 after-length G m t [] = refl
 after-length G m t (l ∷ ls) = after-length G (withCopy m t (targetName G l) (l .number)) t ls ∙ noted-length m t (targetName G l) (l .number)
 
-after-other : (G : ℕ) (m : List (List ℕ)) (t : ℕ) (ls : List Line) (s : ℕ) → s ≢ t → copiesOf (copiesAfter G m t ls) s ≡ copiesOf m s
+pub after-other : (G : ℕ) (m : List (List ℕ)) (t : ℕ) (ls : List Line) (s : ℕ) → s ≢ t → copiesOf (copiesAfter G m t ls) s ≡ copiesOf m s
 unfolding copiesAfter
 after-other G m t [] s h = refl
 after-other G m t (l ∷ ls) s h = after-other G (withCopy m t (targetName G l) (l .number)) t ls s h ∙ noted-other m t (targetName G l) (l .number) s h
@@ -206,15 +206,18 @@ module _ (bytes : List ℕ) (ok : Accepted bytes) where
   unfolding AllThreads
   threads-named j h = lines-named bytes ok j
 
-  final-knows : (j : ℕ) → j < threadCount bytes → Knows (globalCount bytes) (copiesOf (finalCopies bytes) j) (reverseAux (linesOf (caseOf bytes) j) [])
+  pub final-knows : (j : ℕ) → j < threadCount bytes → Knows (globalCount bytes) (copiesOf (finalCopies bytes) j) (reverseAux (linesOf (caseOf bytes) j) [])
   final-knows j h =
       subst (λ (x : ℕ). Knows (globalCount bytes) (copiesOf (finalCopies bytes) x) (reverseAux (linesOf (caseOf bytes) j) [])) (zero-add j)
       (all-after-knows (globalCount bytes) noCopies 0 (chains bytes 0 (threadCount bytes)) room (none-taken (globalCount bytes)) j (omega (arith, h, length-chains bytes 0 (threadCount bytes))))
+
+  pub blocks-are : blocksOf bytes (finalCopies bytes) ≡ blockRows (caseOf bytes) 0 (switchCount bytes)
+  blocks-are =
+      blocks-known (caseOf bytes) (finalCopies bytes) 0 (switchCount bytes) (omega (arith, ok .few-globals, ok .few-mutexes)) (omega (arith, ok .some-threads)) final-knows
 
   pub table-is : wholeTable bytes ≡ table (caseOf bytes)
   unfolding wholeTable tablePart table
   table-is =
       ap (λ (x : List Row). orderPart bytes ++ x)
       (ap₂ (λ (x y : List Row). x ++ (y ++ (goalRow ∷ [])))
-      (all-values-known (caseOf bytes) noCopies 0 (chains bytes 0 (threadCount bytes)) room (none-taken (globalCount bytes)) threads-named)
-      (blocks-known (caseOf bytes) (finalCopies bytes) 0 (switchCount bytes) (omega (arith, ok .few-globals, ok .few-mutexes)) (omega (arith, ok .some-threads)) final-knows))
+      (all-values-known (caseOf bytes) noCopies 0 (chains bytes 0 (threadCount bytes)) room (none-taken (globalCount bytes)) threads-named) blocks-are)

@@ -2,6 +2,7 @@ pub mod Writing
 pub mod Order
 pub mod Values
 pub mod Blocks
+pub mod Records
 pub mod Whole
 pub mod Names
 pub mod Bridge

@@ -82,7 +82,7 @@ module _ (bytes : List ℕ) (ok : Accepted bytes) where
       let p2 = and-true (leb (recordField bytes k 1) 8) (leb (recordField bytes k 2) 32 && rule) (p1 .1) in
       and-true (leb (recordField bytes k 2) 32) rule (p2 .1) .1
 
-  named : (t k : ℕ) → 0 < k → k ≤ records bytes → Named (globalCount bytes) (lineOf bytes t k)
+  pub named : (t k : ℕ) → 0 < k → k ≤ records bytes → Named (globalCount bytes) (lineOf bytes t k)
   named t k low high =
       let rule = rule-of k low high in
       record {

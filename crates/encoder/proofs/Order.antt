@@ -2,16 +2,15 @@
 -- Assumes nothing.
 use mathlib.Core.Path.{_≡_, refl, ap, _∙_}
 use mathlib.Core.Logic.{_≢_}
-use Prim.Native.Nat.{ℕ, suc, _+_, _-_, _*_, _≤_, _<_}
+use Prim.Native.Nat.{ℕ, _+_, _-_, _*_, _≤_, _<_}
 use mathlib.Core.List.{List, [], _∷_, _++_}
 use native.Mathlib.Omega.{arith}
-use native.Mathlib.Numerals.{add-one}
 use borrow.Author.Tests.{eq-eqb, ne-eqb}
 use lib.ListN.{length}
-use Rattle.model.specs.CaseFile.{Line, Case, records, firstRecord, nextRecord, lineOf, chains, threadCount}
+use Rattle.model.specs.CaseFile.{Line, Case, records, firstRecord, nextRecord, lineOf, threadCount}
 use Rattle.model.specs.Table.{row, orderRows}
 use Rattle.laws.specs.Accepted.{Accepted, linesFrom}
-use Rattle.laws.proofs.Chains.{linesFrom-end}
+use Rattle.laws.proofs.Following.{lines-end, lines-more, next-low}
 use Rattle.laws.proofs.Views.{EqView, same, diff, eq-view}
 use Rattle.encoder.specs.Rows.{rowsAt, followRow, threadLines}
 use Rattle.encoder.proofs.Writing.{Writing, writing-start}
@@ -23,20 +22,6 @@ follow-last k next n h = rw (eq-eqb next 0 h)
 pub follow-next : (k next n : ℕ) → next ≢ 0 → row 1 k next 0 0 0 ≡ followRow k next n
 unfolding followRow
 follow-next k next n h = rw (ne-eqb next 0 h)
-
--- at the end of a chain
-pub lines-end : (bytes : List ℕ) (t k : ℕ) → k ≡ 0 → linesFrom bytes t k ≡ []
-lines-end bytes t k h = rw h (linesFrom-end bytes t)
-
-module _ (bytes : List ℕ) (v : Accepted bytes) (t k : ℕ) (some : k ≢ 0) (low : k ≤ records bytes) where
-  pub lines-more : linesFrom bytes t k ≡ lineOf bytes t k ∷ linesFrom bytes t (nextRecord bytes k)
-  lines-more = v .lines-go-on t k (omega arith) low
-
-  pub next-low : nextRecord bytes k ≤ records bytes
-  next-low = v .nexts k (omega arith) low
-
-  pub lines-less : (next : ℕ) → next ≡ nextRecord bytes k → length (linesFrom bytes t next) < length (linesFrom bytes t k)
-  lines-less next e = omega (arith, ap length lines-more, ap (λ (j : ℕ). length (linesFrom bytes t j)) e)
 
 -- a line's two rows and the rest of its thread's
 pub order-more :
@@ -81,12 +66,3 @@ unfolding orderRows
 order-length case t [] = refl
 order-length case t (l ∷ []) = refl
 order-length case t (l ∷ (l' ∷ ls)) = omega (arith, order-length case t (l' ∷ ls))
-
--- the threads from t on
-pub chains-more : (bytes : List ℕ) (t to : ℕ) → t < to → chains bytes t (to - t) ≡ threadLines bytes t ∷ chains bytes (t + 1) (to - (t + 1))
-unfolding chains
-chains-more bytes t to h = let e : to - t ≡ suc (to - (t + 1)) = omega arith in rw (e, add-one t)
-
-pub chains-end : (bytes : List ℕ) (t to : ℕ) → to ≤ t → chains bytes t (to - t) ≡ []
-unfolding chains
-chains-end bytes t to h = let e : to - t ≡ 0 = omega arith in rw e

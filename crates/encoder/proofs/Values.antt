@@ -5,20 +5,18 @@ use mathlib.Core.Logic.{_≢_}
 use Prim.Native.Nat.{ℕ, suc, _+_, _*_, _≤_, _<_}
 use mathlib.Core.List.{List, [], _∷_, _++_}
 use native.Mathlib.Omega.{arith}
-use native.Mathlib.Nat.{zero-add}
 use borrow.Author.Tests.{ne-eqb, lt-ltb, le-ltb}
 use lib.ListN.{length, getD, set, length-append}
-use Rattle.model.specs.CaseFile.{Kind, compute, store, load, input, assert, assume, lock, unlock, kindOf, Line, records, threadCount, firstRecord, nextRecord, recordField, lineOf}
+use Rattle.model.specs.CaseFile.{Kind, compute, store, load, input, assert, assume, lock, unlock, kindOf, Line, records, threadCount, firstRecord, nextRecord, lineOf}
 use Rattle.model.specs.Line.{noName, guardName, operandA, operandB, targetName}
 use Rattle.model.specs.Table.{Row, row}
 use Rattle.laws.specs.Accepted.{Accepted, linesFrom}
-use Rattle.laws.proofs.Lines.{few-lines-from}
 use Rattle.laws.proofs.Views.{EqView, same, diff, eq-view}
 use Rattle.case_file.specs.declared.Record.{Record}
 use Rattle.case_file.specs.Records.{recordOf, asLine}
 use Rattle.encoder.specs.Rows.{rowsAt, threadLines, copiesOf, copyIn, withCopy, lineRowCount, demandWith, valueRowWith, lineRows, valuesWith, copiesAfter, valueCount}
 use Rattle.encoder.proofs.Writing.{rows-none, row-and-rows, Writing, writing-start, writing-more, writing-end}
-use Rattle.encoder.proofs.Order.{lines-end, lines-more, next-low}
+use Rattle.laws.proofs.Following.{lines-end, lines-more, next-low}
 
 -- the 5s
 none-for : (x k guard target : ℕ) → x ≢ 6 → x ≢ 7 → (demandWith (kindOf x) k guard target ≡ []) × (lineRowCount (kindOf x) ≡ 1)
@@ -125,11 +123,6 @@ values-length G latest t (l ∷ ls) =
     length-append (lineRows G (copiesOf latest t) l) (valuesWith G _ t ls)
     ∙ ap₂ (λ (a b : ℕ). a + b) (line-length G (copiesOf latest t) l) (values-length G _ t ls)
 
-pub count-at-most : (ls : List Line) → valueCount ls ≤ 2 * length ls
-unfolding valueCount
-count-at-most [] = omega arith
-count-at-most (l ∷ ls) = omega (arith, count-at-most ls, at-most-two (l .kind))
-
 -- The loop over thread t's lines, at record k: the rows that are left to write, and the copies that they leave.
 pub record Valuing (bytes : List ℕ) (t : ℕ) (out : List ℕ) (G : ℕ) (latest : List (List ℕ)) (at k : ℕ) (x : List ℕ) (last : List (List ℕ)) (end len : ℕ) : Type 0 where
   pub low : k ≤ records bytes
@@ -161,10 +154,6 @@ module _ (bytes : List ℕ) (ok : Accepted bytes) (t k : ℕ) (some : k ≢ 0) (
   unfolding copiesAfter
   copies-more G latest = ap (copiesAfter G latest t) (lines-more bytes ok t k some low)
 
-  pub count-more : valueCount (linesFrom bytes t k) ≡ lineRowCount (kindOf (recordField bytes k 1)) + valueCount (linesFrom bytes t (nextRecord bytes k))
-  unfolding valueCount
-  count-more = ap valueCount (lines-more bytes ok t k some low)
-
   module _ (out : List ℕ) (G : ℕ) (latest : List (List ℕ)) (at : ℕ) (x : List ℕ) (last : List (List ℕ)) (end len : ℕ) (v : Valuing bytes t out G latest at k x last end len) where
     pub valuing-room : (l : Record) → l ≡ recordOf bytes k → at + 6 * lineRowCount (kindOf (l .kind)) ≤ end
     valuing-room l e =
@@ -194,43 +183,11 @@ module _ (bytes : List ℕ) (ok : Accepted bytes) (t k : ℕ) (some : k ≢ 0) (
 
 pub valuing-end :
     (bytes : List ℕ) (t : ℕ) (out : List ℕ) (G : ℕ) (latest : List (List ℕ)) (at k : ℕ) (x : List ℕ) (last : List (List ℕ)) (end len : ℕ) →
-    Valuing bytes t out G latest at k x last end len → k ≡ 0 → (out ≡ x) × (latest ≡ last)
+    Valuing bytes t out G latest at k x last end len → k ≡ 0 → (out ≡ x) × ((at ≡ end) × (latest ≡ last))
 unfolding valuesWith copiesAfter
-valuing-end bytes t out G latest at k x last end len v h = (
-  writing-end out at _ x end len (v .writes) (ap (valuesWith G latest t) (lines-end bytes t k h)) .0,
-  sym (ap (copiesAfter G latest t) (lines-end bytes t k h)) ∙ v .copies,
-)
-
--- counting a thread's 4s and 5s
-pub record Counting (bytes : List ℕ) (t k n all : ℕ) : Type 0 where
-  pub low : k ≤ records bytes
-  pub left : n + valueCount (linesFrom bytes t k) ≡ all
-
-pub counting-start : (bytes : List ℕ) → Accepted bytes → (t k : ℕ) → t < threadCount bytes → k ≡ firstRecord bytes t → Counting bytes t k 0 (valueCount (threadLines bytes t))
-counting-start bytes ok t k h e = record { low = omega (arith, ok .firsts t h); left = rw e (zero-add _) }
-
-pub counting-more :
-    (bytes : List ℕ) → Accepted bytes → (t k n all : ℕ) → k ≢ 0 → Counting bytes t k n all → (l : Record) (c next : ℕ) → l ≡ recordOf bytes k →
-    c ≡ lineRowCount (kindOf (l .kind)) → next ≡ l .next → Counting bytes t next (n + c) all
-counting-more bytes ok t k n all some v l c next el ec ek =
-    rw (ek, el)
-    (record {
-      low = next-low bytes ok t k some (v .low);
-      left = omega (arith, v .left, count-more bytes ok t k some (v .low), ec, ap (λ (r : Record). lineRowCount (kindOf (r .kind))) el);
-    })
-
-pub counting-end : (bytes : List ℕ) (t k n all : ℕ) → Counting bytes t k n all → k ≡ 0 → n ≡ all
-unfolding valueCount
-counting-end bytes t k n all v h = omega (arith, v .left, ap valueCount (lines-end bytes t k h))
-
--- a thread has at most 64 lines
-pub few-values : (bytes : List ℕ) → Accepted bytes → (t k : ℕ) → k ≤ records bytes → valueCount (linesFrom bytes t k) ≤ 128
-few-values bytes ok t k h = omega (arith, count-at-most (linesFrom bytes t k), few-lines-from bytes ok t k h)
-
-pub counting-room :
-    (bytes : List ℕ) → Accepted bytes → (t k n all : ℕ) → k ≢ 0 → Counting bytes t k n all → (l : Record) (c : ℕ) → l ≡ recordOf bytes k → c ≡ lineRowCount (kindOf (l .kind)) → n + c ≤ all
-counting-room bytes ok t k n all some v l c el ec =
-    omega (arith, v .left, count-more bytes ok t k some (v .low), ec, ap (λ (r : Record). lineRowCount (kindOf (r .kind))) el)
+valuing-end bytes t out G latest at k x last end len v h =
+    let done = writing-end out at _ x end len (v .writes) (ap (valuesWith G latest t) (lines-end bytes t k h)) in
+    (done .0, (done .1, sym (ap (copiesAfter G latest t) (lines-end bytes t k h)) ∙ v .copies))
 
 pub next-of-record : (bytes : List ℕ) (k : ℕ) (l : Record) → l ≡ recordOf bytes k → l .next ≡ nextRecord bytes k
 next-of-record bytes k l e = rw e

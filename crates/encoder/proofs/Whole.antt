@@ -4,19 +4,20 @@ use mathlib.Core.Path.{_≡_, refl, sym, ap, _∙_}
 use Prim.Native.Nat.{ℕ, suc, _+_, _-_, _*_, _≤_, _<_}
 use mathlib.Core.List.{List, [], _∷_, _++_}
 use native.Mathlib.Omega.{arith}
-use native.Mathlib.Nat.{zero-add}
 use native.Mathlib.Numerals.{add-one}
 use lib.ListN.{length, length-append}
-use Rattle.model.specs.CaseFile.{Line, Case, threadCount, switchCount, globalCount, mutexCount, firstRecord, chains, caseOf}
+use Rattle.model.specs.CaseFile.{Line, Case, records, threadCount, switchCount, globalCount, mutexCount, chains, caseOf, sumOfLines, sumOfThreads}
 use Rattle.model.specs.Table.{orderRows, allOrderRows, goalRow}
-use Rattle.laws.specs.Accepted.{Accepted, linesFrom}
-use Rattle.laws.proofs.Chains.{linesFrom-length-any-thread}
-use Rattle.laws.proofs.Lines.{few-lines-from}
-use Rattle.encoder.specs.Rows.{rowsAt, threadLines, valuesWith, copiesAfter, allValuesWith, allCopiesAfter, valueCount, noCopies, blocksOf, valuePart, finalCopies, orderPart, tablePart, wholeTable}
+use Rattle.laws.specs.Accepted.{Accepted}
+use Rattle.encoder.specs.Rows.{rowsAt, threadLines, valuesWith, copiesAfter, allValuesWith, allCopiesAfter, lineRowCount, valueCount, noCopies, blocksOf, valuePart, finalCopies, orderPart, tablePart, wholeTable}
 use Rattle.encoder.proofs.Writing.{rows-append, Writing, writing-start, writing-more, writing-end}
-use Rattle.encoder.proofs.Order.{order-length, chains-more, chains-end}
+use Rattle.laws.proofs.Following.{chains-more, chains-end}
+use Rattle.encoder.proofs.Order.{order-length}
 use Rattle.encoder.proofs.Values.{values-length}
 use Rattle.encoder.proofs.Blocks.{blocks-length}
+use Rattle.laws.proofs.Counting.{sumFrom}
+use Rattle.laws.proofs.RecordSums.{lines-add-up}
+use Rattle.encoder.proofs.Records.{recordRows}
 
 -- The 3s, 1s and 2s.
 pub orders-all : (bytes : List ℕ) (case : Case) (to : ℕ) → to ≡ threadCount bytes → allOrderRows case 0 (chains bytes 0 (to - 0)) ≡ allOrderRows case 0 (chains bytes 0 (threadCount bytes))
@@ -37,16 +38,6 @@ pub orders-room :
     Writing out at (allOrderRows case t (chains bytes t (to - t))) x end len → at + 6 * length (orderRows case t (threadLines bytes t)) ≤ end
 orders-room bytes case t to out at x end len h w =
     omega (arith, w .room, ap length (orders-more bytes case t to h), length-append (orderRows case t (threadLines bytes t)) (allOrderRows case (t + 1) (chains bytes (t + 1) (to - (t + 1)))))
-
--- how many lines thread t has, as the code counts them
-pub lines-counted :
-    (bytes : List ℕ) → Accepted bytes → (t f c : ℕ) → t < threadCount bytes → f ≡ firstRecord bytes t → c ≡ length (linesFrom bytes 0 f) → (c ≡ length (threadLines bytes t)) × (c ≤ 64)
-lines-counted bytes ok t f c h ef ec =
-    let e : c ≡ length (threadLines bytes t) = ec ∙ linesFrom-length-any-thread bytes 0 t f ∙ ap (λ (k : ℕ). length (linesFrom bytes t k)) ef in
-    (e, omega (arith, e, few-lines-from bytes ok t (firstRecord bytes t) (ok .firsts t h)))
-
-pub orders-place : (case : Case) (t : ℕ) (ls : List Line) (at c : ℕ) → c ≡ length ls → at + 12 * c ≡ at + 6 * length (orderRows case t ls)
-orders-place case t ls at c e = omega (arith, e, order-length case t ls)
 
 -- The 4s and 5s.
 pub record Threading (bytes out : List ℕ) (G : ℕ) (latest : List (List ℕ)) (t at to : ℕ) (x : List ℕ) (last : List (List ℕ)) (end len : ℕ) : Type 0 where
@@ -80,19 +71,15 @@ module _ (bytes out : List ℕ) (G : ℕ) (latest : List (List ℕ)) (t at to : 
         length-append (valuesWith G latest t (threadLines bytes t)) (allValuesWith G (copiesAfter G latest t (threadLines bytes t)) (t + 1) (chains bytes (t + 1) (to - (t + 1)))),
       )
 
-  pub threading-place : (c : ℕ) → t < to → c ≡ valueCount (threadLines bytes t) → at + 6 * c ≤ end
-  threading-place c h e = omega (arith, threading-room h, values-length G latest t (threadLines bytes t))
-
   pub threading-more :
-      (a : List ℕ) (latest' : List (List ℕ)) (c : ℕ) → t < to → a ≡ rowsAt out at (valuesWith G latest t (threadLines bytes t)) → latest' ≡ copiesAfter G latest t (threadLines bytes t) →
-      c ≡ valueCount (threadLines bytes t) → Threading bytes a G latest' (t + 1) (at + 6 * c) to x last end len
-  threading-more a latest' c h ea em ec =
+      (a : List ℕ) (latest' : List (List ℕ)) (at' : ℕ) → t < to → a ≡ rowsAt out at (valuesWith G latest t (threadLines bytes t)) →
+      at' ≡ at + 6 * length (valuesWith G latest t (threadLines bytes t)) → latest' ≡ copiesAfter G latest t (threadLines bytes t) →
+      Threading bytes a G latest' (t + 1) at' to x last end len
+  threading-more a latest' at' h ea ep em =
       rw em
       (record {
         upto = omega arith;
-        writes =
-            writing-more out at _ x end len (v .writes) (valuesWith G latest t (threadLines bytes t)) _ a (at + 6 * c) (values-more h) ea
-            (omega (arith, ec, values-length G latest t (threadLines bytes t)));
+        writes = writing-more out at _ x end len (v .writes) (valuesWith G latest t (threadLines bytes t)) _ a at' (values-more h) ea ep;
         copies = sym (copies-more h) ∙ v .copies;
       })
 
@@ -152,43 +139,37 @@ module _ (bytes : List ℕ) where
   goal-fits start at count room e ec h = omega (arith, rest-size)
 
 -- Counting the rows.
-unfoldable pub rowSum : List (List Line) → ℕ
-rowSum [] = 0
-rowSum (ls ∷ threads) = 2 * length ls + valueCount ls + rowSum threads
+abbrev lineWeight : Line → ℕ
+lineWeight l = 2 + lineRowCount (l .kind)
 
-row-sum : (case : Case) (G : ℕ) (latest : List (List ℕ)) (t : ℕ) (threads : List (List Line)) → length (allOrderRows case t threads) + length (allValuesWith G latest t threads) ≡ rowSum threads
-unfolding allOrderRows allValuesWith rowSum
-row-sum case G latest t [] = refl
-row-sum case G latest t (ls ∷ threads) =
+thread-weight : (ls : List Line) → sumOfLines lineWeight ls ≡ 2 * length ls + valueCount ls
+unfolding valueCount
+thread-weight [] = refl
+thread-weight (l ∷ ls) = omega (arith, thread-weight ls)
+
+threads-weight : (case : Case) (G : ℕ) (latest : List (List ℕ)) (t : ℕ) (threads : List (List Line)) → length (allOrderRows case t threads) + length (allValuesWith G latest t threads) ≡ sumOfThreads lineWeight threads
+unfolding allOrderRows allValuesWith
+threads-weight case G latest t [] = refl
+threads-weight case G latest t (ls ∷ threads) =
     omega (
       arith,
       length-append (orderRows case t ls) (allOrderRows case (suc t) threads),
       order-length case t ls,
       length-append (valuesWith G latest t ls) (allValuesWith G (copiesAfter G latest t ls) (suc t) threads),
       values-length G latest t ls,
-      row-sum case G (copiesAfter G latest t ls) (suc t) threads,
+      thread-weight ls,
+      threads-weight case G (copiesAfter G latest t ls) (suc t) threads,
     )
 
-pub whole-count : (bytes : List ℕ) → length (wholeTable bytes) ≡ rowSum (chains bytes 0 (threadCount bytes)) + switchCount bytes * (globalCount bytes + mutexCount bytes) + 1
-whole-count bytes = omega (arith, whole-size bytes, rest-size bytes, row-sum (caseOf bytes) (globalCount bytes) noCopies 0 (chains bytes 0 (threadCount bytes)))
-
-pub record Counting (bytes : List ℕ) (t to n all : ℕ) : Type 0 where
-  pub upto : t ≤ to
-  pub small : n ≤ 256 * t
-  pub left : n + rowSum (chains bytes t (to - t)) ≡ all
-
-pub counting-start : (bytes : List ℕ) (to : ℕ) → to ≡ threadCount bytes → Counting bytes 0 to 0 (rowSum (chains bytes 0 (threadCount bytes)))
-counting-start bytes to e =
-    let z : to - 0 ≡ threadCount bytes = omega arith in
-    record { upto = omega arith; small = omega arith; left = rw z (zero-add _) }
-
-pub counting-more :
-    (bytes : List ℕ) (t to n all lines values : ℕ) → Counting bytes t to n all → t < to → (lines ≡ length (threadLines bytes t)) × (lines ≤ 64) →
-    (values ≡ valueCount (threadLines bytes t)) × (values ≤ 128) → Counting bytes (t + 1) to (n + (2 * lines + values)) all
-unfolding rowSum
-counting-more bytes t to n all lines values v h el ev =
-    record { upto = omega arith; small = omega (arith, v .small, el .1, ev .1); left = omega (arith, v .left, ap rowSum (chains-more bytes t to h), el .0, ev .0) }
-
-pub counting-end : (bytes : List ℕ) (t to n all : ℕ) → Counting bytes t to n all → to ≤ t → n ≡ all
-unfolding rowSum
-counting-end bytes t to n all v h = omega (arith, v .left, ap rowSum (chains-end bytes t to h))
+pub whole-count :
+    (bytes : List ℕ) → Accepted bytes →
+    length (wholeTable bytes) ≡ sumFrom (recordRows bytes) 1 (records bytes) + switchCount bytes * (globalCount bytes + mutexCount bytes) + 1
+unfolding recordRows
+whole-count bytes ok =
+    omega (
+      arith,
+      whole-size bytes,
+      rest-size bytes,
+      threads-weight (caseOf bytes) (globalCount bytes) noCopies 0 (chains bytes 0 (threadCount bytes)),
+      lines-add-up (recordRows bytes) bytes ok lineWeight (λ t k. refl),
+    )

@@ -11,12 +11,14 @@ ghost use Rattle.model.specs.Table as model;
 ghost use Rattle.model.specs.Answers.{afterEncoded, encoded, encodedInto};
 ghost use Rattle.laws.specs.Accepted.{Accepted};
 ghost use Rattle.case_file.specs.Records.{asLine};
-ghost use Rattle.encoder.specs.Rows.{asRow, rowsAt, threadLines, followRow, copiesOf, copyIn, withCopy, lineRowCount, demandWith, valueRowWith, lineRows, valuesWith, copiesAfter, valueCount, itemsWith, blocksOf, orderPart, tablePart, encodedAccepted};
+ghost use Rattle.encoder.specs.Rows.{asRow, rowsAt, threadLines, followRow, copiesOf, copyIn, lineRowCount, demandWith, valueRowWith, lineRows, valuesWith, copiesAfter, itemsWith, blocksOf, orderPart, tablePart, encodedAccepted};
+
+pub mod rows; // rows.rt: the rows other than the 4, and a row put into the slice
+
 use case_file::Record;
 use case_file::accept;
 use case_file::field_at;
 use case_file::first_of;
-use case_file::lines_in;
 use case_file::next_of;
 use case_file::record_at;
 use case_file::records;
@@ -69,23 +71,24 @@ fn encode_accepted(case: &[u8], table: &mut [u16]) -> Encoded
     }
 }
 
-// How many constraints the table of an accepted case has.
-pub fn constraint_count(case: &[u8]) -> usize
+// How many constraints the table of an accepted case has: its records' rows, the 6s and the 7.
+fn constraint_count(case: &[u8]) -> usize
     requires { ⌜ Accepted (now case) ⌝ }
     ensures { λ r. ⌜ (r ≡ length (model.table (caseOf (now (case .entry))))) × (r ≤ 1205) ⌝ }
 {
-    let threads = field_at(case, 0) as usize;
+    let last = records(case);
     let mut n = 0;
-    let mut thread = 0;
-    while thread < threads {
-        n += 2 * lines_in(case, first_of(case, thread)) + value_rows(case, thread);
-        thread += 1;
+    let mut k = 1;
+    while k <= last {
+        let l = record_at(case, k);
+        n += 2 + line_rows(l.kind);
+        k += 1;
     }
     n + block_rows(case) + 1
 }
 
 // The table of an accepted case, from the slice's start.
-pub fn write_table(case: &[u8], table: &mut [u16])
+fn write_table(case: &[u8], table: &mut [u16])
     requires { ⌜ Accepted (now case) ⌝ }
     requires { ⌜ length (numbersOf (model.table (caseOf (now case)))) ≤ length (now table) ⌝ }
     ensures { λ x. ⌜ now (table .exit) ≡ writtenOver (numbersOf (model.table (caseOf (now (case .entry))))) (now (table .entry)) ⌝ }
@@ -94,74 +97,24 @@ pub fn write_table(case: &[u8], table: &mut [u16])
     write_rest(case, table, at);
 }
 
-// The 3 of a line.
-fn thread_row(k: u16, threads: u16, t: u16) -> Constraint
-    ensures { λ r. ⌜ asRow r ≡ row 3 k threads t 0 0 ⌝ }
-{
-    Constraint {
-        kind: 3,
-        one: k,
-        two: threads,
-        three: t,
-        four: 0,
-        five: 0,
-    }
-}
-
-// The row after a line's 3: a 1 with the next line, or a 2 with the last block.
-fn follow_row(k: u16, next: u16, last: u16) -> Constraint
-    ensures { λ r. ⌜ asRow r ≡ followRow k next last ⌝ }
-{
-    if next == 0 {
-        return Constraint {
-            kind: 2,
-            one: k,
-            two: last,
-            three: 0,
-            four: 0,
-            five: 0,
-        };
-    }
-    Constraint {
-        kind: 1,
-        one: k,
-        two: next,
-        three: 0,
-        four: 0,
-        five: 0,
-    }
-}
-
-// A row's six numbers, from a place on.
-fn put_row(table: &mut [u16], at: usize, w: Constraint)
-    requires { ⌜ at + 6 ≤ length (now table) ⌝ }
-    ensures { λ x. ⌜ now (table .exit) ≡ rowsAt (now (table .entry)) at (asRow w ∷ []) ⌝ }
-{
-    table[at] = w.kind;
-    table[at + 1] = w.one;
-    table[at + 2] = w.two;
-    table[at + 3] = w.three;
-    table[at + 4] = w.four;
-    table[at + 5] = w.five;
-}
-
 // The two order rows of a line.
 fn put_order(table: &mut [u16], at: usize, k: u16, threads: u16, t: u16, next: u16, last: u16)
     requires { ⌜ at + 12 ≤ length (now table) ⌝ }
     ensures { λ x. ⌜ now (table .exit) ≡ rowsAt (now (table .entry)) at (row 3 k threads t 0 0 ∷ (followRow k next last ∷ [])) ⌝ }
 {
-    let first = thread_row(k, threads, t);
-    put_row(table, at, first);
-    let second = follow_row(k, next, last);
-    put_row(table, at + 6, second);
+    let first = rows::thread_row(k, threads, t);
+    rows::put_row(table, at, first);
+    let second = rows::follow_row(k, next, last);
+    rows::put_row(table, at + 6, second);
 }
 
-// The 3s, 1s and the 2 of thread t, from a place on.
-fn write_order(case: &[u8], table: &mut [u16], start: usize, t: usize)
+// The 3s, 1s and the 2 of thread t, from a place on; the place after them.
+fn write_order(case: &[u8], table: &mut [u16], start: usize, t: usize) -> usize
     requires { ⌜ Accepted (now case) ⌝ }
     requires { ⌜ t < threadCount (now case) ⌝ }
     requires { ⌜ start + 6 * length (orderRows (caseOf (now case)) t (threadLines (now case) t)) ≤ length (now table) ⌝ }
-    ensures { λ x. ⌜ now (table .exit) ≡ rowsAt (now (table .entry)) start (orderRows (caseOf (now (case .entry))) t (threadLines (now (case .entry)) t)) ⌝ }
+    ensures { λ r. ⌜ now (table .exit) ≡ rowsAt (now (table .entry)) start (orderRows (caseOf (now (case .entry))) t (threadLines (now (case .entry)) t)) ⌝ }
+    ensures { λ r. ⌜ r ≡ start + 6 * length (orderRows (caseOf (now (case .entry))) t (threadLines (now (case .entry)) t)) ⌝ }
 {
     let threads = field_at(case, 0);
     let last = field_at(case, 1);
@@ -173,6 +126,7 @@ fn write_order(case: &[u8], table: &mut [u16], start: usize, t: usize)
         at += 12;
         k = next;
     }
+    at
 }
 
 // The 3s, 1s and 2s of all threads, from the start; the place after them.
@@ -186,8 +140,7 @@ fn write_orders(case: &[u8], table: &mut [u16]) -> usize
     let mut at = 0;
     let mut t = 0;
     while t < threads {
-        write_order(case, table, at, t);
-        at += 12 * lines_in(case, first_of(case, t));
+        at = write_order(case, table, at, t);
         t += 1;
     }
     at
@@ -206,32 +159,22 @@ fn value_row(k: u16, l: Record, globals: usize, latest: &[[u16; 28]; 4], t: usiz
     requires { ⌜ (t < 4) × (globals ≤ 8) ⌝ }
     ensures { λ r. ⌜ asRow r ≡ valueRowWith globals (copiesOf (now (latest .entry)) t) (asLine l t k) ⌝ }
 {
+    let target = target_name(globals, l);
+    let a = operand_a(l);
+    let b = operand_b(l);
+    let guard = guard_name(l);
     Constraint {
         kind: 4,
         one: k,
-        two: copy_at(latest, t, guard_name(l)),
-        three: copy_at(latest, t, operand_a(l)),
-        four: copy_at(latest, t, operand_b(l)),
-        five: copy_at(latest, t, target_name(globals, l)),
-    }
-}
-
-// The 5 of a line.
-fn demand_row(k: u16, guard: u16, target: u16) -> Constraint
-    ensures { λ r. ⌜ asRow r ≡ row 5 k guard target 0 0 ⌝ }
-{
-    Constraint {
-        kind: 5,
-        one: k,
-        two: guard,
-        three: target,
-        four: 0,
-        five: 0,
+        two: copy_at(latest, t, guard),
+        three: copy_at(latest, t, a),
+        four: copy_at(latest, t, b),
+        five: copy_at(latest, t, target),
     }
 }
 
 // How many rows a line of a kind has besides its order rows: a 4, and a 5 for assume and lock.
-fn line_rows(kind: u16) -> usize
+pub fn line_rows(kind: u16) -> usize
     ensures { λ r. ⌜ r ≡ lineRowCount (kindOf kind) ⌝ }
 {
     match kind {
@@ -248,12 +191,12 @@ fn put_demand(table: &mut [u16], at: usize, kind: u16, k: u16, guard: u16, targe
 {
     match kind {
         6 => {
-            let w = demand_row(k, 0, 0);
-            put_row(table, at, w);
+            let w = rows::demand_row(k, 0, 0);
+            rows::put_row(table, at, w);
         }
         7 => {
-            let w = demand_row(k, guard, target);
-            put_row(table, at, w);
+            let w = rows::demand_row(k, guard, target);
+            rows::put_row(table, at, w);
         }
         _ => {}
     }
@@ -274,69 +217,41 @@ fn put_line(
     ensures { λ x. ⌜ now (table .exit) ≡ rowsAt (now (table .entry)) at (lineRows globals (copiesOf (now (latest .entry)) t) (asLine l t k)) ⌝ }
 {
     let w = value_row(k, l, globals, latest, t);
-    put_row(table, at, w);
+    rows::put_row(table, at, w);
     put_demand(table, at + 6, l.kind, k, w.two, w.five);
 }
 
-// The 4s and 5s of thread t, from a place on; the latest copies after its lines.
+// The 4s and 5s of thread t, from the place lent, which moves past them; the latest copies after its lines.
 fn write_values(
     case: &[u8],
     table: &mut [u16],
-    start: usize,
+    place: &mut usize,
     t: usize,
     before: [[u16; 28]; 4],
 ) -> [[u16; 28]; 4]
     requires { ⌜ Accepted (now case) ⌝ }
     requires { ⌜ t < threadCount (now case) ⌝ }
-    requires { ⌜ start + 6 * length (valuesWith (globalCount (now case)) before t (threadLines (now case) t)) ≤ length (now table) ⌝ }
-    ensures { λ r. ⌜ now (table .exit) ≡ rowsAt (now (table .entry)) start (valuesWith (globalCount (now (case .entry))) before t (threadLines (now (case .entry)) t)) ⌝ }
+    requires { ⌜ now place + 6 * length (valuesWith (globalCount (now case)) before t (threadLines (now case) t)) ≤ length (now table) ⌝ }
+    ensures { λ r. ⌜ now (table .exit) ≡ rowsAt (now (table .entry)) (now (place .entry)) (valuesWith (globalCount (now (case .entry))) before t (threadLines (now (case .entry)) t)) ⌝ }
+    ensures { λ r. ⌜ now (place .exit) ≡ now (place .entry) + 6 * length (valuesWith (globalCount (now (case .entry))) before t (threadLines (now (case .entry)) t)) ⌝ }
     ensures { λ r. ⌜ r ≡ copiesAfter (globalCount (now (case .entry))) before t (threadLines (now (case .entry)) t) ⌝ }
 {
     let globals = field_at(case, 2) as usize;
     let mut latest = before;
-    let mut at = start;
+    let mut at = *place;
     let mut k = first_of(case, t);
     while k != 0 {
         let l = record_at(case, k);
+        let name = target_name(globals, l);
         put_line(table, at, k as u16, l, globals, &latest, t);
         at += 6 * line_rows(l.kind);
-        let name = target_name(globals, l);
         if name < 28 {
             latest[t][name] = k as u16;
         }
         k = l.next as usize;
     }
+    *place = at;
     latest
-}
-
-// How many 4s and 5s thread t has.
-fn value_rows(case: &[u8], t: usize) -> usize
-    requires { ⌜ Accepted (now case) ⌝ }
-    requires { ⌜ t < threadCount (now case) ⌝ }
-    ensures { λ r. ⌜ (r ≡ valueCount (threadLines (now (case .entry)) t)) × (r ≤ 128) ⌝ }
-{
-    let mut n = 0;
-    let mut k = first_of(case, t);
-    while k != 0 {
-        let l = record_at(case, k);
-        n += line_rows(l.kind);
-        k = l.next as usize;
-    }
-    n
-}
-
-// A 6.
-fn item_row(item: u16, block: u16, copy: u16) -> Constraint
-    ensures { λ r. ⌜ asRow r ≡ row 6 item block copy 0 0 ⌝ }
-{
-    Constraint {
-        kind: 6,
-        one: item,
-        two: block,
-        three: copy,
-        four: 0,
-        five: 0,
-    }
 }
 
 // The 6s of block i, of thread t, from a place on.
@@ -346,28 +261,28 @@ fn write_items(
     i: u16,
     t: usize,
     items: u16,
-    latest: [[u16; 28]; 4],
+    latest: &[[u16; 28]; 4],
 )
     requires { ⌜ (t < 4) × (items ≤ 12) ⌝ }
-    requires { ⌜ start + 6 * length (itemsWith (copiesOf latest t) i 0 items) ≤ length (now table) ⌝ }
-    ensures { λ x. ⌜ now (table .exit) ≡ rowsAt (now (table .entry)) start (itemsWith (copiesOf latest t) i 0 items) ⌝ }
+    requires { ⌜ start + 6 * length (itemsWith (copiesOf (now latest) t) i 0 items) ≤ length (now table) ⌝ }
+    ensures { λ x. ⌜ now (table .exit) ≡ rowsAt (now (table .entry)) start (itemsWith (copiesOf (now (latest .entry)) t) i 0 items) ⌝ }
 {
     let mut at = start;
     let mut g: u16 = 0;
     while g < items {
         let name = 16 + (g as usize);
-        let w = item_row(g, i, latest[t][name]);
-        put_row(table, at, w);
+        let w = rows::item_row(g, i, latest[t][name]);
+        rows::put_row(table, at, w);
         at += 6;
         g += 1;
     }
 }
 
 // The 6s, from a place on.
-fn write_blocks(case: &[u8], table: &mut [u16], start: usize, latest: [[u16; 28]; 4])
+fn write_blocks(case: &[u8], table: &mut [u16], start: usize, latest: &[[u16; 28]; 4])
     requires { ⌜ Accepted (now case) ⌝ }
-    requires { ⌜ start + 6 * length (blocksOf (now case) latest) ≤ length (now table) ⌝ }
-    ensures { λ x. ⌜ now (table .exit) ≡ rowsAt (now (table .entry)) start (blocksOf (now (case .entry)) latest) ⌝ }
+    requires { ⌜ start + 6 * length (blocksOf (now case) (now latest)) ≤ length (now table) ⌝ }
+    ensures { λ x. ⌜ now (table .exit) ≡ rowsAt (now (table .entry)) start (blocksOf (now (case .entry)) (now (latest .entry))) ⌝ }
 {
     let threads = field_at(case, 0) as usize;
     let last = field_at(case, 1);
@@ -392,20 +307,6 @@ fn block_rows(case: &[u8]) -> usize
     switches * items
 }
 
-// The 7.
-fn goal_row() -> Constraint
-    ensures { λ r. ⌜ asRow r ≡ row 7 0 0 0 0 0 ⌝ }
-{
-    Constraint {
-        kind: 7,
-        one: 0,
-        two: 0,
-        three: 0,
-        four: 0,
-        five: 0,
-    }
-}
-
 // The 4s and 5s, the 6s and the 7, from a place on.
 fn write_rest(case: &[u8], table: &mut [u16], start: usize)
     requires { ⌜ Accepted (now case) ⌝ }
@@ -417,12 +318,11 @@ fn write_rest(case: &[u8], table: &mut [u16], start: usize)
     let mut at = start;
     let mut thread = 0;
     while thread < threads {
-        let next = write_values(case, table, at, thread, latest);
+        let next = write_values(case, table, &mut at, thread, latest);
         latest = next;
-        at += 6 * value_rows(case, thread);
         thread += 1;
     }
-    write_blocks(case, table, at, latest);
-    let goal = goal_row();
-    put_row(table, at + 6 * block_rows(case), goal);
+    write_blocks(case, table, at, &latest);
+    let goal = rows::goal_row();
+    rows::put_row(table, at + 6 * block_rows(case), goal);
 }

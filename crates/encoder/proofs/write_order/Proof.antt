@@ -9,7 +9,8 @@ use Rattle.model.specs.Table.{orderRows}
 use Rattle.laws.specs.Accepted.{linesFrom}
 use Rattle.encoder.specs.Rows.{rowsAt, threadLines}
 use Rattle.encoder.proofs.Writing.{Writing, writing-more, writing-end}
-use Rattle.encoder.proofs.Order.{lines-less, next-low, order-more, order-end, order-start, order-put, order-room}
+use Rattle.laws.proofs.Following.{lines-less, next-low}
+use Rattle.encoder.proofs.Order.{order-more, order-end, order-start, order-put, order-room}
 use Rattle.encoder.proofs.write_order.Statement.{statement}
 use Rattle.encoder.proofs.write_order.Tie as tie
 
@@ -63,7 +64,7 @@ same-length : tie.Need-same-length Inv-loop μ-loop
 same-length c = c .before .loop .inv .1 .same
 
 returns : tie.Need-returns Inv-loop μ-loop
-returns c = writing-end _ _ _ _ _ _ (c .before .loop .inv .1) (order-end _ _ _ _ (c .loop-test .left)) .0
+returns c = writing-end _ _ _ _ _ _ (c .before .loop .inv .1) (order-end _ _ _ _ (c .loop-test .left))
 
 pub write-order-spec : {M : Type 1} → statement M
 write-order-spec =

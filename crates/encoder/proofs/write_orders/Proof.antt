@@ -5,9 +5,9 @@ use native.Mathlib.Omega.{arith}
 use lib.ListN.{length}
 use Rattle.model.specs.CaseFile.{chains, caseOf}
 use Rattle.model.specs.Table.{allOrderRows}
-use Rattle.encoder.specs.Rows.{rowsAt, threadLines, orderPart}
+use Rattle.encoder.specs.Rows.{rowsAt, orderPart}
 use Rattle.encoder.proofs.Writing.{Writing, writing-start, writing-more, writing-end}
-use Rattle.encoder.proofs.Whole.{orders-all, orders-more, orders-end, orders-room, orders-place, lines-counted}
+use Rattle.encoder.proofs.Whole.{orders-all, orders-more, orders-end, orders-room}
 use Rattle.encoder.proofs.write_orders.Statement.{statement}
 use Rattle.encoder.proofs.write_orders.Tie as tie
 
@@ -29,18 +29,6 @@ loop-holds c = (search needs, writing-start _ _ _ _ (orders-all _ _ _ (c .field-
 write-order-requires : tie.Need-write-order-requires Inv-loop μ-loop
 write-order-requires c κs = (c .before .before .before .before .before .before .pre .0, (search needs, omega (arith, orders-room _ _ _ _ _ _ _ _ _ (c .before .loop-test .taken) (c .before .before .loop .inv .1), c .before .before .loop .inv .1 .same, c .before .before .before .before .before .before .pre .1)))
 
-first-of-requires : tie.Need-first-of-requires Inv-loop μ-loop
-first-of-requires c κs = search needs
-
-lines-in-requires : tie.Need-lines-in-requires Inv-loop μ-loop
-lines-in-requires c κs = (c .before .before .before .before .before .before .before .before .before .before .pre .0, omega (arith, c .before .before .before .before .before .before .before .before .before .before .pre .0 .firsts (c .before .before .before .before .before .before .loop .t) (search needs), c .first-of .ensures))
-
-mul-at : tie.Need-mul-at Inv-loop μ-loop
-mul-at c = omega (arith, lines-counted _ (c .before .before .before .before .before .before .before .before .before .before .before .pre .0) (c .before .before .before .before .before .before .before .loop .t) _ _ (search needs) (c .before .first-of .ensures) (c .lines-in .ensures) .1)
-
-add-at : tie.Need-add-at Inv-loop μ-loop
-add-at c = omega (arith, orders-place (caseOf (c .before .before .before .before .before .before .before .before .before .before .before .args .case .now)) (c .before .before .before .before .before .before .before .loop .t) (threadLines (c .before .before .before .before .before .before .before .before .before .before .before .args .case .now) (c .before .before .before .before .before .before .before .loop .t)) (c .before .before .before .before .before .before .before .loop .at) _ (lines-counted _ (c .before .before .before .before .before .before .before .before .before .before .before .pre .0) (c .before .before .before .before .before .before .before .loop .t) _ _ (search needs) (c .before .first-of .ensures) (c .lines-in .ensures) .0), orders-room _ _ _ _ _ _ _ _ _ (c .before .before .before .before .before .before .loop-test .taken) (c .before .before .before .before .before .before .before .loop .inv .1), c .before .before .before .before .before .before .before .loop .inv .1 .same, c .before .before .before .before .before .before .before .before .before .before .before .pre .1)
-
 add-t : tie.Need-add-t Inv-loop μ-loop
 add-t c = search needs
 
@@ -48,7 +36,7 @@ loop-less : tie.Need-loop-less Inv-loop μ-loop
 loop-less c = search needs
 
 loop-again : tie.Need-loop-again Inv-loop μ-loop
-loop-again c = (search needs, writing-more _ _ _ _ _ _ (c .before .before .before .before .before .before .before .loop .inv .1) _ _ _ _ (orders-more _ _ _ _ (c .before .before .before .before .before .before .loop-test .taken)) (c .before .before .before .before .write-order .ensures) (orders-place (caseOf (c .before .before .before .before .before .before .before .before .before .before .before .args .case .now)) _ _ _ _ (lines-counted _ (c .before .before .before .before .before .before .before .before .before .before .before .pre .0) _ _ _ (search needs) (c .before .first-of .ensures) (c .lines-in .ensures) .0)))
+loop-again c = (search needs, writing-more _ _ _ _ _ _ (c .before .before .before .before .before .loop .inv .1) _ _ _ _ (orders-more _ _ _ _ (c .before .before .before .before .loop-test .taken)) (c .before .before .write-order .ensures .0) (c .before .before .write-order .ensures .1))
 
 same-length : tie.Need-same-length Inv-loop μ-loop
 same-length c = c .before .loop .inv .1 .same
@@ -66,10 +54,6 @@ write-orders-spec =
     cast-threads
     loop-holds
     write-order-requires
-    first-of-requires
-    lines-in-requires
-    mul-at
-    add-at
     add-t
     loop-less
     loop-again

@@ -6,7 +6,7 @@ use lib.ListN.{length}
 use Rattle.model.specs.CaseFile.{globalCount}
 use Rattle.encoder.specs.Rows.{rowsAt, valuePart, finalCopies}
 use Rattle.encoder.proofs.Writing.{one-row}
-use Rattle.encoder.proofs.Whole.{Threading, threading-start, threading-room, threading-place, threading-more, threading-end, values-fit, blocks-fit, goal-fits, rest-is}
+use Rattle.encoder.proofs.Whole.{Threading, threading-start, threading-room, threading-more, threading-end, values-fit, blocks-fit, goal-fits, rest-is}
 use Rattle.encoder.proofs.write_rest.Statement.{statement}
 use Rattle.encoder.proofs.write_rest.Tie as tie
 
@@ -26,16 +26,7 @@ loop-holds : tie.Need-loop-holds Inv-loop μ-loop
 loop-holds c = threading-start _ _ _ _ (c .field-at .ensures)
 
 write-values-requires : tie.Need-write-values-requires Inv-loop μ-loop
-write-values-requires c κs = (c .before .before .before .before .before .before .pre .0, (search needs, omega (arith, threading-room _ _ _ _ _ _ _ _ _ _ _ (c .before .before .loop .inv) (c .before .loop-test .taken), c .before .before .loop .inv .writes .same, values-fit _ _ _ (c .before .before .before .before .before .before .pre .1))))
-
-value-rows-requires : tie.Need-value-rows-requires Inv-loop μ-loop
-value-rows-requires c κs = search needs
-
-mul-at : tie.Need-mul-at Inv-loop μ-loop
-mul-at c = search needs
-
-add-at : tie.Need-add-at Inv-loop μ-loop
-add-at c = omega (arith, threading-place _ _ _ _ _ _ _ _ _ _ _ (c .before .before .before .before .before .before .loop .inv) _ (c .before .before .before .before .before .loop-test .taken) (c .value-rows .ensures .0), c .before .before .before .before .before .before .loop .inv .writes .same, values-fit _ _ _ (c .before .before .before .before .before .before .before .before .before .before .pre .1))
+write-values-requires c κs = (c .before .before .before .before .before .before .before .pre .0, (search needs, omega (arith, threading-room _ _ _ _ _ _ _ _ _ _ _ (c .before .before .before .loop .inv) (c .before .before .loop-test .taken), c .before .before .before .loop .inv .writes .same, values-fit _ _ _ (c .before .before .before .before .before .before .before .pre .1))))
 
 add-thread : tie.Need-add-thread Inv-loop μ-loop
 add-thread c = search needs
@@ -44,10 +35,10 @@ loop-less : tie.Need-loop-less Inv-loop μ-loop
 loop-less c = search needs
 
 loop-again : tie.Need-loop-again Inv-loop μ-loop
-loop-again c = threading-more _ _ _ _ _ _ _ _ _ _ _ (c .before .before .before .before .before .before .loop .inv) _ _ _ (c .before .before .before .before .before .loop-test .taken) (c .before .before .before .write-values .ensures .0) (c .before .before .before .write-values .ensures .1) (c .value-rows .ensures .0)
+loop-again c = threading-more _ _ _ _ _ _ _ _ _ _ _ (c .before .before .before .before .before .before .loop .inv) _ _ _ (c .before .before .before .before .before .loop-test .taken) (c .before .before .write-values .ensures .0) (c .before .before .write-values .ensures .1 .0) (c .before .before .write-values .ensures .1 .1)
 
 write-blocks-requires : tie.Need-write-blocks-requires Inv-loop μ-loop
-write-blocks-requires c κs = (c .before .before .before .before .before .before .pre .0, omega (arith, blocks-fit _ (c .before .before .loop .latest) _ _ _ (threading-end _ _ _ _ _ _ _ _ _ _ _ (c .before .before .loop .inv) (c .before .loop-test .left) .1 .1) (c .before .before .before .before .before .before .pre .1), c .before .before .loop .inv .writes .same))
+write-blocks-requires c κs = (c .before .before .before .before .before .before .before .pre .0, omega (arith, blocks-fit _ (c .before .before .before .loop .latest) _ _ _ (threading-end _ _ _ _ _ _ _ _ _ _ _ (c .before .before .before .loop .inv) (c .before .before .loop-test .left) .1 .1) (c .before .before .before .before .before .before .before .pre .1), c .before .before .before .loop .inv .writes .same))
 
 goal-row-requires : tie.Need-goal-row-requires Inv-loop μ-loop
 goal-row-requires c κs = search needs
@@ -59,16 +50,16 @@ mul-put-row : tie.Need-mul-put-row Inv-loop μ-loop
 mul-put-row c = search needs
 
 add-put-row : tie.Need-add-put-row Inv-loop μ-loop
-add-put-row c = omega (arith, goal-fits _ _ _ _ _ (threading-end _ _ _ _ _ _ _ _ _ _ _ (c .before .before .before .before .before .before .before .before .loop .inv) (c .before .before .before .before .before .before .before .loop-test .left) .1 .1) (c .block-rows .ensures .0) (c .before .before .before .before .before .before .before .before .before .before .before .before .pre .1), c .before .before .before .before .before .before .before .before .loop .inv .writes .same)
+add-put-row c = omega (arith, goal-fits _ _ _ _ _ (threading-end _ _ _ _ _ _ _ _ _ _ _ (c .before .before .before .before .before .before .before .before .before .loop .inv) (c .before .before .before .before .before .before .before .before .loop-test .left) .1 .1) (c .block-rows .ensures .0) (c .before .before .before .before .before .before .before .before .before .before .before .before .before .pre .1), c .before .before .before .before .before .before .before .before .before .loop .inv .writes .same)
 
 put-row-requires : tie.Need-put-row-requires Inv-loop μ-loop
-put-row-requires c κs = omega (arith, goal-fits _ _ _ _ _ (threading-end _ _ _ _ _ _ _ _ _ _ _ (c .before .before .before .before .before .before .before .before .loop .inv) (c .before .before .before .before .before .before .before .loop-test .left) .1 .1) (c .block-rows .ensures .0) (c .before .before .before .before .before .before .before .before .before .before .before .before .pre .1), c .before .before .before .before .before .before .before .before .loop .inv .writes .same)
+put-row-requires c κs = omega (arith, goal-fits _ _ _ _ _ (threading-end _ _ _ _ _ _ _ _ _ _ _ (c .before .before .before .before .before .before .before .before .before .loop .inv) (c .before .before .before .before .before .before .before .before .loop-test .left) .1 .1) (c .block-rows .ensures .0) (c .before .before .before .before .before .before .before .before .before .before .before .before .before .pre .1), c .before .before .before .before .before .before .before .before .before .loop .inv .writes .same)
 
 same-length : tie.Need-same-length Inv-loop μ-loop
 same-length c = search needs
 
 returns : tie.Need-returns Inv-loop μ-loop
-returns c = rest-is _ _ _ _ _ _ _ _ _ (threading-end _ _ _ _ _ _ _ _ _ _ _ (c .before .before .before .before .before .before .before .before .before .before .before .loop .inv) (c .before .before .before .before .before .before .before .before .before .before .loop-test .left)) (c .before .before .before .before .before .before .before .before .write-blocks .ensures) (c .before .before .before .block-rows .ensures .0) (one-row _ _ _ (c .before .before .put-row .ensures) (c .before .before .before .before .before .goal-row .ensures))
+returns c = rest-is _ _ _ _ _ _ _ _ _ (threading-end _ _ _ _ _ _ _ _ _ _ _ (c .before .before .before .before .before .before .before .before .before .before .before .before .loop .inv) (c .before .before .before .before .before .before .before .before .before .before .before .loop-test .left)) (c .before .before .before .before .before .before .before .before .write-blocks .ensures) (c .before .before .before .block-rows .ensures .0) (one-row _ _ _ (c .before .before .put-row .ensures) (c .before .before .before .before .before .goal-row .ensures))
 
 pub write-rest-spec : {M : Type 1} → statement M
 write-rest-spec =
@@ -80,9 +71,6 @@ write-rest-spec =
     cast-threads
     loop-holds
     write-values-requires
-    value-rows-requires
-    mul-at
-    add-at
     add-thread
     loop-less
     loop-again

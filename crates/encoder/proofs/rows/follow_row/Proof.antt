@@ -1,7 +1,7 @@
 -- `follow_row` makes the 1 or the 2. Assumes nothing.
 use Rattle.encoder.proofs.Order.{follow-last, follow-next}
-use Rattle.encoder.proofs.follow_row.Statement.{statement}
-use Rattle.encoder.proofs.follow_row.Tie as tie
+use Rattle.encoder.proofs.rows.follow_row.Statement.{statement}
+use Rattle.encoder.proofs.rows.follow_row.Tie as tie
 
 returns : tie.Need-returns
 returns c = follow-last _ _ _ (c .if1 .taken)

@@ -2,8 +2,8 @@
 use borrow.Author.Needs.{needs}
 use lib.ListN.{length-set}
 use Rattle.encoder.proofs.Writing.{six-stores}
-use Rattle.encoder.proofs.put_row.Statement.{statement}
-use Rattle.encoder.proofs.put_row.Tie as tie
+use Rattle.encoder.proofs.rows.put_row.Statement.{statement}
+use Rattle.encoder.proofs.rows.put_row.Tie as tie
 
 mul-table : tie.Need-mul-table
 mul-table c = search needs
