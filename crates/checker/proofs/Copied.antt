@@ -1,10 +1,10 @@
 -- The target copies of a table's 4s are, by record number, the copy before each copy.
 -- Assumes nothing.
-use mathlib.Core.Path.{_≡_, refl, sym, ap, _∙_}
+use mathlib.Core.Path.{_≡_, refl, sym, ap, _∙_, subst}
 use mathlib.Core.Logic.{_≢_}
-use Prim.Native.Nat.{ℕ, zero, suc, _+_, _%_, _≤_, _<_}
+use Prim.Native.Nat.{ℕ, zero, suc, _+_, _≤_, _<_}
 use mathlib.Core.Bool.{Bool, true, false, cond}
-use mathlib.Core.List.{List, [], _∷_, _++_, append-assoc, reverseAux, reverse}
+use mathlib.Core.List.{List, [], _∷_, _++_, append-assoc, append-nil, reverseAux, reverse}
 use native.Mathlib.Omega.{arith}
 use lib.Dec.{eqb}
 use lib.ListN.{getD, set, length, length-set, replicate}
@@ -13,13 +13,20 @@ use borrow.Author.Tests.{eq-eqb, ne-eqb}
 use Rattle.model.specs.CaseFile.{Kind, compute, store, load, input, assert, assume, lock, unlock, Line, Case, threadCount, caseOf, linesOf, itemCount, sumOfLines, sumOfThreads, hasNumber}
 use Rattle.model.specs.Line.{noName, itemName, guardName, targetName}
 use Rattle.model.specs.Copies.{latest, copyOf}
-use Rattle.model.specs.Table.{Row, row, valueRow, demandRows, valueRows, allOrderRows, allValueRows, itemRows, blockRows, goalRow, table}
+use Rattle.model.specs.Table.{Row, row, valueRow, demandRows, valueRows, allValueRows}
 use Rattle.laws.specs.Accepted.{Accepted}
 use Rattle.laws.proofs.Views.{EqView, same, diff, eq-view}
 use Rattle.laws.proofs.Lines.{numbers-within, numbers-once}
 use Rattle.row.specs.Rows.{Linked, Previous}
-use Rattle.checker.specs.Reading.{targetCopies, previousCopies}
-use Rattle.checker.proofs.TableRows.{AllRows, none, more, all-append}
+use Rattle.checker.specs.Walked.{targetCopies, previousCopies}
+
+data AllRows (P : Row → Type 0) : List Row → Type 0 where
+  none : AllRows P []
+  more : {w : Row} {ws : List Row} → P w → AllRows P ws → AllRows P (w ∷ ws)
+
+all-append : {P : Row → Type 0} {xs ys : List Row} → AllRows P xs → AllRows P ys → AllRows P (xs ++ ys)
+all-append none hy = hy
+all-append (more p hx) hy = more p (all-append hx hy)
 
 -- No 4 among the rows is of record k.
 abbrev NotOf : ℕ → Row → Type 0
@@ -28,7 +35,7 @@ NotOf k w = w .kind ≡ 4 → w .one ≢ k
 other-kind : (k : ℕ) (w : Row) → w .kind ≢ 4 → NotOf k w
 other-kind k w n e = absurd (n e)
 
-pub length-copies : (previous : List ℕ) (ws : List Row) → length (targetCopies previous ws) ≡ length previous
+length-copies : (previous : List ℕ) (ws : List Row) → length (targetCopies previous ws) ≡ length previous
 unfolding targetCopies
 length-copies previous [] = refl
 length-copies previous (w ∷ ws) = length-copies _ ws ∙ go (eqb (w .kind) 4)
@@ -37,7 +44,7 @@ length-copies previous (w ∷ ws) = length-copies _ ws ∙ go (eqb (w .kind) 4)
     go true = length-set previous (w .one) (w .five)
     go false = refl
 
-copies-append : (previous : List ℕ) (vs ws : List Row) → targetCopies previous (vs ++ ws) ≡ targetCopies (targetCopies previous vs) ws
+pub copies-append : (previous : List ℕ) (vs ws : List Row) → targetCopies previous (vs ++ ws) ≡ targetCopies (targetCopies previous vs) ws
 unfolding targetCopies
 copies-append previous [] ws = refl
 copies-append previous (v ∷ vs) ws = copies-append _ vs ws
@@ -94,30 +101,19 @@ module _ (case : Case) (k : ℕ) where
   all-value-rows-not [] h = none
   all-value-rows-not (ls ∷ threads) h = all-append (value-rows-not [] ls (omega arith)) (all-value-rows-not threads (omega arith))
 
-  item-rows-not : (lines : List Line) (i g many : ℕ) → AllRows (NotOf k) (itemRows case lines i g many)
-  unfolding itemRows
-  item-rows-not lines i g zero = none
-  item-rows-not lines i g (suc many) =
-      more (other-kind k (row 6 g i (latest (case .G) (itemName g) lines) 0 0) (λ e. omega (arith, e))) (item-rows-not lines i (suc g) many)
-
-  block-rows-not : (i many : ℕ) → AllRows (NotOf k) (blockRows case i many)
-  unfolding blockRows
-  block-rows-not i zero = none
-  block-rows-not i (suc many) = all-append (item-rows-not (reverse (linesOf case (i % case .T))) i 0 (itemCount case)) (block-rows-not (suc i) many)
-
 module _ (case : Case) where
   -- The 5 of a line changes nothing.
-  past-demand : (kind : Kind) (previous : List ℕ) (earlier : List Line) (l : Line) (ws tail : List Row)
-      → targetCopies previous ((demandRows kind case earlier l ++ ws) ++ tail) ≡ targetCopies previous (ws ++ tail)
+  pub past-demand : (kind : Kind) (previous : List ℕ) (earlier : List Line) (l : Line) (ws : List Row)
+      → targetCopies previous (demandRows kind case earlier l ++ ws) ≡ targetCopies previous ws
   unfolding demandRows targetCopies
-  past-demand compute previous earlier l ws tail = refl
-  past-demand store previous earlier l ws tail = refl
-  past-demand load previous earlier l ws tail = refl
-  past-demand input previous earlier l ws tail = refl
-  past-demand assert previous earlier l ws tail = refl
-  past-demand assume previous earlier l ws tail = refl
-  past-demand lock previous earlier l ws tail = refl
-  past-demand unlock previous earlier l ws tail = refl
+  past-demand compute previous earlier l ws = refl
+  past-demand store previous earlier l ws = refl
+  past-demand load previous earlier l ws = refl
+  past-demand input previous earlier l ws = refl
+  past-demand assert previous earlier l ws = refl
+  past-demand assume previous earlier l ws = refl
+  past-demand lock previous earlier l ws = refl
+  past-demand unlock previous earlier l ws = refl
 
   thread-copied : (previous : List ℕ) (earlier ls : List Line) (tail : List Row)
       → ((k : ℕ) → 0 < sumOfLines (hasNumber k) ls → (0 < k) × (k < length previous))
@@ -126,7 +122,7 @@ module _ (case : Case) where
   unfolding valueRows targetCopies
   thread-copied previous earlier [] tail within once = tt
   thread-copied previous earlier (l ∷ ls) tail within once =
-      rw (past-demand (l .kind) after earlier l (valueRows case (l ∷ earlier) ls) tail) (
+      rw (append-assoc (demandRows (l .kind) case earlier l) (valueRows case (l ∷ earlier) ls) tail, past-demand (l .kind) after earlier l (valueRows case (l ∷ earlier) ls ++ tail)) (
         (
           within k counted .0,
           copies-kept k after (valueRows case (l ∷ earlier) ls ++ tail)
@@ -168,29 +164,19 @@ module _ (case : Case) where
       (λ k. omega (arith, once k)) not t)
 
 pub previous-copies : (bytes : List ℕ) → Accepted bytes → Previous bytes (previousCopies bytes)
-unfolding previousCopies table
+unfolding previousCopies
 previous-copies bytes ok = record { linked = linked }
   where
     case : Case
     case = caseOf bytes
 
-    start : List ℕ
-    start = targetCopies (replicate 257 0) (allOrderRows case 0 (case .threads))
-
-    wide : length start ≡ 257
-    wide = length-copies (replicate 257 0) (allOrderRows case 0 (case .threads))
-
-    tail : List Row
-    tail = blockRows case 0 (case .n) ++ (goalRow ∷ [])
-
-    copied : (t : ℕ) → Copied (targetCopies (replicate 257 0) (table case)) (case .G) [] (linesOf case t)
+    copied : (t : ℕ) → Copied (targetCopies (replicate 257 0) (allValueRows case (case .threads))) (case .G) [] (linesOf case t)
     copied t =
-        rw (copies-append (replicate 257 0) (allOrderRows case 0 (case .threads)) (allValueRows case (case .threads) ++ tail))
-        (threads-copied case start (case .threads) tail
-        (λ k h. let found = numbers-within bytes ok k h in (found .0, omega (arith, found .1, ok .few-records, wide)))
-        (numbers-once bytes ok)
-        (λ k. all-append (block-rows-not case k 0 (case .n)) (more (other-kind k goalRow (λ e. omega (arith, e))) none)) t)
+        subst (λ (ws : List Row). Copied (targetCopies (replicate 257 0) ws) (case .G) [] (linesOf case t)) (append-nil (allValueRows case (case .threads)))
+        (threads-copied case (replicate 257 0) (case .threads) []
+        (λ k h. let found = numbers-within bytes ok k h in (found .0, omega (arith, found .1, ok .few-records)))
+        (numbers-once bytes ok) (λ k. none) t)
 
-    linked : (t g : ℕ) → t < threadCount bytes → g < itemCount case → Linked (targetCopies (replicate 257 0) (table case)) (case .G) (itemName g) (reverse (linesOf case t))
+    linked : (t g : ℕ) → t < threadCount bytes → g < itemCount case → Linked (targetCopies (replicate 257 0) (allValueRows case (case .threads))) (case .G) (itemName g) (reverse (linesOf case t))
     linked t g ht hg =
         linked-of-copied _ (case .G) (itemName g) [] (linesOf case t) (λ e. omega (arith, e, hg, ok .few-globals, ok .few-mutexes)) tt (copied t)

@@ -1,4 +1,2 @@
-pub mod ByKind
 pub mod Laws
-pub mod Lines
 pub mod Walking

@@ -14,10 +14,10 @@ use Rattle.model.specs.Line.{itemName, targetName}
 use Rattle.model.specs.Assignment.{Assignment, assignmentOf}
 use Rattle.model.specs.Copies.{latest, walkBack}
 use Rattle.model.specs.Table.{Row}
-use Rattle.model.specs.Holds.{fromRecord, holds6}
+use Rattle.model.specs.Holds.{fromRecord, holds}
 use Rattle.laws.specs.Accepted.{Accepted}
 use Rattle.laws.proofs.Views.{EqView, same, diff, eq-view}
-use Rattle.row.specs.Rows.{blockIn, deciding, decidedValue, Linked, Previous, RowOk}
+use Rattle.row.specs.Rows.{blockIn, deciding, decidedValue, Linked, Previous, LastCopy}
 
 module _ (case : Case) (xs previous : List ℕ) (i g : ℕ) where
   abbrev α : Assignment
@@ -61,15 +61,17 @@ module _ (case : Case) (xs previous : List ℕ) (i g : ℕ) where
       go (diff e q) (diff f s) rest = rw (q, s) rest
 
 -- Constraint 6 by the copy that decides it.
-pub holds6-by-copy : (bytes xs previous : List ℕ) (w : Row) (v x : ℕ) → Accepted bytes → Previous bytes previous → RowOk bytes w → w .kind ≡ 6
+pub holds6-by-copy : (bytes xs previous : List ℕ) (w : Row) (v x : ℕ) → Accepted bytes → Previous bytes previous → w .kind ≡ 6 → LastCopy bytes w
     → x ≡ assignmentOf (caseOf bytes) xs .blockValue (w .two) (w .one)
     → v ≡ decidedValue (caseOf bytes) (assignmentOf (caseOf bytes) xs) (w .two) (w .one) (deciding previous xs (w .two) 64 (w .three))
-    → eqb x v ≡ holds6 (caseOf bytes) (assignmentOf (caseOf bytes) xs) w
-holds6-by-copy bytes xs previous w v x ok linked row-ok kind ex ev =
-    ap₂ eqb ex (ev ∙ ap (λ (p : ℕ). decidedValue case α i g (deciding previous xs i 64 p)) last
-    ∙ walked case xs previous i g 64 d (linked .linked t g below (row-ok .last-copy kind .0)) (rw (length-reverse (linesOf case t)) (ok .few-lines t below))
+    → eqb x v ≡ holds (caseOf bytes) (assignmentOf (caseOf bytes) xs) w
+unfolding holds
+holds6-by-copy bytes xs previous w v x ok linked kind last ex ev =
+    rw kind
+    (ap₂ eqb ex (ev ∙ ap (λ (p : ℕ). decidedValue case α i g (deciding previous xs i 64 p)) (last .1)
+    ∙ walked case xs previous i g 64 d (linked .linked t g below (last .0)) (rw (length-reverse (linesOf case t)) (ok .few-lines t below))
     ∙ sym (walk-from-last case xs previous i g d)
-    ∙ ap (λ (p : ℕ). walkBack case α i g (fromRecord p d)) (sym last))
+    ∙ ap (λ (p : ℕ). walkBack case α i g (fromRecord p d)) (sym (last .1))))
   where
     case : Case
     case = caseOf bytes
@@ -91,6 +93,3 @@ holds6-by-copy bytes xs previous w v x ok linked row-ok kind ex ev =
 
     below : t < threadCount bytes
     below = mod-lt i (omega (arith, ok .some-threads))
-
-    last : w .three ≡ latest (case .G) (itemName g) d
-    last = row-ok .last-copy kind .1

@@ -1,13 +1,13 @@
 -- What the code computes on its way to whether a row holds, and what it needs of a row.
 -- Assumes nothing.
 use mathlib.Core.Path.{_≡_}
-use Prim.Native.Nat.{ℕ, zero, suc, _+_, _-_, _*_, _%_, _≤_, _<_}
-use mathlib.Core.Bool.{Bool, false, cond, _||_}
+use Prim.Native.Nat.{ℕ, zero, suc, _+_, _-_, _*_, _%_, _<_}
+use mathlib.Core.Bool.{cond}
 use mathlib.Core.List.{List, [], _∷_, reverse}
 use lib.Dec.{eqb}
 use lib.ListN.{getD}
-use Rattle.model.specs.CaseFile.{Line, Case, records, threadCount, globalCount, caseOf, linesOf, itemCount}
-use Rattle.model.specs.Line.{itemName, targetName, Reads, breaks}
+use Rattle.model.specs.CaseFile.{Line, Case, threadCount, globalCount, caseOf, linesOf, itemCount}
+use Rattle.model.specs.Line.{itemName, targetName}
 use Rattle.model.specs.Assignment.{Assignment}
 use Rattle.model.specs.Copies.{latest, valueBefore}
 use Rattle.model.specs.Table.{Row}
@@ -28,14 +28,6 @@ deciding previous xs i (suc most) p = cond (eqb p 0) 0 (cond (eqb (blockIn xs p)
 abbrev pub decidedValue : Case → Assignment → ℕ → ℕ → ℕ → ℕ
 decidedValue case α i g p = cond (eqb p 0) (valueBefore case α i g) (α .value p)
 
--- "some assert has value 0": the value alone shows it, so the reads are left at 0.
-abbrev pub unread : Reads
-unread = record { guard = 0; a = 0; b = 0; target = 0; given = 0 }
-
-unfoldable pub anyBreaks : List ℕ → List Line → Bool
-anyBreaks xs [] = false
-anyBreaks xs (l ∷ ls) = breaks (l .kind) l unread (valueIn xs (l .number)) || anyBreaks xs ls
-
 -- For each line that has the name as target, `previous` has the copy before it. The lines are given latest first.
 abbrev pub Linked : List ℕ → ℕ → ℕ → List Line → Type 0
 Linked previous G name [] = Unit
@@ -47,10 +39,7 @@ pub record Previous (bytes previous : List ℕ) : Type 0 where
   pub linked : (t g : ℕ) → t < threadCount bytes → g < itemCount (caseOf bytes)
       → Linked previous (globalCount bytes) (itemName g) (reverse (linesOf (caseOf bytes) t))
 
--- What every row of a table has: a divisor, a line that is there, an item with its last copy.
-pub record RowOk (bytes : List ℕ) (w : Row) : Type 0 where
-  pub divisor : w .kind ≡ 3 → 0 < w .two
-  pub value-line : w .kind ≡ 4 → (0 < w .one) × (w .one ≤ records bytes)
-  pub demand-line : w .kind ≡ 5 → (0 < w .one) × (w .one ≤ records bytes)
-  pub last-copy : w .kind ≡ 6 → (w .one < itemCount (caseOf bytes))
-      × (w .three ≡ latest (globalCount bytes) (itemName (w .one)) (reverse (linesOf (caseOf bytes) (w .two % threadCount bytes))))
+-- A 6 has an item of the case and the last copy of it in the block's thread.
+abbrev pub LastCopy : List ℕ → Row → Type 0
+LastCopy bytes w = (w .one < itemCount (caseOf bytes))
+    × (w .three ≡ latest (globalCount bytes) (itemName (w .one)) (reverse (linesOf (caseOf bytes) (w .two % threadCount bytes))))

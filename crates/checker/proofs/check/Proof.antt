@@ -1,8 +1,8 @@
 -- `checker::check` meets its contract. Assumes nothing.
 use mathlib.Core.Path.{sym, _∙_}
 use borrow.Author.Needs.{needs}
-use Rattle.checker.proofs.Answering.{accepted-answer, refused-answer}
 use Rattle.laws.proofs.Accepted.{accepted-of}
+use Rattle.checker.proofs.Answering.{accepted-answer, refused-answer}
 use Rattle.checker.proofs.check.Statement.{statement}
 use Rattle.checker.proofs.check.Tie as tie
 
