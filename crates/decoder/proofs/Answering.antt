@@ -6,7 +6,7 @@ use Prim.Native.Nat.{ℕ, _≤_, _<_}
 use mathlib.Core.Bool.{Bool, true, false}
 use mathlib.Core.List.{List}
 use native.Mathlib.Omega.{arith}
-use borrow.Author.Tests.{le-leb, lt-leb}
+use borrow.Author.Tests.{eqb-true, le-leb, lt-leb}
 use lib.Dec.{eqb}
 use lib.ListN.{length}
 use Rattle.model.specs.Lists.{unless}
@@ -15,7 +15,7 @@ use Rattle.model.specs.Accept.{verdict}
 use Rattle.model.specs.Assignment.{variables, assignmentOf}
 use Rattle.model.specs.Schedule.{scheduleSize}
 use Rattle.model.specs.Schedule as model
-use Rattle.model.specs.Answers.{onCase, failedIn, decoded, afterDecoded, decodedInto}
+use Rattle.model.specs.Answers.{onCase, answerOfCheck, failedIn, decoded, afterDecoded, decodedInto}
 use Rattle.model.specs.declared.Verdict.{Verdict}
 use Rattle.model.specs.declared.Verdict.the-variants.{Accepted}
 use Rattle.model.specs.declared.Verdict.the-variants as verdicts
@@ -67,6 +67,16 @@ module _ (bytes xs : List ℕ) (size room : ℕ) (es : size ≡ scheduleSize (ca
           where
             apart : checkeds.Refused 11 0 ≡ Meets → ⊥
             apart e = let z : _≡_ {A = ℕ} 0 1 = cc in omega (arith, z)
+
+-- An assignment that meets the constraints has all its numbers.
+pub met-sized : (bytes xs : List ℕ) (answer : Checked) → answer ≡ checkedAccepted bytes xs → answer ≡ Meets → length xs ≡ variables (caseOf bytes)
+unfolding checkedAccepted
+met-sized bytes xs answer ea e = go (eqb (length xs) (variables (caseOf bytes))) refl (sym ea ∙ e)
+  where
+    go : (sized : Bool) → eqb (length xs) (variables (caseOf bytes)) ≡ sized
+        → unless sized (checkeds.Refused 11 0) (answerOfCheck (failedIn bytes xs)) ≡ Meets → length xs ≡ variables (caseOf bytes)
+    go true q e' = eqb-true (length xs) (variables (caseOf bytes)) q
+    go false q e' = absurd (let z : _≡_ {A = ℕ} 0 1 = cc in omega (arith, z))
 
 -- A refusal alters no slice.
 pub refusal-leaves : (answer : Checked) (r : Decoded) (result slice : List ℕ) → r ≡ refusalOf answer → slice ≡ afterDecoded r result slice

@@ -13,6 +13,7 @@ use borrow.Author.Tests.{lt-ltb, le-ltb, eq-eqb, ne-eqb}
 use Rattle.model.specs.Word.{nonzero}
 use Rattle.model.specs.CaseFile.{Line, Case, records, kindOf, lineOf, caseOf, itemCount}
 use Rattle.model.specs.Line.{noName, localName, guardName, targetName, guardTrue, isInput}
+use Rattle.model.specs.Machine.{look}
 use Rattle.model.specs.Assignment.{Assignment, assignmentOf}
 use Rattle.model.specs.Copies.{latest, readLocal, readName, readAfter, readsAfter}
 use Rattle.model.specs.Schedule.{inputLines, decodedValues}
@@ -21,6 +22,7 @@ use Rattle.laws.proofs.Views.{EqView, same, diff, eq-view, LtView, below, above
 use Rattle.laws.proofs.Chains.{linesFrom-end, chain-within-by}
 use Rattle.case_file.specs.declared.Record.{Record}
 use Rattle.case_file.specs.Records.{recordOf, asLine}
+use Rattle.line.specs.LineReads.{readsAt}
 use Rattle.line.proofs.KindNumbers.{input-other}
 use Rattle.row.specs.Rows.{valueIn}
 use Rattle.decoder.proofs.Writing.{Writing, writing-room}
@@ -44,6 +46,11 @@ guard-local-or-none l = go (eqb (l .guard) 0) (ltb (l .guard) 17)
     go true q = inr refl
     go false true = local-or-none (l .guard - 1)
     go false false = local-or-none (l .guard - 17)
+
+-- A guard is judged by its local alone.
+pub guard-alone : (locals : List ℕ) (l : Line) → guardTrue l (readsAt 0 0 0 locals [] l) ≡ guardTrue l (guardRead (localIn locals (guardName l)))
+unfolding guardTrue look localIn
+guard-alone locals l = refl
 
 module _ (case : Case) (xs : List ℕ) (few : itemCount case ≤ 12) where
   abbrev α : Assignment

@@ -1,12 +1,12 @@
 -- Numbers written one after the other: what is left to write decides what the slice holds in the end.
 -- Assumes nothing.
-use mathlib.Core.Path.{_≡_, refl, sym, ap, _∙_}
+use mathlib.Core.Path.{_≡_, refl, sym, ap, ap₂, _∙_}
 use Prim.Native.Nat.{ℕ, suc, _+_, _≤_}
-use mathlib.Core.List.{List, [], _∷_, _++_}
+use mathlib.Core.List.{List, [], _∷_, _++_, append-assoc}
 use native.Mathlib.Omega.{arith}
 use native.Mathlib.Nat.{zero-add}
-use lib.ListN.{length, set, drop, length-append}
-use lib.Seq.{sets, length-sets, sets-eq}
+use lib.ListN.{length, set, take, drop, length-append}
+use lib.Seq.{sets, length-take-le, drop-at, length-sets, sets-eq}
 use Rattle.model.specs.Lists.{writtenOver}
 use Rattle.decoder.specs.Decoding.{numbersAt}
 
@@ -28,9 +28,19 @@ pub length-numbers : (d : List ℕ) (at : ℕ) (xs : List ℕ) → length (numbe
 unfolding numbersAt
 length-numbers d at xs = length-sets d at xs
 
-pub numbers-from-start : (d xs : List ℕ) → length xs ≤ length d → numbersAt d 0 xs ≡ writtenOver xs d
+-- Numbers written to the start of a slice that has others after them.
+pub numbers-before : (d xs ys : List ℕ) → length (xs ++ ys) ≤ length d → numbersAt (numbersAt d (length xs) ys) 0 xs ≡ writtenOver (xs ++ ys) d
 unfolding numbersAt writtenOver
-numbers-from-start d xs h = sets-eq xs d 0 (omega arith) ∙ ap (λ (k : ℕ). xs ++ drop k d) (zero-add (length xs))
+numbers-before d xs ys h =
+    sets-eq xs (sets d (length xs) ys) 0 (omega (arith, length-sets d (length xs) ys, size))
+    ∙ ap₂ (λ (k : ℕ) (after : List ℕ). xs ++ drop k after) (zero-add (length xs)) (sets-eq ys d (length xs) (omega (arith, size)))
+    ∙ ap (λ (after : List ℕ). xs ++ drop (length xs) after) (append-assoc (take (length xs) d) ys (drop (length xs + length ys) d))
+    ∙ ap (λ (after : List ℕ). xs ++ after) (drop-at (take (length xs) d) _ (length xs) (length-take-le (length xs) d (omega (arith, size))))
+    ∙ sym (append-assoc xs ys (drop (length xs + length ys) d))
+    ∙ ap (λ (k : ℕ). (xs ++ ys) ++ drop k d) (sym size)
+  where
+    size : length (xs ++ ys) ≡ length xs + length ys
+    size = length-append xs ys
 
 -- The slice so far, the place, the numbers that are left; the slice at the end, the place there, and the slice's length.
 pub record Writing (out : List ℕ) (at : ℕ) (rest x : List ℕ) (end len : ℕ) : Type 0 where

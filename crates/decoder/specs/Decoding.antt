@@ -1,18 +1,19 @@
 -- What the decoder writes, as its code makes it: input values from the locals' values along a chain. That these are the model's
 -- is proved in proofs/Locals.antt.
 -- Assumes nothing.
-use Prim.Native.Nat.{ℕ}
+use Prim.Native.Nat.{ℕ, suc, _+_, _%_, _<_}
+use mathlib.Core.Path.{_≡_}
 use mathlib.Core.Bool.{cond}
 use mathlib.Core.List.{List, [], _∷_, _++_}
 use lib.Dec.{leb, eqb, ltb}
 use lib.ListN.{getD, set, length}
 use lib.Seq.{sets}
 use Rattle.model.specs.Limits.{localCount}
-use Rattle.model.specs.Lists.{unless}
-use Rattle.model.specs.CaseFile.{Line, firstRecord, caseOf}
+use Rattle.model.specs.Lists.{numbersFrom, unless}
+use Rattle.model.specs.CaseFile.{Line, threadCount, switchCount, firstRecord, caseOf}
 use Rattle.model.specs.Line.{guardName, targetName, Reads, guardTrue, isInput}
 use Rattle.model.specs.Assignment.{variables}
-use Rattle.model.specs.Schedule.{scheduleSize}
+use Rattle.model.specs.Schedule.{linesInBlock, scheduleSize}
 use Rattle.model.specs.Answers.{failedIn}
 use Rattle.model.specs.declared.Checked.{Checked}
 use Rattle.model.specs.declared.Checked.the-variants as checkeds
@@ -20,7 +21,7 @@ use Rattle.model.specs.declared.Decoded.{Decoded}
 use Rattle.model.specs.declared.Decoded.the-variants.{Schedule}
 use Rattle.model.specs.declared.Decoded.the-variants as decodeds
 use Rattle.laws.specs.Accepted.{linesFrom}
-use Rattle.row.specs.Rows.{valueIn}
+use Rattle.row.specs.Rows.{blockIn, valueIn}
 
 -- A slice after these numbers are written from a place on.
 unfoldable pub numbersAt : List ℕ → ℕ → List ℕ → List ℕ
@@ -29,6 +30,22 @@ numbersAt slice at numbers = sets slice at numbers
 -- The lines of thread t.
 abbrev pub threadLines : List ℕ → ℕ → List Line
 threadLines bytes t = linesFrom bytes t (firstRecord bytes t)
+
+-- A thread's lines are counted by block in so many places: n is at most 15.
+abbrev pub blockRoom : ℕ
+blockRoom = 16
+
+-- Thread t has so many lines in each block.
+abbrev pub CountsOf : List ℕ → List ℕ → ℕ → List ℕ → Type 0
+CountsOf bytes xs t counts = (i : ℕ) → i < blockRoom → getD counts i 0 ≡ linesInBlock (blockIn xs) i (threadLines bytes t)
+
+-- The counts after one more line in a block; what is no block changes nothing.
+unfoldable pub withLine : List ℕ → ℕ → List ℕ
+withLine counts block = cond (ltb block blockRoom) (set counts block (getD counts block 0 + 1)) counts
+
+-- The lengths of the blocks by the counts of each thread: block i's is that of thread i modulo T.
+abbrev pub lengthsIn : List ℕ → List (List ℕ) → List ℕ
+lengthsIn bytes counts = numbersFrom (λ i. getD (getD counts (i % threadCount bytes) []) i 0) 0 (suc (switchCount bytes))
 
 -- The value of a local, of 16; what is no local has 0.
 unfoldable pub localIn : List ℕ → ℕ → ℕ

@@ -1,22 +1,18 @@
--- Laws of the number of input lines.
+-- Laws of the number of input lines: there are as many as input records.
 -- Assumes nothing.
-use mathlib.Core.Path.{_≡_, ap, _∙_}
-use mathlib.Core.Logic.{_≢_}
-use Prim.Native.Nat.{ℕ, zero, suc, _+_, _-_, _*_, _≤_, _<_}
+use mathlib.Core.Path.{_≡_, refl, sym, _∙_}
+use Prim.Native.Nat.{ℕ, zero, suc, _+_, _*_, _≤_, _<_}
 use mathlib.Core.Bool.{Bool, true, false, cond}
 use mathlib.Core.List.{List, [], _∷_}
 use native.Mathlib.Omega.{arith}
 use lib.ListN.{length, length-append}
 use Rattle.model.specs.Word.{bit}
-use Rattle.model.specs.CaseFile.{Line, records, threadCount, firstRecord, nextRecord, kindOf, lineOf, chains, caseOf}
+use Rattle.model.specs.CaseFile.{Line, records, threadCount, firstRecord, recordField, kindOf, chains, caseOf, sumOfLines, sumOfThreads}
 use Rattle.model.specs.Line.{isInput}
 use Rattle.model.specs.Schedule.{inputLines, allInputLines, scheduleSize}
 use Rattle.laws.specs.Accepted.{Accepted, linesFrom}
-use Rattle.laws.proofs.Chains.{linesFrom-end}
 use Rattle.laws.proofs.Lines.{few-lines-from}
-use Rattle.case_file.proofs.Chains.{chains-go-on, chains-at-end}
-use Rattle.case_file.specs.declared.Record.{Record}
-use Rattle.case_file.specs.Records.{recordOf}
+use Rattle.laws.proofs.RecordSums.{lines-add-up, recordsFrom, records-all, records-more, records-none}
 
 pub input-is-4 : (k : ℕ) → k ≡ 4 → 1 ≡ bit (isInput (kindOf k))
 unfolding kindOf
@@ -39,41 +35,8 @@ inputs-at-most (l ∷ ls) = go (isInput (l .kind)) (inputs-at-most ls)
     go true h = omega arith
     go false h = omega arith
 
-pub inputs-end : (bytes : List ℕ) (t k : ℕ) → k ≡ 0 → length (inputLines (linesFrom bytes t k)) ≡ 0
-unfolding inputLines
-inputs-end bytes t k e = rw (e, linesFrom-end bytes t)
-
-pub inputs-few : (bytes : List ℕ) → Accepted bytes → (t k : ℕ) → k ≤ records bytes → length (inputLines (linesFrom bytes t k)) ≤ 64
+inputs-few : (bytes : List ℕ) → Accepted bytes → (t k : ℕ) → k ≤ records bytes → length (inputLines (linesFrom bytes t k)) ≤ 64
 inputs-few bytes ok t k h = omega (arith, inputs-at-most (linesFrom bytes t k), few-lines-from bytes ok t k h)
-
--- One line of a chain and what follows it.
-module _ (bytes : List ℕ) (ok : Accepted bytes) (t k : ℕ) (low : k ≢ 0) (high : k ≤ records bytes) (l : Record) (el : l ≡ recordOf bytes k) where
-  pub next-within : l .next ≤ records bytes
-  next-within = rw (ap (λ (r : Record). r .next) el) (ok .nexts k (omega arith) high)
-
-  pub next-is-shorter : length (linesFrom bytes t (l .next)) < length (linesFrom bytes t k)
-  next-is-shorter = rw (ap (λ (r : Record). r .next) el, ok .lines-go-on t k (omega arith) high) (omega arith)
-
-  pub inputs-go-on : (n : ℕ) → n ≡ bit (isInput (kindOf (l .kind)))
-      → length (inputLines (linesFrom bytes t k)) ≡ n + length (inputLines (linesFrom bytes t (l .next)))
-  inputs-go-on n e =
-      ap (λ (ls : List Line). length (inputLines ls)) (ok .lines-go-on t k (omega arith) high)
-      ∙ inputs-more (lineOf bytes t k) (linesFrom bytes t (nextRecord bytes k))
-      ∙ rw (e, el)
-
--- The threads from thread t on.
-module _ (bytes : List ℕ) (t : ℕ) where
-  pub all-inputs-end : threadCount bytes ≤ t → length (allInputLines (chains bytes t (threadCount bytes - t))) ≡ 0
-  unfolding allInputLines
-  all-inputs-end h = rw (chains-at-end bytes t (threadCount bytes) h)
-
-  pub all-inputs-go-on : t < threadCount bytes
-      → length (allInputLines (chains bytes t (threadCount bytes - t)))
-      ≡ length (inputLines (linesFrom bytes t (firstRecord bytes t))) + length (allInputLines (chains bytes (t + 1) (threadCount bytes - (t + 1))))
-  unfolding allInputLines
-  all-inputs-go-on h =
-      rw (chains-go-on bytes t (threadCount bytes) h)
-      (length-append (inputLines (linesFrom bytes t (firstRecord bytes t))) (allInputLines (chains bytes (t + 1) (threadCount bytes - (t + 1)))))
 
 inputs-at-most-64 : (bytes : List ℕ) → Accepted bytes → (t many : ℕ) → t + many ≤ threadCount bytes → length (allInputLines (chains bytes t many)) ≤ 64 * many
 unfolding allInputLines chains
@@ -89,3 +52,34 @@ inputs-at-most-64 bytes ok t (suc many) h =
 pub schedule-fits : (bytes : List ℕ) → Accepted bytes → scheduleSize (caseOf bytes) ≤ 272
 schedule-fits bytes ok =
     omega (arith, inputs-at-most-64 bytes ok 0 (threadCount bytes) (omega arith), ok .few-threads, ok .few-switches)
+
+-- 1 for an input record.
+abbrev inputAt : List ℕ → ℕ → ℕ
+inputAt bytes k = bit (isInput (kindOf (recordField bytes k 1)))
+
+inputs-sum : (ls : List Line) → sumOfLines (λ l. bit (isInput (l .kind))) ls ≡ length (inputLines ls)
+unfolding inputLines
+inputs-sum [] = refl
+inputs-sum (l ∷ ls) = omega (arith, inputs-sum ls, inputs-more l ls)
+
+all-inputs-sum : (threads : List (List Line)) → sumOfThreads (λ l. bit (isInput (l .kind))) threads ≡ length (allInputLines threads)
+unfolding allInputLines
+all-inputs-sum [] = refl
+all-inputs-sum (ls ∷ threads) = omega (arith, inputs-sum ls, all-inputs-sum threads, length-append (inputLines ls) (allInputLines threads))
+
+-- How many input records there are from record k on.
+abbrev pub inputsFrom : List ℕ → ℕ → ℕ
+inputsFrom bytes k = recordsFrom bytes (inputAt bytes) k
+
+module _ (bytes : List ℕ) where
+  pub inputs-start : Accepted bytes → inputsFrom bytes 1 ≡ length (allInputLines (caseOf bytes .threads))
+  inputs-start ok =
+      records-all bytes (inputAt bytes)
+      ∙ sym (lines-add-up (inputAt bytes) bytes ok (λ l. bit (isInput (l .kind))) (λ t k. refl))
+      ∙ all-inputs-sum (caseOf bytes .threads)
+
+  pub inputs-go-on : (k : ℕ) → k ≤ records bytes → (n : ℕ) → n ≡ inputAt bytes k → inputsFrom bytes k ≡ n + inputsFrom bytes (k + 1)
+  inputs-go-on k high n en = omega (arith, records-more bytes (inputAt bytes) k high, en)
+
+  pub inputs-end : (k : ℕ) → records bytes < k → inputsFrom bytes k ≡ 0
+  inputs-end k past = records-none bytes (inputAt bytes) k past

@@ -1,42 +1,27 @@
 // How many numbers a schedule has: its block lengths and a value for each input line.
 ghost use mathlib.Core.Path.{_≡_};
-ghost use Prim.Native.Nat.{ℕ, _<_, _≤_};
-ghost use lib.ListN.{length};
+ghost use Prim.Native.Nat.{_≤_};
 ghost use Rattle.model.specs.Word.{bit};
-ghost use Rattle.model.specs.CaseFile.{kindOf, threadCount, firstRecord, caseOf};
+ghost use Rattle.model.specs.CaseFile.{kindOf, caseOf};
 ghost use Rattle.model.specs.Line.{isInput};
-ghost use Rattle.model.specs.Schedule.{inputLines, scheduleSize};
-ghost use Rattle.laws.specs.Accepted.{Accepted, linesFrom};
+ghost use Rattle.model.specs.Schedule.{scheduleSize};
+ghost use Rattle.laws.specs.Accepted.{Accepted};
 use case_file::field_at;
 use case_file::record_at;
+use case_file::records;
 
-// The size of a schedule of an accepted case.
+// The size of a schedule of an accepted case: each of its records is one line, so no chain is followed.
 pub fn schedule_size(case: &[u8]) -> usize
     requires { ⌜ Accepted (now case) ⌝ }
     ensures { λ r. ⌜ (r ≡ scheduleSize (caseOf (now (case .entry)))) × (r ≤ 272) ⌝ }
 {
-    let threads = field_at(case, 0) as usize;
+    let last = records(case);
     let mut n = field_at(case, 1) as usize + 1;
-    let mut t = 0;
-    while t < threads {
-        n += inputs_in(case, t);
-        t += 1;
-    }
-    n
-}
-
-// How many input lines thread t has.
-fn inputs_in(case: &[u8], t: usize) -> usize
-    requires { ⌜ Accepted (now case) ⌝ }
-    requires { ⌜ t < threadCount (now case) ⌝ }
-    ensures { λ r. ⌜ r ≡ length (inputLines (linesFrom (now (case .entry)) t (firstRecord (now (case .entry)) t))) ⌝ }
-{
-    let mut k = field_at(case, 4 + t);
-    let mut n = 0;
-    while k != 0 {
-        let l = record_at(case, k as usize);
+    let mut k = 1;
+    while k <= last {
+        let l = record_at(case, k);
         n += inputs_of(l.kind);
-        k = l.next;
+        k += 1;
     }
     n
 }

@@ -3,7 +3,7 @@ use mathlib.Core.Logic.{⊎-elim}
 use native.Mathlib.Omega.{arith}
 use mathlib.Core.Path.{refl, _∙_}
 use borrow.Author.Needs.{needs}
-use Rattle.decoder.proofs.Answering.{too-short, not-met, met, refusal-leaves}
+use Rattle.decoder.proofs.Answering.{too-short, not-met, met, met-sized, refusal-leaves}
 use Rattle.decoder.proofs.decode_accepted.Statement.{statement}
 use Rattle.decoder.proofs.decode_accepted.Tie as tie
 
@@ -29,7 +29,13 @@ returns-2 c = (
 )
 
 write-schedule-requires : tie.Need-write-schedule-requires
-write-schedule-requires c κs = (c .before .before .before .before .before .before .before .before .before .pre, omega (arith, c .before .before .before .before .before .schedule-size .ensures .0, c .before .before .before .before .if1 .left))
+write-schedule-requires c κs = (
+  c .before .before .before .before .before .before .before .before .before .pre,
+  (
+    omega (arith, c .before .before .before .before .before .schedule-size .ensures .0, c .before .before .before .before .if1 .left),
+    omega (arith, met-sized (c .before .before .before .before .before .before .before .before .before .args .case .now) (c .before .before .before .before .before .before .before .before .before .args .assignment .now) _ (c .before .before .before .check-accepted .ensures) (c .before .enum-told .given .1)),
+  ),
+)
 
 cast-t11 : tie.Need-cast-t11
 cast-t11 c = search needs

@@ -1,24 +1,20 @@
 -- `decoder::input_value` meets its contract. Assumes nothing.
+use mathlib.Core.List.{[]}
+use native.Mathlib.Omega.{arith}
 use borrow.Author.Needs.{needs}
+use Rattle.case_file.specs.Records.{asLine}
+use Rattle.decoder.proofs.Locals.{guard-alone}
 use Rattle.decoder.proofs.input_value.Statement.{statement}
 use Rattle.decoder.proofs.input_value.Tie as tie
 
-guard-name-requires : tie.Need-guard-name-requires
-guard-name-requires c κs = search needs
-
-local-in-requires : tie.Need-local-in-requires
-local-in-requires c κs = search needs
-
-guard-true-requires : tie.Need-guard-true-requires
-guard-true-requires c κs = search needs
+guarded-requires : tie.Need-guarded-requires
+guarded-requires c κs = search needs
 
 returns : tie.Need-returns
-returns c t k = rw (← (c .before .before .before .guard-name .ensures t k), ← (c .before .before .local-in .ensures), ← (c .before .guard-true .ensures t k), c .if1 .taken)
+returns c = λ t k. rw (← (guard-alone (c .before .before .args .locals .now) (asLine (c .before .before .args .l) t k)), ← (c .before .guarded .ensures 0 0 0 [] t k (omega arith)), c .if1 .taken)
 
 returns-2 : tie.Need-returns-2
-returns-2 c t k = rw (← (c .before .before .before .guard-name .ensures t k), ← (c .before .before .local-in .ensures), ← (c .before .guard-true .ensures t k), c .if1 .left)
+returns-2 c = λ t k. rw (← (guard-alone (c .before .before .args .locals .now) (asLine (c .before .before .args .l) t k)), ← (c .before .guarded .ensures 0 0 0 [] t k (omega arith)), c .if1 .left)
 
 pub input-value-spec : {M : Type 1} → statement M
-input-value-spec =
-    tie.close
-    (tie.spec guard-name-requires local-in-requires guard-true-requires returns returns-2)
+input-value-spec = tie.close (tie.spec guarded-requires returns returns-2)

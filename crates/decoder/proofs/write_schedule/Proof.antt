@@ -4,9 +4,6 @@ use Rattle.decoder.proofs.Counts.{schedule-written}
 use Rattle.decoder.proofs.write_schedule.Statement.{statement}
 use Rattle.decoder.proofs.write_schedule.Tie as tie
 
-write-lengths-requires : tie.Need-write-lengths-requires
-write-lengths-requires c κs = search needs
-
 field-at-requires : tie.Need-field-at-requires
 field-at-requires c κs = search needs
 
@@ -19,20 +16,25 @@ add-write-all-values c = search needs
 write-all-values-requires : tie.Need-write-all-values-requires
 write-all-values-requires c κs = search needs
 
+write-lengths-requires : tie.Need-write-lengths-requires
+write-lengths-requires c κs = search needs
+
 same-length : tie.Need-same-length
 same-length c = search needs
 
 returns : tie.Need-returns
-returns c = schedule-written (c .before .before .before .before .before .before .before .before .before .before .before .before .args .case .now) (c .before .before .before .before .before .before .before .before .before .before .before .before .args .assignment .now) (c .before .before .before .before .before .before .before .before .before .before .before .before .args .schedule .now) _ _ _ (c .before .before .before .before .before .before .before .before .before .before .before .before .pre .1) (c .before .before .before .before .field-at .ensures) (c .before .before .before .before .before .before .before .write-lengths .ensures) (c .before .before .write-all-values .ensures)
+returns c =
+    schedule-written (c .before .before .before .before .before .before .before .before .before .before .before .before .before .args .case .now) (c .before .before .before .before .before .before .before .before .before .before .before .before .before .args .assignment .now) (c .before .before .before .before .before .before .before .before .before .before .before .before .before .args .schedule .now) _ _ (c .before .before .before .before .before .before .before .write-all-values .result) _ (c .before .before .before .before .before .before .before .before .before .before .before .before .before .pre .0) (c .before .before .before .before .before .before .before .before .before .before .before .before .before .pre .1 .0) (c .before .before .before .before .before .before .before .before .before .field-at .ensures) (c .before .before .before .before .before .before .before .write-all-values .ensures .0) (c .before .before .before .before .before .before .before .write-all-values .ensures .1)
+    (c .before .before .write-lengths .ensures)
 
 pub write-schedule-spec : {M : Type 1} → statement M
 write-schedule-spec =
     tie.close
     (tie.spec
-    write-lengths-requires
     field-at-requires
     cast-last
     add-write-all-values
     write-all-values-requires
+    write-lengths-requires
     same-length
     returns)
