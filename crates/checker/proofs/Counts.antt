@@ -11,7 +11,7 @@ use Rattle.model.specs.Assignment.{variables}
 use Rattle.model.specs.Table.{orderRows, demandRows, valueRows, allOrderRows, allValueRows, itemRows, blockRows}
 use Rattle.laws.specs.Accepted.{Accepted, linesFrom}
 use Rattle.laws.proofs.Lines.{few-lines-from}
-use Rattle.encoder.proofs.Order.{order-length}
+use Rattle.laws.proofs.Sizes.{order-length}
 
 pub records-fit : (bytes xs : List ℕ) → length xs ≡ variables (caseOf bytes) → (k : ℕ) → k ≤ records bytes → 2 * k ≤ length xs
 records-fit bytes xs e k h = go (caseOf bytes .n * itemCount (caseOf bytes)) e

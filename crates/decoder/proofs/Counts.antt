@@ -26,9 +26,10 @@ use Rattle.laws.proofs.Ranges.{length-numbersFrom}
 use Rattle.case_file.specs.declared.Record.{Record}
 use Rattle.case_file.specs.Records.{recordOf}
 use Rattle.row.specs.Rows.{blockIn}
-use Rattle.decoder.specs.Decoding.{numbersAt, threadLines, blockRoom, CountsOf, withLine, lengthsIn}
+use Rattle.laws.specs.Written.{numbersAt}
+use Rattle.decoder.specs.Decoding.{threadLines, blockRoom, CountsOf, withLine, lengthsIn}
 use Rattle.decoder.proofs.Locals.{length-decoded}
-use Rattle.decoder.proofs.Writing.{numbers-before, Writing, writing-room}
+use Rattle.laws.proofs.Writing.{numbers-before, Writing, writing-room}
 
 count-at-most : (block : ℕ → ℕ) (i : ℕ) (ls : List Line) → linesInBlock block i ls ≤ length ls
 unfolding linesInBlock

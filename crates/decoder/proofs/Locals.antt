@@ -25,7 +25,7 @@ use Rattle.case_file.specs.Records.{recordOf, asLine}
 use Rattle.line.specs.LineReads.{readsAt}
 use Rattle.line.proofs.KindNumbers.{input-other}
 use Rattle.row.specs.Rows.{valueIn}
-use Rattle.decoder.proofs.Writing.{Writing, writing-room}
+use Rattle.laws.proofs.Writing.{Writing, writing-room}
 use Rattle.decoder.specs.Decoding.{localIn, withLocal, guardRead, ownValue, valuesWith}
 
 -- A guard's name is a local or no name.

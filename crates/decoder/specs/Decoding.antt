@@ -7,7 +7,6 @@ use mathlib.Core.Bool.{cond}
 use mathlib.Core.List.{List, [], _∷_, _++_}
 use lib.Dec.{leb, eqb, ltb}
 use lib.ListN.{getD, set, length}
-use lib.Seq.{sets}
 use Rattle.model.specs.Limits.{localCount}
 use Rattle.model.specs.Lists.{numbersFrom, unless}
 use Rattle.model.specs.CaseFile.{Line, threadCount, switchCount, firstRecord, caseOf}
@@ -22,10 +21,6 @@ use Rattle.model.specs.declared.Decoded.the-variants.{Schedule}
 use Rattle.model.specs.declared.Decoded.the-variants as decodeds
 use Rattle.laws.specs.Accepted.{linesFrom}
 use Rattle.row.specs.Rows.{blockIn, valueIn}
-
--- A slice after these numbers are written from a place on.
-unfoldable pub numbersAt : List ℕ → ℕ → List ℕ → List ℕ
-numbersAt slice at numbers = sets slice at numbers
 
 -- The lines of thread t.
 abbrev pub threadLines : List ℕ → ℕ → List Line

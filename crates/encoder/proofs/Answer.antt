@@ -20,7 +20,8 @@ use Rattle.model.specs.declared.Encoded.the-variants.{Table, Refused}
 use Rattle.laws.specs.Accepted as laws
 use Rattle.laws.proofs.Views.{LeView, within, beyond, le-view}
 use Rattle.encoder.specs.Rows.{rowsAt, orderPart, tablePart, encodedAccepted}
-use Rattle.encoder.proofs.Writing.{length-numbers, rows-from-start}
+use Rattle.laws.proofs.Sizes.{length-numbers}
+use Rattle.encoder.proofs.Writing.{rows-from-start}
 use Rattle.laws.proofs.Counting.{sumFrom}
 use Rattle.encoder.proofs.Records.{recordRows}
 use Rattle.encoder.proofs.Whole.{whole-size, whole-count, whole-is}

@@ -7,7 +7,7 @@ use mathlib.Core.List.{List, [], _∷_, _++_}
 use native.Mathlib.Omega.{arith}
 use borrow.Author.Tests.{eq-eqb, ne-eqb}
 use lib.ListN.{length}
-use Rattle.model.specs.CaseFile.{Line, Case, records, firstRecord, nextRecord, lineOf, threadCount}
+use Rattle.model.specs.CaseFile.{Case, records, firstRecord, nextRecord, lineOf, threadCount}
 use Rattle.model.specs.Table.{row, orderRows}
 use Rattle.laws.specs.Accepted.{Accepted, linesFrom}
 use Rattle.laws.proofs.Following.{lines-end, lines-more, next-low}
@@ -60,9 +60,3 @@ pub order-put :
     (case : Case) (out a : List ℕ) (at k T t next n : ℕ) → a ≡ rowsAt out at (row 3 k T t 0 0 ∷ (followRow k next n ∷ [])) → T ≡ case .T → n ≡ case .n →
     a ≡ rowsAt out at (row 3 k (case .T) t 0 0 ∷ (followRow k next (case .n) ∷ []))
 order-put case out a at k T t next n e eT en = rw (← eT, ← en) e
-
-pub order-length : (case : Case) (t : ℕ) (ls : List Line) → length (orderRows case t ls) ≡ 2 * length ls
-unfolding orderRows
-order-length case t [] = refl
-order-length case t (l ∷ []) = refl
-order-length case t (l ∷ (l' ∷ ls)) = omega (arith, order-length case t (l' ∷ ls))

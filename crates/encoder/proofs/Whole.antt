@@ -12,7 +12,7 @@ use Rattle.laws.specs.Accepted.{Accepted}
 use Rattle.encoder.specs.Rows.{rowsAt, threadLines, valuesWith, copiesAfter, allValuesWith, allCopiesAfter, lineRowCount, valueCount, noCopies, blocksOf, valuePart, finalCopies, orderPart, tablePart, wholeTable}
 use Rattle.encoder.proofs.Writing.{rows-append, Writing, writing-start, writing-more, writing-end}
 use Rattle.laws.proofs.Following.{chains-more, chains-end}
-use Rattle.encoder.proofs.Order.{order-length}
+use Rattle.laws.proofs.Sizes.{order-length}
 use Rattle.encoder.proofs.Values.{values-length}
 use Rattle.encoder.proofs.Blocks.{blocks-length}
 use Rattle.laws.proofs.Counting.{sumFrom}

@@ -2,21 +2,18 @@
 -- all have this invariant.
 -- Assumes nothing.
 use mathlib.Core.Path.{_≡_, refl, sym, ap, _∙_}
-use Prim.Native.Nat.{ℕ, suc, _+_, _*_, _≤_}
+use Prim.Native.Nat.{ℕ, _+_, _*_, _≤_}
 use mathlib.Core.List.{List, [], _∷_, _++_}
 use native.Mathlib.Omega.{arith}
-use native.Mathlib.Nat.{zero-add}
 use native.Mathlib.Numerals.{add-one, add-two, add-three, add-four, add-five}
-use lib.ListN.{length, set, drop, length-append}
-use lib.Seq.{sets, length-sets, sets-eq}
+use lib.ListN.{length, set, length-append}
+use lib.Seq.{sets, length-sets}
 use Rattle.model.specs.Lists.{writtenOver}
 use Rattle.model.specs.Table.{Row, row, numbersOf}
+use Rattle.laws.specs.Written.{numbersAt}
+use Rattle.laws.proofs.Writing as written
+use Rattle.laws.proofs.Sizes.{length-numbers}
 use Rattle.encoder.specs.Rows.{rowsAt}
-
-pub length-numbers : (rows : List Row) → length (numbersOf rows) ≡ 6 * length rows
-unfolding numbersOf
-length-numbers [] = refl
-length-numbers (w ∷ rows) = omega (arith, length-numbers rows)
 
 pub numbers-append : (xs ys : List Row) → numbersOf (xs ++ ys) ≡ numbersOf xs ++ numbersOf ys
 unfolding numbersOf
@@ -24,19 +21,14 @@ numbers-append [] ys = refl
 numbers-append (w ∷ xs) ys =
     ap (λ (r : List ℕ). w .kind ∷ (w .one ∷ (w .two ∷ (w .three ∷ (w .four ∷ (w .five ∷ r)))))) (numbers-append xs ys)
 
-sets-append : (d : List ℕ) (at : ℕ) (xs ys : List ℕ) → sets d at (xs ++ ys) ≡ sets (sets d at xs) (at + length xs) ys
-sets-append d at [] ys = ap (λ (k : ℕ). sets d k ys) (omega arith)
-sets-append d at (x ∷ xs) ys =
-    sets-append (set d at x) (suc at) xs ys ∙ ap (λ (k : ℕ). sets (sets (set d at x) (suc at) xs) k ys) (omega arith)
-
 pub rows-none : (d : List ℕ) (at : ℕ) → rowsAt d at [] ≡ d
 unfolding rowsAt numbersOf
 rows-none d at = refl
 
 pub rows-append : (d : List ℕ) (at : ℕ) (xs ys : List Row) → rowsAt d at (xs ++ ys) ≡ rowsAt (rowsAt d at xs) (at + 6 * length xs) ys
-unfolding rowsAt
+unfolding rowsAt numbersAt
 rows-append d at xs ys =
-    ap (sets d at) (numbers-append xs ys) ∙ sets-append d at (numbersOf xs) (numbersOf ys)
+    ap (sets d at) (numbers-append xs ys) ∙ written.numbers-append d at (numbersOf xs) (numbersOf ys)
     ∙ ap (λ (k : ℕ). sets (sets d at (numbersOf xs)) (at + k) (numbersOf ys)) (length-numbers xs)
 
 pub length-rows : (d : List ℕ) (at : ℕ) (rows : List Row) → length (rowsAt d at rows) ≡ length d
@@ -45,10 +37,8 @@ length-rows d at rows = length-sets d at (numbersOf rows)
 
 -- from the start: the rows' numbers, and then the old rest
 pub rows-from-start : (d : List ℕ) (rows : List Row) → 6 * length rows ≤ length d → rowsAt d 0 rows ≡ writtenOver (numbersOf rows) d
-unfolding rowsAt writtenOver
-rows-from-start d rows h =
-    sets-eq (numbersOf rows) d 0 (omega (arith, length-numbers rows))
-    ∙ ap (λ (k : ℕ). numbersOf rows ++ drop k d) (zero-add (length (numbersOf rows)))
+unfolding rowsAt numbersAt
+rows-from-start d rows h = written.numbers-from-start d (numbersOf rows) (omega (arith, length-numbers rows))
 
 pub six-stores :
     (d : List ℕ) (at a b c e f g : ℕ) →

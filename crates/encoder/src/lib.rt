@@ -74,7 +74,7 @@ fn encode_accepted(case: &[u8], table: &mut [u16]) -> Encoded
 // How many constraints the table of an accepted case has: its records' rows, the 6s and the 7.
 fn constraint_count(case: &[u8]) -> usize
     requires { ⌜ Accepted (now case) ⌝ }
-    ensures { λ r. ⌜ (r ≡ length (model.table (caseOf (now (case .entry))))) × (r ≤ 1205) ⌝ }
+    ensures { λ r. ⌜ r ≡ length (model.table (caseOf (now (case .entry)))) ⌝ }
 {
     let last = records(case);
     let mut n = 0;

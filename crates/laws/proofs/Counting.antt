@@ -26,7 +26,7 @@ sum-of-zeros : (i many : ℕ) → sumFrom (λ k. 0) i many ≡ 0
 sum-of-zeros i zero = refl
 sum-of-zeros i (suc many) = omega (arith, sum-of-zeros (suc i) many)
 
-sum-of-bits : (f : ℕ → ℕ) (i many : ℕ) → ((k : ℕ) → f k ≤ 1) → sumFrom f i many ≤ many
+pub sum-of-bits : (f : ℕ → ℕ) (i many : ℕ) → ((k : ℕ) → f k ≤ 1) → sumFrom f i many ≤ many
 sum-of-bits f i zero h = le-refl 0
 sum-of-bits f i (suc many) h = omega (arith, h i, sum-of-bits f (suc i) many h)
 

@@ -1,1 +1,3 @@
 pub mod Accepted
+pub mod Written
+pub mod Sizes

@@ -3,7 +3,7 @@ use native.Mathlib.Omega.{arith}
 use lib.ListN.{length}
 use mathlib.Core.Path.{sym, ap}
 use borrow.Author.Needs.{needs}
-use Rattle.decoder.proofs.Writing.{numbers-none, numbers-one}
+use Rattle.laws.proofs.Writing.{numbers-none, numbers-one}
 use Rattle.decoder.proofs.Locals.{own-none, own-one}
 use Rattle.decoder.proofs.put_value.Statement.{statement}
 use Rattle.decoder.proofs.put_value.Tie as tie

@@ -5,13 +5,14 @@ use lib.ListN.{length}
 use Prim.Native.Nat.{ℕ, _+_, _-_}
 use mathlib.Core.List.{[]}
 use mathlib.Core.Path.{_≡_, sym, ap, _∙_}
-use Rattle.decoder.proofs.Writing.{Writing, writing-start, writing-more, writing-end}
+use Rattle.laws.proofs.Writing.{Writing, writing-start, writing-more, writing-end}
 use Rattle.decoder.proofs.Locals.{length-decoded}
 use Rattle.decoder.proofs.Counts.{AllCounted, all-counted-start, all-counted-more, all-values-go-on, all-values-end, all-values-room, length-all-values}
 use Rattle.model.specs.Schedule.{allDecodedValues}
 use Rattle.model.specs.Assignment.{assignmentOf}
 use Rattle.model.specs.CaseFile.{threadCount, chains, caseOf}
-use Rattle.decoder.specs.Decoding.{numbersAt, threadLines}
+use Rattle.laws.specs.Written.{numbersAt}
+use Rattle.decoder.specs.Decoding.{threadLines}
 use Rattle.decoder.proofs.write_all_values.Statement.{statement}
 use Rattle.decoder.proofs.write_all_values.Tie as tie
 

@@ -6,10 +6,11 @@ use lib.ListN.{length, getD}
 use Prim.Native.Nat.{ℕ, suc, _+_, _-_, _%_, _<_}
 use mathlib.Core.List.{[]}
 use mathlib.Core.Path.{_≡_, refl, ap}
-use Rattle.decoder.proofs.Writing.{Writing, numbers-one, writing-start, writing-more, writing-end}
+use Rattle.laws.proofs.Writing.{Writing, numbers-one, writing-start, writing-more, writing-end}
 use Rattle.decoder.proofs.Counts.{lengthsFrom, lengths-go-on, lengths-end}
 use Rattle.model.specs.CaseFile.{threadCount, switchCount}
-use Rattle.decoder.specs.Decoding.{numbersAt, lengthsIn}
+use Rattle.laws.specs.Written.{numbersAt}
+use Rattle.decoder.specs.Decoding.{lengthsIn}
 use Rattle.decoder.proofs.write_lengths.Statement.{statement}
 use Rattle.decoder.proofs.write_lengths.Tie as tie
 

@@ -4,14 +4,15 @@ use borrow.Author.Needs.{needs}
 use lib.ListN.{length, replicate}
 use Prim.Native.Nat.{ℕ, _+_, _-_, _*_, _≤_}
 use mathlib.Core.Path.{_≡_, refl, ap, _∙_}
-use Rattle.decoder.proofs.Writing.{Writing, writing-start, writing-more, writing-end}
+use Rattle.laws.proofs.Writing.{Writing, writing-start, writing-more, writing-end}
 use Rattle.decoder.proofs.Locals.{values-are, values-end, values-go-on, values-count, values-room}
 use Rattle.decoder.proofs.Counts.{Counting, thread-counting-start, thread-counting-few, thread-counting-more, thread-counting-end, next-within, next-is-shorter}
 use Rattle.model.specs.Line.{targetName}
 use Rattle.model.specs.CaseFile.{records, globalCount, firstRecord}
 use Rattle.case_file.specs.Records.{asLine}
 use Rattle.row.specs.Rows.{blockIn}
-use Rattle.decoder.specs.Decoding.{numbersAt, threadLines, valuesWith}
+use Rattle.laws.specs.Written.{numbersAt}
+use Rattle.decoder.specs.Decoding.{threadLines, valuesWith}
 use Rattle.laws.specs.Accepted.{linesFrom}
 use Rattle.decoder.proofs.write_values.Statement.{statement}
 use Rattle.decoder.proofs.write_values.Tie as tie

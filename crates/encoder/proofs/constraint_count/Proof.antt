@@ -52,7 +52,7 @@ add-result-2 : tie.Need-add-result-2 Inv-loop μ-loop
 add-result-2 c = search needs
 
 returns : tie.Need-returns Inv-loop μ-loop
-returns c = (table-count _ (c .before .before .before .before .before .pre) _ _ (counting-end _ _ _ (c .before .before .loop .inv) (search needs)) (c .block-rows .ensures .0), search needs)
+returns c = table-count _ (c .before .before .before .before .before .pre) _ _ (counting-end _ _ _ (c .before .before .loop .inv) (search needs)) (c .block-rows .ensures .0)
 
 pub constraint-count-spec : {M : Type 1} → statement M
 constraint-count-spec =

@@ -1,5 +1,5 @@
 -- Numbers written one after the other: what is left to write decides what the slice holds in the end.
--- Assumes nothing.
+-- Assumes nothing. Met again where the encoder, the decoder and the listing write.
 use mathlib.Core.Path.{_≡_, refl, sym, ap, ap₂, _∙_}
 use Prim.Native.Nat.{ℕ, suc, _+_, _≤_}
 use mathlib.Core.List.{List, [], _∷_, _++_, append-assoc}
@@ -8,7 +8,7 @@ use native.Mathlib.Nat.{zero-add}
 use lib.ListN.{length, set, take, drop, length-append}
 use lib.Seq.{sets, length-take-le, drop-at, length-sets, sets-eq}
 use Rattle.model.specs.Lists.{writtenOver}
-use Rattle.decoder.specs.Decoding.{numbersAt}
+use Rattle.laws.specs.Written.{numbersAt}
 
 pub numbers-none : (d : List ℕ) (at : ℕ) → numbersAt d at [] ≡ d
 unfolding numbersAt
@@ -28,7 +28,12 @@ pub length-numbers : (d : List ℕ) (at : ℕ) (xs : List ℕ) → length (numbe
 unfolding numbersAt
 length-numbers d at xs = length-sets d at xs
 
--- Numbers written to the start of a slice that has others after them.
+-- Numbers written to the start of a slice: they, and then the old rest.
+pub numbers-from-start : (d xs : List ℕ) → length xs ≤ length d → numbersAt d 0 xs ≡ writtenOver xs d
+unfolding numbersAt writtenOver
+numbers-from-start d xs h = sets-eq xs d 0 (omega arith) ∙ ap (λ (k : ℕ). xs ++ drop k d) (zero-add (length xs))
+
+-- The same where others stand after them.
 pub numbers-before : (d xs ys : List ℕ) → length (xs ++ ys) ≤ length d → numbersAt (numbersAt d (length xs) ys) 0 xs ≡ writtenOver (xs ++ ys) d
 unfolding numbersAt writtenOver
 numbers-before d xs ys h =

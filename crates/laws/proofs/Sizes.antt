@@ -1,0 +1,180 @@
+-- How large an accepted case can be, and its table, an assignment, a schedule and the items. Whoever calls can lend slices of
+-- these sizes, and refusal 10 never meets them.
+-- Assumes nothing. Met again in the encoder's counts and in the listing's text.
+use mathlib.Core.Path.{_≡_, refl}
+use Prim.Native.Nat.{ℕ, zero, suc, _+_, _*_, _%_, _≤_}
+use mathlib.Core.Bool.{Bool, true, false}
+use mathlib.Core.List.{List, [], _∷_, _++_, reverse}
+use native.Mathlib.Omega.{arith}
+use native.Mathlib.Nat.{mul-le-mul, zero-mul, suc-mul, le-refl}
+use lib.ListN.{length, length-append}
+use Rattle.model.specs.Limits.{mostCaseBytes, mostSwitches, mostItems, mostVariables, mostScheduleNumbers, mostConstraints, mostTableNumbers}
+use Rattle.model.specs.CaseFile.{Kind, compute, store, load, input, assert, assume, lock, unlock, Line, Case, records, threadCount, switchCount, chains, caseOf, linesOf, itemCount, sumOfLines, sumOfThreads}
+use Rattle.model.specs.Line.{isInput}
+use Rattle.model.specs.Assignment.{variables}
+use Rattle.model.specs.Table.{Row, orderRows, demandRows, valueRows, allOrderRows, allValueRows, itemRows, blockRows, goalRow, table, numbersOf}
+use Rattle.model.specs.Schedule.{inputLines, allInputLines, scheduleSize}
+use Rattle.model.specs.Accept.{verdict}
+use Rattle.model.specs.declared.Verdict.the-variants as verdicts
+use Rattle.laws.specs.Accepted.{Accepted}
+use Rattle.laws.specs.Sizes.{Sizes}
+use Rattle.laws.proofs.Accepted.{accepted-of}
+use Rattle.laws.proofs.Counting.{sum-of-bits}
+use Rattle.laws.proofs.RecordSums.{lines-add-up}
+
+-- Six numbers a row.
+pub length-numbers : (rows : List Row) → length (numbersOf rows) ≡ 6 * length rows
+unfolding numbersOf
+length-numbers [] = refl
+length-numbers (w ∷ rows) = omega (arith, length-numbers rows)
+
+-- The lines of all threads.
+abbrev lineCount : List (List Line) → ℕ
+lineCount threads = sumOfThreads (λ l. 1) threads
+
+lines-counted : (ls : List Line) → sumOfLines (λ l. 1) ls ≡ length ls
+lines-counted [] = refl
+lines-counted (l ∷ ls) = omega (arith, lines-counted ls)
+
+lines-are-few : (bytes : List ℕ) → Accepted bytes → lineCount (chains bytes 0 (threadCount bytes)) ≤ records bytes
+lines-are-few bytes ok =
+    omega (arith, lines-add-up (λ k. 1) bytes ok (λ l. 1) (λ t k. refl), sum-of-bits (λ k. 1) 1 (records bytes) (λ k. le-refl 1))
+
+-- The 3s, 1s and 2s: two a line.
+pub order-length : (case : Case) (t : ℕ) (ls : List Line) → length (orderRows case t ls) ≡ 2 * length ls
+unfolding orderRows
+order-length case t [] = refl
+order-length case t (l ∷ []) = refl
+order-length case t (l ∷ (l' ∷ ls)) = omega (arith, order-length case t (l' ∷ ls))
+
+orders-length : (case : Case) (t : ℕ) (threads : List (List Line)) → length (allOrderRows case t threads) ≡ 2 * lineCount threads
+unfolding allOrderRows
+orders-length case t [] = refl
+orders-length case t (ls ∷ threads) =
+    omega (
+      arith,
+      length-append (orderRows case t ls) (allOrderRows case (suc t) threads),
+      order-length case t ls,
+      lines-counted ls,
+      orders-length case (suc t) threads,
+    )
+
+-- The 4s and 5s: at most two a line.
+demand-at-most-one : (kind : Kind) (case : Case) (earlier : List Line) (l : Line) → length (demandRows kind case earlier l) ≤ 1
+unfolding demandRows
+demand-at-most-one compute case earlier l = omega arith
+demand-at-most-one store case earlier l = omega arith
+demand-at-most-one load case earlier l = omega arith
+demand-at-most-one input case earlier l = omega arith
+demand-at-most-one assert case earlier l = omega arith
+demand-at-most-one assume case earlier l = omega arith
+demand-at-most-one lock case earlier l = omega arith
+demand-at-most-one unlock case earlier l = omega arith
+
+value-at-most : (case : Case) (earlier ls : List Line) → length (valueRows case earlier ls) ≤ 2 * length ls
+unfolding valueRows
+value-at-most case earlier [] = omega arith
+value-at-most case earlier (l ∷ ls) =
+    omega (
+      arith,
+      length-append (demandRows (l .kind) case earlier l) (valueRows case (l ∷ earlier) ls),
+      demand-at-most-one (l .kind) case earlier l,
+      value-at-most case (l ∷ earlier) ls,
+    )
+
+values-at-most : (case : Case) (threads : List (List Line)) → length (allValueRows case threads) ≤ 2 * lineCount threads
+unfolding allValueRows
+values-at-most case [] = omega arith
+values-at-most case (ls ∷ threads) =
+    omega (
+      arith,
+      length-append (valueRows case [] ls) (allValueRows case threads),
+      value-at-most case [] ls,
+      lines-counted ls,
+      values-at-most case threads,
+    )
+
+-- The 6s: one for each block but the last and each item.
+items-length : (case : Case) (lines : List Line) (i g many : ℕ) → length (itemRows case lines i g many) ≡ many
+unfolding itemRows
+items-length case lines i g zero = refl
+items-length case lines i g (suc many) = omega (arith, items-length case lines i (suc g) many)
+
+blocks-length : (case : Case) (i many : ℕ) → length (blockRows case i many) ≡ many * itemCount case
+unfolding blockRows
+blocks-length case i zero = omega (arith, zero-mul (itemCount case))
+blocks-length case i (suc many) =
+    omega (
+      arith,
+      length-append (itemRows case (reverse (linesOf case (i % case .T))) i 0 (itemCount case)) (blockRows case (suc i) many),
+      items-length case (reverse (linesOf case (i % case .T))) i 0 (itemCount case),
+      blocks-length case (suc i) many,
+      suc-mul many (itemCount case),
+    )
+
+-- Input lines: at most one a line.
+inputs-at-most : (ls : List Line) → length (inputLines ls) ≤ length ls
+unfolding inputLines
+inputs-at-most [] = omega arith
+inputs-at-most (l ∷ ls) = go (isInput (l .kind)) refl (inputs-at-most ls)
+  where
+    go : (q : Bool) → isInput (l .kind) ≡ q → length (inputLines ls) ≤ length ls → length (inputLines (l ∷ ls)) ≤ suc (length ls)
+    go true e rest = rw e (omega arith)
+    go false e rest = rw e (omega arith)
+
+all-inputs-at-most : (threads : List (List Line)) → length (allInputLines threads) ≤ lineCount threads
+unfolding allInputLines
+all-inputs-at-most [] = omega arith
+all-inputs-at-most (ls ∷ threads) =
+    omega (arith, length-append (inputLines ls) (allInputLines threads), inputs-at-most ls, lines-counted ls, all-inputs-at-most threads)
+
+module _ (bytes : List ℕ) (ok : Accepted bytes) where
+  pub case-bytes : length bytes ≤ mostCaseBytes
+  case-bytes = omega (arith, ok .size, ok .few-records)
+
+  pub item-numbers : itemCount (caseOf bytes) ≤ mostItems
+  item-numbers = omega (arith, ok .few-globals, ok .few-mutexes)
+
+  block-values-are-few : switchCount bytes * itemCount (caseOf bytes) ≤ mostSwitches * mostItems
+  block-values-are-few = mul-le-mul (ok .few-switches) item-numbers
+
+  pub assignment-numbers : variables (caseOf bytes) ≤ mostVariables
+  assignment-numbers = omega (arith, ok .few-records, block-values-are-few)
+
+  pub schedule-numbers : scheduleSize (caseOf bytes) ≤ mostScheduleNumbers
+  schedule-numbers =
+      omega (arith, ok .few-records, ok .few-switches, all-inputs-at-most (chains bytes 0 (threadCount bytes)), lines-are-few bytes ok)
+
+  pub table-rows : length (table (caseOf bytes)) ≤ mostConstraints
+  unfolding table
+  table-rows =
+      let case = caseOf bytes in
+      let threads = chains bytes 0 (threadCount bytes) in
+      let blocks = blockRows case 0 (switchCount bytes) in
+      omega (
+        arith,
+        length-append (allOrderRows case 0 threads) (allValueRows case threads ++ (blocks ++ (goalRow ∷ []))),
+        length-append (allValueRows case threads) (blocks ++ (goalRow ∷ [])),
+        length-append blocks (goalRow ∷ []),
+        orders-length case 0 threads,
+        values-at-most case threads,
+        blocks-length case 0 (switchCount bytes),
+        lines-are-few bytes ok,
+        ok .few-records,
+        block-values-are-few,
+      )
+
+  pub table-numbers : length (numbersOf (table (caseOf bytes))) ≤ mostTableNumbers
+  table-numbers = omega (arith, length-numbers (table (caseOf bytes)), table-rows)
+
+-- All of them, for every list of bytes that no refusal from 1 to 9 meets.
+pub sizes : (bytes : List ℕ) → verdict bytes ≡ verdicts.Accepted → Sizes bytes
+sizes bytes accepted =
+    let ok = accepted-of bytes accepted in
+    record {
+      case-bytes = case-bytes bytes ok;
+      table-numbers = table-numbers bytes ok;
+      assignment-numbers = assignment-numbers bytes ok;
+      schedule-numbers = schedule-numbers bytes ok;
+      item-numbers = item-numbers bytes ok;
+    }

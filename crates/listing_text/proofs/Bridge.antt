@@ -1,0 +1,157 @@
+-- The text of the encoder's answer is the listing of `model`, and no listing is longer than `mostTextBytes`.
+-- Assumes nothing. Met in the proof of `listing_text`, and where a program lends a text that is never too short.
+use mathlib.Core.Path.{_≡_, refl, sym, ap, _∙_}
+use Prim.Native.Nat.{ℕ, zero, suc, _+_, _*_, _≤_, _<_}
+use mathlib.Core.List.{List, [], _∷_, _++_}
+use native.Mathlib.Omega.{arith}
+use native.Mathlib.Nat.{suc-add}
+use borrow.Author.Tests.{le-leb, lt-leb}
+use lib.ListN.{length, drop, length-append}
+use Rattle.model.specs.Limits.{mostTableNumbers}
+use Rattle.model.specs.Lists.{writtenOver}
+use Rattle.model.specs.CaseFile.{caseOf}
+use Rattle.model.specs.Accept.{verdict}
+use Rattle.model.specs.Assignment.{variables}
+use Rattle.model.specs.Table.{Row, table, numbersOf}
+use Rattle.model.specs.Answers.{onCase, encoded, afterEncoded, encodedInto}
+use Rattle.model.specs.Listing.{numbersLine, rowLine, rowLines, listingText, listed, afterListed, listedInto}
+use Rattle.model.specs.declared.Verdict.{Verdict}
+use Rattle.model.specs.declared.Verdict.the-variants.{Accepted}
+use Rattle.model.specs.declared.Verdict.the-variants as verdicts
+use Rattle.model.specs.declared.Encoded.{Encoded}
+use Rattle.model.specs.declared.Encoded.the-variants.{Table}
+use Rattle.model.specs.declared.Encoded.the-variants as encodeds
+use Rattle.model.specs.declared.Listed.{Listed}
+use Rattle.model.specs.declared.Listed.the-variants.{Text, Refused}
+use Rattle.laws.specs.Written.{numbersAt}
+use Rattle.laws.proofs.Accepted.{accepted-of}
+use Rattle.laws.proofs.Writing.{numbers-from-start}
+use Rattle.laws.proofs.Sizes.{table-rows, table-numbers}
+use Rattle.encoder.proofs.Answer.{refused-answer, written-fits}
+use Rattle.listing_text.specs.Text.{mostTextBytes, sixAt, sixLines, rowsOf, textOf}
+use Rattle.listing_text.proofs.Rows.{line-size}
+
+-- The numbers of a table, six at a time, are its rows.
+six-lines-shift : (x : ℕ) (xs : List ℕ) (from many : ℕ) → sixLines (x ∷ xs) (suc from) many ≡ sixLines xs from many
+unfolding sixLines
+six-lines-shift x xs from zero = refl
+six-lines-shift x xs from (suc many) =
+    rw (suc-add from 1, suc-add from 2, suc-add from 3, suc-add from 4, suc-add from 5, suc-add from 6)
+    (ap (λ (text : List ℕ). numbersLine (sixAt xs from) ++ text) (six-lines-shift x xs (from + 6) many))
+
+rows-listed : (rows : List Row) (rest : List ℕ) → sixLines (numbersOf rows ++ rest) 0 (length rows) ≡ rowLines rows
+unfolding sixLines numbersOf rowLines
+rows-listed [] rest = refl
+rows-listed (w ∷ ws) rest =
+    ap (λ (text : List ℕ). rowLine w ++ text) (
+    six-lines-shift _ _ 5 (length ws) ∙ six-lines-shift _ _ 4 (length ws) ∙ six-lines-shift _ _ 3 (length ws)
+    ∙ six-lines-shift _ _ 2 (length ws) ∙ six-lines-shift _ _ 1 (length ws) ∙ six-lines-shift _ _ 0 (length ws)
+    ∙ rows-listed ws rest
+    )
+
+rows-size : (rows : List Row) → length (rowLines rows) ≤ 36 * length rows
+unfolding rowLines
+rows-size [] = omega arith
+rows-size (w ∷ ws) =
+    omega (
+      arith,
+      length-append (rowLine w) (rowLines ws),
+      line-size (w .kind ∷ (w .one ∷ (w .two ∷ (w .three ∷ (w .four ∷ (w .five ∷ [])))))),
+      rows-size ws,
+    )
+
+-- The listing by the verdict.
+module _ (bytes : List ℕ) where
+  listing-accepted : verdict bytes ≡ Accepted → listingText bytes ≡ numbersLine (length (table (caseOf bytes)) ∷ (variables (caseOf bytes) ∷ [])) ++ rowLines (table (caseOf bytes))
+  unfolding listingText onCase
+  listing-accepted e = rw e
+
+  listing-refused : (number place : ℕ) → verdict bytes ≡ verdicts.Refused number place → listingText bytes ≡ numbersLine (number ∷ (place ∷ []))
+  unfolding listingText onCase
+  listing-refused number place e = rw e
+
+  pub text-fits : length (listingText bytes) ≤ mostTextBytes
+  text-fits = go (verdict bytes) refl
+    where
+      go : (v : Verdict) → verdict bytes ≡ v → length (listingText bytes) ≤ mostTextBytes
+      go Accepted e =
+          let first = length (table (caseOf bytes)) ∷ (variables (caseOf bytes) ∷ []) in
+          omega (
+            arith,
+            ap length (listing-accepted e),
+            length-append (numbersLine first) (rowLines (table (caseOf bytes))),
+            line-size first,
+            rows-size (table (caseOf bytes)),
+            table-rows bytes (accepted-of bytes e),
+          )
+      go (verdicts.Refused number place) e = omega (arith, ap length (listing-refused number place e), line-size (number ∷ (place ∷ [])))
+
+-- The rows that the encoder says it has written are in its slice.
+pub rows-fit : (bytes : List ℕ) (room : ℕ) (r : Encoded) → r ≡ encoded bytes room → 6 * rowsOf r ≤ room
+rows-fit bytes room r er = go r refl
+  where
+    go : (q : Encoded) → r ≡ q → 6 * rowsOf q ≤ room
+    go (Table constraints variables) e = written-fits bytes room r constraints variables er e
+    go (encodeds.Refused number place) e = omega arith
+
+-- The encoder's answer, with room for every table.
+module _ (bytes slice : List ℕ) (room : length slice ≡ mostTableNumbers) where
+  table-fits : verdict bytes ≡ Accepted → encoded bytes (length slice) ≡ Table (length (table (caseOf bytes))) (variables (caseOf bytes))
+  unfolding encoded onCase
+  table-fits e = rw (e, le-leb (length (numbersOf (table (caseOf bytes)))) (length slice) (omega (arith, table-numbers bytes (accepted-of bytes e))))
+
+  table-written : verdict bytes ≡ Accepted → encodedInto bytes slice ≡ numbersOf (table (caseOf bytes)) ++ drop (length (numbersOf (table (caseOf bytes)))) slice
+  unfolding encodedInto writtenOver
+  table-written e = ap (λ (q : Encoded). afterEncoded q (numbersOf (table (caseOf bytes))) slice) (table-fits e)
+
+  pub answer-text : (r : Encoded) (x : List ℕ) → r ≡ encoded bytes (length slice) → x ≡ encodedInto bytes slice → textOf r x ≡ listingText bytes
+  unfolding textOf
+  answer-text r x er ex = go (verdict bytes) refl
+    where
+      go : (v : Verdict) → verdict bytes ≡ v → textOf r x ≡ listingText bytes
+      go Accepted e =
+          rw (er, table-fits e, ex, table-written e, listing-accepted bytes e)
+          (ap (λ (text : List ℕ). numbersLine (length (table (caseOf bytes)) ∷ (variables (caseOf bytes) ∷ [])) ++ text) (rows-listed (table (caseOf bytes)) _))
+      go (verdicts.Refused number place) e =
+          rw (er, ← refused-answer bytes (length slice) (verdict bytes) number place refl e, listing-refused bytes number place e)
+
+-- The call's answer and its slice, from the text's length.
+module _ (bytes : List ℕ) (room : ℕ) where
+  answer-short : room < length (listingText bytes) → listed bytes room ≡ Refused 10 0
+  unfolding listed
+  answer-short h = rw (lt-leb (length (listingText bytes)) room h)
+
+  answer-long : length (listingText bytes) ≤ room → listed bytes room ≡ Text (length (listingText bytes))
+  unfolding listed
+  answer-long h = rw (le-leb (length (listingText bytes)) room h)
+
+  -- a text of this length is never refused
+  pub never-refused : mostTextBytes ≤ room → listed bytes room ≡ Text (length (listingText bytes))
+  never-refused h = answer-long (omega (arith, text-fits bytes))
+
+module _ (bytes slice : List ℕ) (size : ℕ) (es : size ≡ length (listingText bytes)) where
+  pub too-short : length slice < size → (Refused 10 0 ≡ listed bytes (length slice)) × (slice ≡ listedInto bytes slice)
+  unfolding listedInto
+  too-short h =
+      let answer = sym (answer-short bytes (length slice) (omega arith)) in
+      (answer, ap (λ (q : Listed). afterListed q (listingText bytes) slice) answer)
+
+  pub long-enough :
+      (x : List ℕ) → size ≤ length slice → x ≡ numbersAt slice 0 (listingText bytes) → (Text size ≡ listed bytes (length slice)) × (x ≡ listedInto bytes slice)
+  unfolding listedInto
+  long-enough x h ex =
+      let answer = sym (answer-long bytes (length slice) (omega arith)) in (
+        ap Text es ∙ answer,
+        ex ∙ numbers-from-start slice (listingText bytes) (omega arith) ∙ ap (λ (q : Listed). afterListed q (listingText bytes) slice) answer,
+      )
+
+-- for a caller whose text every listing fits
+pub no-refusal : (bytes : List ℕ) (room : ℕ) (r : Listed) → r ≡ listed bytes room → mostTextBytes ≤ room → (number place : ℕ) → r ≡ Refused number place → ⊥
+no-refusal bytes room r er h number place e = let z : _≡_ {A = ℕ} 0 1 = cc (never-refused bytes room h) in omega arith
+
+pub whole-text :
+    (bytes slice x : List ℕ) (r : Listed) (size : ℕ) → r ≡ listed bytes (length slice) → mostTextBytes ≤ length slice → r ≡ Text size → x ≡ listedInto bytes slice →
+    (size ≡ length (listingText bytes)) × (x ≡ writtenOver (listingText bytes) slice)
+unfolding listedInto
+whole-text bytes slice x r size er h e ex =
+    (cc (never-refused bytes (length slice) h), ex ∙ ap (λ (q : Listed). afterListed q (listingText bytes) slice) (never-refused bytes (length slice) h))

@@ -1,0 +1,37 @@
+-- The listing's text as the code writes it: from the encoder's answer and the numbers of the table. That this is the text of
+-- `model` is proved in proofs/Bridge.antt.
+-- Assumes nothing.
+use Prim.Native.Nat.{ℕ, zero, suc, _+_, _*_}
+use mathlib.Core.List.{List, [], _∷_, _++_}
+use lib.ListN.{getD}
+use Rattle.model.specs.Limits.{mostTableNumbers}
+use Rattle.model.specs.Listing.{decimal, numbersLine}
+use Rattle.model.specs.declared.Encoded.{Encoded}
+use Rattle.model.specs.declared.Encoded.the-variants.{Table, Refused}
+
+-- The longest text: six bytes, which are five digits and what ends them, for each number of the largest table and for the two
+-- counts. It has 43,392 bytes.
+abbrev pub mostTextBytes : ℕ
+mostTextBytes = 6 * (2 + mostTableNumbers)
+
+-- A number and the byte that ends it.
+unfoldable pub ended : ℕ → ℕ → List ℕ
+ended x end = decimal x ++ (end ∷ [])
+
+-- The six numbers of a row, from a place of the table on, and the lines of so many rows.
+abbrev pub sixAt : List ℕ → ℕ → List ℕ
+sixAt xs from =
+    getD xs from 0 ∷ (getD xs (from + 1) 0 ∷ (getD xs (from + 2) 0 ∷ (getD xs (from + 3) 0 ∷ (getD xs (from + 4) 0 ∷ (getD xs (from + 5) 0 ∷ [])))))
+
+unfoldable pub sixLines : List ℕ → ℕ → ℕ → List ℕ
+sixLines xs from zero = []
+sixLines xs from (suc many) = numbersLine (sixAt xs from) ++ sixLines xs (from + 6) many
+
+-- How many rows the encoder says that it has written, and the text of its answer.
+abbrev pub rowsOf : Encoded → ℕ
+rowsOf (Table constraints variables) = constraints
+rowsOf (Refused number place) = 0
+
+unfoldable pub textOf : Encoded → List ℕ → List ℕ
+textOf (Table constraints variables) xs = numbersLine (constraints ∷ (variables ∷ [])) ++ sixLines xs 0 constraints
+textOf (Refused number place) xs = numbersLine (number ∷ (place ∷ []))

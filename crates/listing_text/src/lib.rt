@@ -1,0 +1,160 @@
+// The listing of a case, as text in a lent slice. One writer serves twice: into no bytes at all, which measures the text, and
+// then into the slice, so that a slice that is too short stays as it is.
+ghost use mathlib.Core.Path.{_≡_};
+ghost use Prim.Native.Nat.{_+_, _*_, _<_, _≤_};
+ghost use mathlib.Core.List.{[], _∷_};
+ghost use lib.ListN.{length};
+ghost use Rattle.model.specs.Limits.{mostTableNumbers};
+ghost use Rattle.model.specs.Listing.{digit, decimal, numbersLine, listed, listedInto};
+ghost use Rattle.laws.specs.Written.{numbersAt};
+ghost use Rattle.listing_text.specs.Text.{mostTextBytes, ended, sixAt, sixLines, rowsOf, textOf};
+use model::Encoded;
+use model::Listed;
+
+// The largest table has 1,205 constraints, of six numbers each.
+const MOST_NUMBERS: usize = 7230;
+
+// The longest text: six bytes for each of these numbers and for the two counts.
+pub const MOST_BYTES: usize = 43392;
+
+// The listing's text, from the slice's start: a case's table, or the number and place of its refusal. Refusal 10 where the
+// slice is shorter. The table always fits its array (`table-numbers` of laws), so the encoder refuses only what the case is
+// refused for.
+pub fn listing_text(case: &[u8], text: &mut [u8]) -> Listed
+    ensures { λ r. ⌜ r ≡ listed (now (case .entry)) (length (now (text .entry))) ⌝ }
+    ensures { λ r. ⌜ now (text .exit) ≡ listedInto (now (case .entry)) (now (text .entry)) ⌝ }
+{
+    let mut table = [0u16; MOST_NUMBERS];
+    let answer = encoder::encode(case, &mut table);
+    let mut nothing = [0u8; 0];
+    let bytes = write_text(&mut nothing, answer, &table);
+    if text.len() < bytes {
+        return Listed::Refused {
+            number: 10,
+            place: 0,
+        };
+    }
+    write_text(text, answer, &table);
+    Listed::Text { bytes }
+}
+
+// The text of what the encoder answered, from the start as far as the slice goes; how many bytes the text has.
+fn write_text(text: &mut [u8], answer: Encoded, table: &[u16]) -> usize
+    requires { ⌜ (6 * rowsOf answer ≤ length (now table)) × (length (now table) ≤ mostTableNumbers) ⌝ }
+    ensures { λ r. ⌜ now (text .exit) ≡ numbersAt (now (text .entry)) 0 (textOf answer (now (table .entry))) ⌝ }
+    ensures { λ r. ⌜ r ≡ length (textOf answer (now (table .entry))) ⌝ }
+{
+    match answer {
+        Encoded::Table {
+            constraints,
+            variables,
+        } => {
+            let at = put_two(text, constraints, variables);
+            put_rows(text, at, table, constraints as usize)
+        }
+        Encoded::Refused { number, place } => put_two(text, number, place),
+    }
+}
+
+// So many constraints of the table, a line each, from a place on; the place after them.
+fn put_rows(text: &mut [u8], start: usize, table: &[u16], count: usize) -> usize
+    requires { ⌜ (6 * count ≤ length (now table)) × (start + 36 * count ≤ mostTextBytes) ⌝ }
+    ensures { λ r. ⌜ now (text .exit) ≡ numbersAt (now (text .entry)) start (sixLines (now (table .entry)) 0 count) ⌝ }
+    ensures { λ r. ⌜ r ≡ start + length (sixLines (now (table .entry)) 0 count) ⌝ }
+{
+    let mut at = start;
+    let mut i = 0;
+    while i < count {
+        at = put_row(text, at, table, 6 * i);
+        i += 1;
+    }
+    at
+}
+
+// The constraint whose numbers stand in the table from `from` on, on a line of its own; the place after it.
+fn put_row(text: &mut [u8], at: usize, table: &[u16], from: usize) -> usize
+    requires { ⌜ (from + 6 ≤ length (now table)) × (at + 36 ≤ mostTextBytes) ⌝ }
+    ensures { λ r. ⌜ now (text .exit) ≡ numbersAt (now (text .entry)) at (numbersLine (sixAt (now (table .entry)) from)) ⌝ }
+    ensures { λ r. ⌜ r ≡ at + length (numbersLine (sixAt (now (table .entry)) from)) ⌝ }
+{
+    let row = [
+        table[from],
+        table[from + 1],
+        table[from + 2],
+        table[from + 3],
+        table[from + 4],
+        table[from + 5],
+    ];
+    put_line(text, at, &row)
+}
+
+// A first line: two numbers.
+fn put_two(text: &mut [u8], first: u16, second: u16) -> usize
+    ensures { λ r. ⌜ now (text .exit) ≡ numbersAt (now (text .entry)) 0 (numbersLine (first ∷ (second ∷ []))) ⌝ }
+    ensures { λ r. ⌜ r ≡ length (numbersLine (first ∷ (second ∷ []))) ⌝ }
+{
+    let two = [first, second];
+    put_line(text, 0, &two)
+}
+
+// Some numbers on a line, from a place on; the place after them.
+fn put_line(text: &mut [u8], start: usize, numbers: &[u16]) -> usize
+    requires { ⌜ (0 < length (now numbers)) × (start + 6 * length (now numbers) ≤ mostTextBytes) ⌝ }
+    ensures { λ r. ⌜ now (text .exit) ≡ numbersAt (now (text .entry)) start (numbersLine (now (numbers .entry))) ⌝ }
+    ensures { λ r. ⌜ r ≡ start + length (numbersLine (now (numbers .entry))) ⌝ }
+{
+    let last = numbers.len() - 1;
+    let mut at = start;
+    let mut j = 0;
+    while j < last {
+        at = put_number(text, at, numbers[j], b' ');
+        j += 1;
+    }
+    put_number(text, at, numbers[last], b'\n')
+}
+
+// A number and the byte that ends it.
+fn put_number(text: &mut [u8], at: usize, n: u16, end: u8) -> usize
+    requires { ⌜ at + 6 ≤ mostTextBytes ⌝ }
+    ensures { λ r. ⌜ now (text .exit) ≡ numbersAt (now (text .entry)) at (ended n end) ⌝ }
+    ensures { λ r. ⌜ r ≡ at + length (ended n end) ⌝ }
+{
+    let place = put_digits(text, at, n);
+    put_byte(text, place, end);
+    place + 1
+}
+
+// A number's digits: those of its tenth, and the last one.
+fn put_digits(text: &mut [u8], at: usize, n: u16) -> usize
+    requires { ⌜ at + 6 ≤ mostTextBytes ⌝ }
+    ensures { λ r. ⌜ now (text .exit) ≡ numbersAt (now (text .entry)) at (decimal n) ⌝ }
+    ensures { λ r. ⌜ r ≡ at + length (decimal n) ⌝ }
+{
+    if n < 10 {
+        put_byte(text, at, digit_of(n));
+        return at + 1;
+    }
+    let high = n / 10;
+    let low = n % 10;
+    let place = put_digits(text, at, high);
+    put_byte(text, place, digit_of(low));
+    place + 1
+}
+
+// The code of a digit.
+fn digit_of(x: u16) -> u8
+    requires { ⌜ x < 10 ⌝ }
+    ensures { λ r. ⌜ r ≡ digit x ⌝ }
+{
+    48 + x as u8
+}
+
+// A byte at a place; nothing where the slice has no such place.
+fn put_byte(text: &mut [u8], at: usize, byte: u8)
+    ensures { λ x. ⌜ now (text .exit) ≡ numbersAt (now (text .entry)) at (byte ∷ []) ⌝ }
+{
+    if text.len() <= at {
+        return;
+    }
+    text[at] = byte;
+}
