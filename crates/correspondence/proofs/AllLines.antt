@@ -1,5 +1,5 @@
 -- What holds of every line of a thread, and of every line of every thread.
--- Assumes nothing. Met again in Blocks, Values, Legal and LineFound.
+-- Assumes nothing. Met again in Blocks, Values, Endings and LineFound.
 use Prim.Native.Nat.{ℕ, zero, suc, _<_}
 use mathlib.Core.List.{List, [], _∷_, reverseAux}
 use native.Mathlib.Omega.{arith}

@@ -17,7 +17,7 @@ use Rattle.model.specs.Machine.{Memory, look, readsIn, stepped}
 use Rattle.model.specs.Assignment.{Assignment}
 use Rattle.model.specs.Copies.{readAfter, readsAfter}
 use Rattle.correspondence.specs.Meaning.{WellFormed, AllLines, Positive, Demanded, LineMet, LinesMet, InputGiven, InputsGiven}
-use Rattle.correspondence.specs.Trace.{memoryAfter}
+use Rattle.model.specs.Runs.{memoryAfter}
 use Rattle.correspondence.proofs.Step.{MemoryFits, step-fits, Corresponds, step-keeps-correspondence}
 use Rattle.correspondence.proofs.Order.{NextIn, runMore}
 

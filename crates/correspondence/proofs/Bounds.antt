@@ -20,7 +20,8 @@ use Rattle.model.specs.Copies.{readsAfter}
 use Rattle.model.specs.Machine.{Memory, State, look, putLocal, putItem, readsIn, stepped, start, restIn, memoryIn}
 use Rattle.model.specs.Schedule.{allInputLines, valueGiven, linesInBlock, countedLengths, decodedValues, allDecodedValues, decode}
 use Rattle.correspondence.specs.Meaning.{AllLines, WellFormed}
-use Rattle.correspondence.specs.Trace.{Event, blockEvents, memoryAfter, endMemory, nextState, leftEvents, allLeftEvents, events, snapshots}
+use Rattle.model.specs.Runs.{memoryAfter, endMemory, nextState}
+use Rattle.correspondence.specs.Trace.{Event, blockEvents, leftEvents, allLeftEvents, events, snapshots}
 use Rattle.correspondence.specs.Fill.{blockIn, valueIn, traced, recordNumbers, blockNumbers, numbersOfAssignment, tracedRun}
 use Rattle.correspondence.proofs.AllLines.{all-dropped}
 use Rattle.correspondence.proofs.Blocks.{turn}

@@ -1,4 +1,4 @@
--- Demand 3 over well-formed cases: assignments that meet the constraints and schedules whose runs are legal and break an
+-- Demand 3 over well-formed cases: assignments that meet the constraints and schedules whose runs finish and break an
 -- assertion, each the other's. `decode-of-fill` and `fill-of-decode` are the two laws of the filled assignment.
 -- Assumes nothing. Met again in Demand3.
 use mathlib.Core.Path.{_≡_, refl, sym, ap₂, _∙_, subst}
@@ -13,30 +13,28 @@ use borrow.Author.Tests.{eqb-true, eq-eqb, ne-eqb}
 use Rattle.model.specs.CaseFile.{Case, linesOf, sumOfThreads, hasNumber}
 use Rattle.model.specs.Machine.{Outcome, refused14, cutOff, violated, clean, start, ending, run}
 use Rattle.model.specs.Assignment.{Assignment, variables, assignmentOf}
-use Rattle.model.specs.Schedule.{allInputLines, blockLengths, inputValues, scheduleSize, stepsOf, lengthsAddUp, runOf, countedLengths, allDecodedValues, decode}
+use Rattle.model.specs.Schedule.{allInputLines, blockLengths, inputValues, givenIn, scheduleSize, stepsOf, lengthsAddUp, runOf, countedLengths, allDecodedValues, decode}
+use Rattle.model.specs.Runs.{lastItems}
 use Rattle.laws.proofs.Views.{EqView, same, diff, eq-view}
 use Rattle.laws.proofs.Ranges.{all-from-gives, all-from-of}
 use Rattle.correspondence.specs.Meaning.{WellFormed, Meets, DecodesTo, breakCount}
-use Rattle.correspondence.specs.Trace.{Event, events, snapshots, brokenIn, sumOfEvents, Legal, Agrees, AgreesItems}
-use Rattle.correspondence.specs.Fill.{givenIn, tracedRun, fill}
+use Rattle.correspondence.specs.Trace.{Event, events, snapshots, brokenIn, sumOfEvents, Finishes, Agrees, AgreesItems}
+use Rattle.correspondence.specs.Fill.{tracedRun, fill}
 use Rattle.correspondence.proofs.Runs.{sound, complete, traced-agrees, counted, same-records, same-blocks}
 use Rattle.correspondence.proofs.Traces.{agrees-transfer, items-transfer}
 use Rattle.correspondence.proofs.Numbers.{record-of-numbers, block-value-of-numbers, numbers-of-own, numbers-same}
 use Rattle.correspondence.proofs.Inputs.{length-of-decoded, counted-lengths, only-counted, length-of-counted, inputs-of-decoded, decoded-of-inputs}
-use Rattle.correspondence.proofs.Legal.{noteAfter, Ended, AddsUp, lastState, outcome-of-legal, adds-up-of-legal, legal-of-ended, note-of-none, note-of-some}
+use Rattle.correspondence.proofs.Endings.{noteAfter, Ended, AddsUp, outcome-of-finished, adds-up-of-finished, finished-of-ended, note-of-none, note-of-some}
 
--- The events and the item values of a schedule's run, by block and at its end, and whether it is complete and legal.
+-- The events of a schedule's run and the items where its blocks end, and whether it finishes: is complete and legal.
 abbrev pub eventsOf : Case → List ℕ → List Event
 eventsOf case schedule = events case (givenIn case schedule) 0 (blockLengths case schedule) (start case)
 
 abbrev pub itemsOf : Case → List ℕ → List (List ℕ)
 itemsOf case schedule = snapshots case (givenIn case schedule) 0 (blockLengths case schedule) (start case)
 
-abbrev lastItems : Case → List ℕ → List ℕ
-lastItems case schedule = lastState case (givenIn case schedule) 0 (blockLengths case schedule) (start case) .items
-
-abbrev pub LegalRun : Case → List ℕ → Type 0
-LegalRun case schedule = Legal case (givenIn case schedule) 0 (blockLengths case schedule) (start case)
+abbrev pub FinishesRun : Case → List ℕ → Type 0
+FinishesRun case schedule = Finishes case (givenIn case schedule) 0 (blockLengths case schedule) (start case)
 
 IsViolated : Outcome → Type 0
 IsViolated (refused14 k) = ⊥
@@ -69,7 +67,7 @@ module _ (case : Case) (wf : WellFormed case) where
 
   -- An assignment that meets constraints 1 to 6 decodes to a complete legal run that has its numbers.
   pub run-of-meets : (α : Assignment) → Meets case α
-      → LegalRun case (decode case α) × Agrees α (eventsOf case (decode case α)) × AgreesItems case α 0 (itemsOf case (decode case α))
+      → FinishesRun case (decode case α) × Agrees α (eventsOf case (decode case α)) × AgreesItems case α 0 (itemsOf case (decode case α))
       × (breakCount case α ≡ brokenIn (eventsOf case (decode case α)))
   run-of-meets α m = sound case wf α (blockLengths case (decode case α)) (givenIn case (decode case α)) m (decodes-to-own α)
 
@@ -98,13 +96,13 @@ module _ (case : Case) (wf : WellFormed case) where
         )
 
     -- The filled assignment of a complete legal run meets constraints 1 to 6,
-    pub meets-of-run : LegalRun case schedule
+    pub meets-of-run : FinishesRun case schedule
         → Meets case filled × DecodesTo case filled (blockLengths case schedule) (givenIn case schedule)
         × (breakCount case filled ≡ brokenIn (eventsOf case schedule))
     meets-of-run legal = complete case wf filled (blockLengths case schedule) (givenIn case schedule) all-blocks legal (filled-agrees .0) (filled-agrees .1)
 
     -- and decodes to the schedule.
-    pub decode-of-fill : LegalRun case schedule → decode case filled ≡ schedule
+    pub decode-of-fill : FinishesRun case schedule → decode case filled ≡ schedule
     unfolding decode
     decode-of-fill legal =
         let d = meets-of-run legal .1 in
@@ -135,13 +133,13 @@ module _ (case : Case) (wf : WellFormed case) where
       go zero e = counted case wf (hasNumber 0) (blockLengths case schedule) (givenIn case schedule) ∙ e
       go (suc x) e = absurd (omega (arith, wf .within 0 (omega (arith, e)) .0))
 
-  outcome : (schedule : List ℕ) → LegalRun case schedule
+  outcome : (schedule : List ℕ) → FinishesRun case schedule
       → runOf case schedule ≡ ending (noteAfter 0 (eventsOf case schedule)) (lastItems case schedule)
   unfolding runOf run
-  outcome schedule legal = outcome-of-legal case (givenIn case schedule) 0 (blockLengths case schedule) (start case) 0 legal
+  outcome schedule legal = outcome-of-finished case (givenIn case schedule) 0 (blockLengths case schedule) (start case) 0 legal
 
   -- A legal run whose events break an assertion is violated, at the first that is noted.
-  pub violated-of-broken : (schedule : List ℕ) → LegalRun case schedule → 0 < brokenIn (eventsOf case schedule)
+  pub violated-of-broken : (schedule : List ℕ) → FinishesRun case schedule → 0 < brokenIn (eventsOf case schedule)
       → (k : ℕ) × (items : List ℕ) × (runOf case schedule ≡ violated k items)
   violated-of-broken schedule legal broken =
       let note = note-of-some (eventsOf case schedule) (no-zero-record schedule) broken in (
@@ -150,26 +148,26 @@ module _ (case : Case) (wf : WellFormed case) where
         outcome schedule legal ∙ rw (ne-eqb (noteAfter 0 (eventsOf case schedule)) 0 (λ p. omega arith)),
       )
 
-  adds-up : (schedule : List ℕ) → lengthsAddUp case (blockLengths case schedule) ≡ true → AddsUp case 0 (blockLengths case schedule) (case .threads)
+  pub adds-up : (schedule : List ℕ) → lengthsAddUp case (blockLengths case schedule) ≡ true → AddsUp case 0 (blockLengths case schedule) (case .threads)
   unfolding lengthsAddUp
   adds-up schedule e t ht =
       eqb-true (stepsOf case t 0 (blockLengths case schedule)) (length (linesOf case t))
       (all-from-gives (λ t'. eqb (stepsOf case t' 0 (blockLengths case schedule)) (length (linesOf case t'))) 0 (case .T) e t (omega arith) (omega arith))
 
-  pub lengths-add-up : (schedule : List ℕ) → LegalRun case schedule → lengthsAddUp case (blockLengths case schedule) ≡ true
+  pub lengths-add-up : (schedule : List ℕ) → FinishesRun case schedule → lengthsAddUp case (blockLengths case schedule) ≡ true
   unfolding lengthsAddUp
   lengths-add-up schedule legal =
       all-from-of (λ t. eqb (stepsOf case t 0 (blockLengths case schedule)) (length (linesOf case t))) 0 (case .T)
       (λ t h h'. eq-eqb _ _
-      (adds-up-of-legal case (givenIn case schedule) wf 0 (blockLengths case schedule) (start case) (wf .thread-count) legal t (omega (arith, h'))))
+      (adds-up-of-finished case (givenIn case schedule) wf 0 (blockLengths case schedule) (start case) (wf .thread-count) legal t (omega (arith, h'))))
 
   -- A violated run is legal and breaks an assertion.
   pub broken-of-violated : (schedule : List ℕ) (k : ℕ) (items : List ℕ) → lengthsAddUp case (blockLengths case schedule) ≡ true
       → runOf case schedule ≡ violated k items
-      → LegalRun case schedule × (0 < brokenIn (eventsOf case schedule))
+      → FinishesRun case schedule × (0 < brokenIn (eventsOf case schedule))
   unfolding runOf run IsViolated
   broken-of-violated schedule k items sums e =
-      let legal = legal-of-ended case (givenIn case schedule) wf 0 (blockLengths case schedule) (start case) 0 (wf .thread-count)
+      let legal = finished-of-ended case (givenIn case schedule) wf 0 (blockLengths case schedule) (start case) 0 (wf .thread-count)
       (adds-up schedule sums) (subst Ended (sym e) tt) in
       (legal, go (eq-view (brokenIn (eventsOf case schedule)) 0) (subst IsViolated (sym e ∙ outcome schedule legal) tt))
     where

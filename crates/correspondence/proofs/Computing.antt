@@ -1,5 +1,5 @@
 -- `unfolding computing` lets a worked example compute: every definition of the model that is shut by itself is open there.
--- Assumes nothing. Met again in CaseA and Examples.
+-- Assumes nothing. Met again in CaseA, Examples and Conventions.
 use Rattle.model.specs.Lists.{numbersFrom, allFrom, lowestFailing, writtenOver}
 use Rattle.model.specs.CaseFile.{field, kindOf, chain, chains, findLine, findThread}
 use Rattle.model.specs.Accept.{kindRule, verdict}
@@ -11,6 +11,7 @@ use Rattle.model.specs.Table.{orderRows, demandRows, valueRows, allOrderRows, a
 use Rattle.model.specs.Holds.{demandMet, fromRecord, someBreaks, someThreadBreaks, holds, firstFailing}
 use Rattle.model.specs.Schedule.{inputLines, allInputLines, valueGiven, stepsOf, lengthsAddUp, runOf, linesInBlock, decodedValues, allDecodedValues, decode}
 use Rattle.model.specs.Answers.{onCase, encoded, encodedInto, checked, decoded, decodedInto, replayed, replayedInto}
+use Rattle.model.specs.Listing.{digitsOf, decimal, numbersLine, rowLines, listingText, listed, listedInto}
 
 unfoldable pub computing : Type 0
 unfolding numbersFrom allFrom lowestFailing writtenOver
@@ -24,4 +25,5 @@ unfolding numbersFrom allFrom lowestFailing writtenOver
     demandMet fromRecord someBreaks someThreadBreaks holds firstFailing
     inputLines allInputLines valueGiven stepsOf lengthsAddUp runOf linesInBlock decodedValues allDecodedValues decode
     onCase encoded encodedInto checked decoded decodedInto replayed replayedInto
+    digitsOf decimal numbersLine rowLines listingText listed listedInto
 computing = Unit

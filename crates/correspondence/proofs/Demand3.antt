@@ -15,8 +15,8 @@ use Rattle.model.specs.Accept.{verdict}
 use Rattle.model.specs.Machine.{Outcome, refused14, cutOff, violated, clean}
 use Rattle.model.specs.Assignment.{Assignment, variables, assignmentOf}
 use Rattle.model.specs.Table.{table, numbersOf}
-use Rattle.model.specs.Schedule.{blockLengths, inputValues, runOf, decode}
-use Rattle.model.specs.Answers.{answerOfRun, encodedInto, checked}
+use Rattle.model.specs.Schedule.{scheduleSize, blockLengths, inputValues, runOf, decode}
+use Rattle.model.specs.Answers.{answerOfRun, checked}
 use Rattle.model.specs.declared.Verdict.the-variants.{Accepted}
 use Rattle.model.specs.declared.Checked.the-variants.{Meets}
 use Rattle.model.specs.declared.Decoded.the-variants as decodeds
@@ -26,14 +26,16 @@ use Rattle.laws.proofs.Below.{all-below-drop}
 use Rattle.correspondence.specs.Meaning.{WellFormed}
 use Rattle.correspondence.specs.Fill.{fill}
 use Rattle.correspondence.specs.ReadBack.{rowsOf, AllHold}
-use Rattle.correspondence.specs.Demand3.{tableRoom, scheduleRoom, itemRoom, Yes, DecodedAs, AnsweredViolated, BrokenRun, Demand3, ForEveryAcceptedCase}
+use Rattle.correspondence.specs.Trace.{brokenIn}
+use Rattle.correspondence.specs.Demand3.{tableRoom, scheduleRoom, itemRoom, writtenRows, Yes, DecodedAs, counted, NotRefused, AnsweredViolated, ViolatingRun, Demand3, ForEveryAcceptedCase}
 use Rattle.correspondence.proofs.WellFormed.{well-formed}
-use Rattle.correspondence.proofs.Replies.{Taken, fits-of-taken, replayed-fits, PassesCheck, passes-of-meets, meets-of-passes, encoded-with-room, encoded-short, encoded-into, decoded-with-room, decoded-short, decoded-into, replayed-short}
+use Rattle.correspondence.proofs.Replies.{fits-of-answered, replayed-fits, PassesCheck, passes-of-meets, meets-of-passes, encoded-with-room, encoded-short, encoded-into, decoded-with-room, decoded-short, decoded-into, replayed-short}
 use Rattle.correspondence.proofs.Rows.{meets-of-table, table-of-meets}
-use Rattle.correspondence.proofs.FirstFailing.{none-fails, all-hold-none-fails, rows-of-numbers}
+use Rattle.correspondence.proofs.FirstFailing.{none-fails, all-hold-none-fails, checker-names-the-first, fails-of-first, rows-of-numbers}
 use Rattle.correspondence.proofs.Numbers.{length-of-assignment}
 use Rattle.correspondence.proofs.Bounds.{filled-below, decoded-below}
-use Rattle.correspondence.proofs.Claims.{size-of-decode, run-of-meets, meets-of-run, decode-of-fill, fill-of-decode, violated-of-broken, broken-of-violated, lengths-add-up}
+use Rattle.correspondence.proofs.Claims.{eventsOf, FinishesRun, size-of-decode, run-of-meets, meets-of-run, decode-of-fill, fill-of-decode, violated-of-broken, broken-of-violated, adds-up, lengths-add-up}
+use Rattle.correspondence.proofs.RunReplies.{takes-of-answered, answered-of-takes, legal-completes, run-of-violated, violated-of-run, run-of-clean, clean-of-run, run-of-cut-off, cut-off-of-run, values-of-cut-off, values-of-legal, takes-of-violating}
 
 -- A result as long as the slice takes its place.
 written-whole : (result slice : List ℕ) → length result ≡ length slice → writtenOver result slice ≡ result
@@ -46,6 +48,13 @@ violated-of-answer (refused14 j) k e = absurd (let z : _≡_ {A = ℕ} 0 1 = cc 
 violated-of-answer (cutOff j items) k e = absurd (let z : _≡_ {A = ℕ} 0 1 = cc in omega arith)
 violated-of-answer (clean items) k e = absurd (let z : _≡_ {A = ℕ} 0 1 = cc in omega arith)
 
+-- A schedule whose run finishes and breaks an assertion, as the trace has it.
+record Breaking (case : Case) (schedule : List ℕ) : Type 0 where
+  numbers : AllBelow wordSize schedule
+  has-size : length schedule ≡ scheduleSize case
+  finished : FinishesRun case schedule
+  some-broken : 0 < brokenIn (eventsOf case schedule)
+
 module _ (bytes : List ℕ) (small : AllBelow 256 bytes) (accepted : verdict bytes ≡ Accepted) where
   abbrev case : Case
   case = caseOf bytes
@@ -57,7 +66,7 @@ module _ (bytes : List ℕ) (small : AllBelow 256 bytes) (accepted : verdict byt
   assigned xs = assignmentOf case xs
 
   -- ---- The encoder's table and the checker's yes.
-  read-back : (slice : List ℕ) → tableRoom bytes ≤ length slice → rowsOf (take (tableRoom bytes) (encodedInto bytes slice)) ≡ table case
+  read-back : (slice : List ℕ) → tableRoom bytes ≤ length slice → writtenRows bytes slice ≡ table case
   unfolding writtenOver
   read-back slice h =
       ap (λ (xs : List ℕ). rowsOf (take (tableRoom bytes) xs)) (encoded-into bytes accepted slice h)
@@ -74,38 +83,38 @@ module _ (bytes : List ℕ) (small : AllBelow 256 bytes) (accepted : verdict byt
   few-lines : (t : ℕ) → t < case .T → length (linesOf case t) < wordSize
   few-lines t ht = omega (arith, accepted-of bytes accepted .few-lines t ht)
 
-  run-of-yes : (xs : List ℕ) → Yes bytes xs → BrokenRun bytes (decode case (assigned xs))
+  run-of-yes : (xs : List ℕ) → Yes bytes xs → Breaking case (decode case (assigned xs))
   run-of-yes xs told =
       let met = meets-of-table case wf (assigned xs) (rows-of-yes xs (told .1)) in
       let run = run-of-meets case wf (assigned xs) (met .0) in
       record {
         numbers = decoded-below case wf few-lines xs (told .0);
         has-size = size-of-decode case wf (assigned xs);
-        legal = run .0;
-        broken = rw (← (run .3)) (met .1);
+        finished = run .0;
+        some-broken = rw (← (run .3)) (met .1);
       }
 
-  violated-of-run : (schedule : List ℕ) → BrokenRun bytes schedule → AnsweredViolated bytes schedule
-  violated-of-run schedule run =
-      let found = violated-of-broken case wf schedule (run .legal) (run .broken) in (
+  violated-of-breaking : (schedule : List ℕ) → Breaking case schedule → AnsweredViolated bytes schedule
+  violated-of-breaking schedule run =
+      let found = violated-of-broken case wf schedule (run .finished) (run .some-broken) in (
         run .numbers,
         (
           found .0,
           λ room h.
               replayed-fits bytes schedule room
-              (record { accepted = accepted; has-room = h; has-size = run .has-size; adds-up = lengths-add-up case wf schedule (run .legal) })
+              (record { accepted = accepted; has-room = h; has-size = run .has-size; adds-up = lengths-add-up case wf schedule (run .finished) })
               ∙ ap answerOfRun (found .2),
         ),
       )
 
-  run-of-violated : (schedule : List ℕ) → AnsweredViolated bytes schedule → BrokenRun bytes schedule
-  run-of-violated schedule answered =
+  breaking-of-violated : (schedule : List ℕ) → AnsweredViolated bytes schedule → Breaking case schedule
+  breaking-of-violated schedule answered =
       let k = answered .1 .0 in
       let answer = answered .1 .1 (itemRoom bytes) (le-refl (itemRoom bytes)) in
-      let fits = fits-of-taken bytes schedule (itemRoom bytes) (subst Taken (sym answer) tt) in
+      let fits = fits-of-answered bytes schedule (itemRoom bytes) (subst NotRefused (sym answer) tt) in
       let found = violated-of-answer (runOf case schedule) k (sym (replayed-fits bytes schedule (itemRoom bytes) fits) ∙ answer) in
       let run = broken-of-violated case wf schedule k (found .0) (fits .adds-up) (found .1) in
-      record { numbers = answered .0; has-size = fits .has-size; legal = run .0; broken = run .1 }
+      record { numbers = answered .0; has-size = fits .has-size; finished = run .0; some-broken = run .1 }
 
   -- ---- What the decoder writes.
   decoded-as : (xs : List ℕ) → Yes bytes xs → DecodedAs bytes xs (decode case (assigned xs))
@@ -132,21 +141,47 @@ module _ (bytes : List ℕ) (small : AllBelow 256 bytes) (accepted : verdict byt
       ∙ fill-of-decode case wf xs (passes-of-meets bytes xs (told .1) .has-size) (meets-of-table case wf (assigned xs) (rows-of-yes xs (told .1)) .0)
 
   -- ---- From violated to yes.
-  yes-of-run : (schedule : List ℕ) → BrokenRun bytes schedule → Yes bytes (fill case schedule)
+  yes-of-run : (schedule : List ℕ) → Breaking case schedule → Yes bytes (fill case schedule)
   unfolding fill
   yes-of-run schedule run =
-      let met = meets-of-run case wf schedule (run .has-size) (run .legal) in
+      let met = meets-of-run case wf schedule (run .has-size) (run .finished) in
       let lens-sized = length-take-le (suc (case .n)) schedule (omega (arith, run .has-size)) in (
         filled-below case wf (inputValues case schedule) (blockLengths case schedule)
             (all-below-drop wordSize (suc (case .n)) schedule (run .numbers)) lens-sized,
         meets-of-passes bytes (fill case schedule) (passes-of-rows (fill case schedule) (length-of-assignment case _)
-            (table-of-meets case wf (assigned (fill case schedule)) (met .0) (rw (met .2) (run .broken)))),
+            (table-of-meets case wf (assigned (fill case schedule)) (met .0) (rw (met .2) (run .some-broken)))),
       )
 
-  fill-decoded-as : (schedule : List ℕ) → BrokenRun bytes schedule → DecodedAs bytes (fill case schedule) schedule
+  fill-decoded-as : (schedule : List ℕ) → Breaking case schedule → DecodedAs bytes (fill case schedule) schedule
   fill-decoded-as schedule run =
-      subst (DecodedAs bytes (fill case schedule)) (decode-of-fill case wf schedule (run .has-size) (run .legal))
+      subst (DecodedAs bytes (fill case schedule)) (decode-of-fill case wf schedule (run .has-size) (run .finished))
       (decoded-as (fill case schedule) (yes-of-run schedule run))
+
+  -- ---- The machine under "Runs".
+  run-of-answered : (schedule : List ℕ) → AnsweredViolated bytes schedule → ViolatingRun bytes schedule
+  run-of-answered schedule answered =
+      let reply = answered .1 .1 (itemRoom bytes) (le-refl (itemRoom bytes)) in
+      let run = run-of-violated bytes accepted wf schedule (itemRoom bytes) (le-refl (itemRoom bytes)) (answered .1 .0) reply in (
+        record {
+          numbers = answered .0;
+          has-size = run .0 .not-12;
+          few-steps = λ t ht. omega (arith, adds-up case wf schedule (run .0 .not-13) t ht);
+          none-strays = run .0 .not-14;
+        },
+        run .1,
+      )
+
+  answered-of-run : (schedule : List ℕ) → ViolatingRun bytes schedule → AnsweredViolated bytes schedule
+  answered-of-run schedule run =
+      let takes = takes-of-violating bytes accepted wf schedule (run .0) (run .1) in
+      let found = run .1 .some-broken in
+      (run .0 .numbers, (found .0, (λ room h. violated-of-run bytes accepted wf schedule room h (found .0) takes (run .1 .legal) (found .1))))
+
+  violated-of-yes : (xs : List ℕ) → Yes bytes xs → AnsweredViolated bytes (counted bytes xs)
+  violated-of-yes xs told = violated-of-breaking _ (run-of-yes xs told)
+
+  yes-of-violated : (schedule : List ℕ) → AnsweredViolated bytes schedule → Yes bytes (fill case schedule)
+  yes-of-violated schedule answered = yes-of-run schedule (breaking-of-violated schedule answered)
 
   corresponds : Demand3 bytes
   corresponds = record {
@@ -154,14 +189,38 @@ module _ (bytes : List ℕ) (small : AllBelow 256 bytes) (accepted : verdict byt
       (λ told. (passes-of-meets bytes xs told .has-size, rw (read-back slice h) (rows-of-yes xs told))),
       (λ both. meets-of-passes bytes xs (passes-of-rows xs (both .0) (rw (read-back slice h) at (both .1)))),
     );
-    some-yes-is-some-violated = (
-      (λ some. (decode case (assigned (some .0)), violated-of-run _ (run-of-yes (some .0) (some .1)))),
-      (λ some. (fill case (some .0), yes-of-run (some .0) (run-of-violated (some .0) (some .1)))),
+    no-names-the-first-row = λ slice h xs j. (
+      (λ told. let named = checker-names-the-first bytes xs j told in (named .0, rw (read-back slice h) (named .1))),
+      (λ both. fails-of-first bytes xs j accepted (both .0) (rw (read-back slice h) at (both .1))),
     );
-    violated-is-broken-run = λ schedule. (run-of-violated schedule, violated-of-run schedule);
-    decodes-to-violated = λ xs told. (decode case (assigned xs), decoded-as xs told, violated-of-run _ (run-of-yes xs told));
+    some-yes-is-some-violating-run = (
+      (λ some. (counted bytes (some .0), run-of-answered _ (violated-of-yes (some .0) (some .1)))),
+      (λ some. (fill case (some .0), yes-of-violated (some .0) (answered-of-run (some .0) (some .1)))),
+    );
+    some-yes-is-some-violated = (
+      (λ some. (counted bytes (some .0), violated-of-yes (some .0) (some .1))),
+      (λ some. (fill case (some .0), yes-of-violated (some .0) (some .1))),
+    );
+    violated-is-violating-run = λ schedule. (run-of-answered schedule, answered-of-run schedule);
+    decodes-to-violated = λ xs told. (decoded-as xs told, violated-of-yes xs told);
     one-to-one = λ xs zs schedule yes-x yes-z x-written z-written. sym (filling-is xs schedule yes-x x-written) ∙ filling-is zs schedule yes-z z-written;
-    onto = λ schedule answered. let run = run-of-violated schedule answered in (yes-of-run schedule run, fill-decoded-as schedule run);
+    onto = λ schedule answered. (yes-of-violated schedule answered, fill-decoded-as schedule (breaking-of-violated schedule answered));
+    takes-is-no-refusal = λ schedule room h. (answered-of-takes bytes accepted wf schedule room h, takes-of-answered bytes accepted wf schedule room h);
+    violated-names-the-first = λ schedule room h k. (
+      run-of-violated bytes accepted wf schedule room h k,
+      (λ run. violated-of-run bytes accepted wf schedule room h k (run .0) (run .1 .legal) (run .2)),
+    );
+    clean-is-nothing-broken = λ schedule room h. (
+      run-of-clean bytes accepted wf schedule room h,
+      (λ run. clean-of-run bytes accepted wf schedule room h (run .0) (run .1) (run .2)),
+    );
+    cut-off-names-the-first = λ schedule room h k. (
+      run-of-cut-off bytes accepted wf schedule room h k,
+      (λ run. cut-off-of-run bytes accepted wf schedule room h k (run .0) (run .1 .0) (run .1 .1) (run .1 .2)),
+    );
+    legal-is-complete = legal-completes bytes accepted wf;
+    values-at-the-end = values-of-legal bytes accepted wf;
+    values-at-the-cut-off = values-of-cut-off bytes accepted wf;
     short-table = encoded-short bytes accepted;
     long-table = encoded-with-room bytes accepted;
     short-schedule = λ xs told. decoded-short bytes accepted xs (passes-of-meets bytes xs (told .1));

@@ -9,7 +9,7 @@ use native.Mathlib.Omega.{arith}
 use native.Mathlib.Nat.{zero-add}
 use lib.ListN.{length}
 use lib.Dec.{eqb}
-use borrow.Author.Tests.{eqb-false}
+use borrow.Author.Tests.{eqb-true, eqb-false, eq-eqb, ne-eqb}
 use Rattle.model.specs.Lists.{unless}
 use Rattle.model.specs.CaseFile.{Case, caseOf}
 use Rattle.model.specs.Accept.{verdict}
@@ -22,17 +22,7 @@ use Rattle.model.specs.declared.Verdict.the-variants.{Accepted}
 use Rattle.model.specs.declared.Verdict.the-variants as verdicts
 use Rattle.model.specs.declared.Checked.the-variants.{Meets, Fails}
 use Rattle.model.specs.declared.Checked.the-variants as checkeds
-use Rattle.correspondence.specs.ReadBack.{rowsOf, AllHold}
-
--- Row j, counted from k, is the first that fails.
-pub record FirstFails (case : Case) (α : Assignment) (k : ℕ) (rows : List Row) (j : ℕ) : Type 0 where
-  pub before : List Row
-  pub failing : Row
-  pub after : List Row
-  pub split : rows ≡ before ++ (failing ∷ after)
-  pub place : length before + k ≡ j
-  pub hold : AllHold case α before
-  pub fails : holds case α failing ≡ false
+use Rattle.correspondence.specs.ReadBack.{rowsOf, AllHold, FirstFails}
 
 module _ (case : Case) (α : Assignment) where
   pub none-fails : (k : ℕ) (rows : List Row) → firstFailing case α k rows ≡ 0 → 0 < k → AllHold case α rows
@@ -79,24 +69,45 @@ module _ (case : Case) (α : Assignment) where
         fails = r;
       }
 
-failed-of-fails : (bytes xs : List ℕ) (k : ℕ) → checked bytes xs ≡ Fails k → (failedIn bytes xs ≡ k) × (failedIn bytes xs ≢ 0)
+  failing-after : (k : ℕ) (before after : List Row) (w : Row) → AllHold case α before → holds case α w ≡ false
+      → firstFailing case α k (before ++ (w ∷ after)) ≡ length before + k
+  unfolding firstFailing
+  failing-after k [] after w hold fails = rw fails (sym (zero-add k))
+  failing-after k (v ∷ before) after w hold fails = rw (hold .0) (failing-after (suc k) before after w (hold .1) fails ∙ omega arith)
+
+  pub failing-of-first : (k : ℕ) (rows : List Row) (j : ℕ) → FirstFails case α k rows j → firstFailing case α k rows ≡ j
+  failing-of-first k rows j f =
+      ap (firstFailing case α k) (f .split) ∙ failing-after k (f .before) (f .after) (f .failing) (f .hold) (f .fails) ∙ f .place
+
+failed-of-fails : (bytes xs : List ℕ) (k : ℕ) → checked bytes xs ≡ Fails k
+    → (length xs ≡ variables (caseOf bytes)) × (failedIn bytes xs ≡ k) × (failedIn bytes xs ≢ 0)
 unfolding checked onCase
-failed-of-fails bytes xs k e = go (verdict bytes) (eqb (length xs) (variables (caseOf bytes))) (eqb (failedIn bytes xs) 0) refl e
+failed-of-fails bytes xs k e = go (verdict bytes) (eqb (length xs) (variables (caseOf bytes))) refl (eqb (failedIn bytes xs) 0) refl e
   where
-    go : (v : Verdict) (q r : Bool) → eqb (failedIn bytes xs) 0 ≡ r
+    go : (v : Verdict) (q : Bool) → eqb (length xs) (variables (caseOf bytes)) ≡ q → (r : Bool) → eqb (failedIn bytes xs) 0 ≡ r
         → onCase v checkeds.Refused (unless q (checkeds.Refused 11 0) (unless r (Fails (failedIn bytes xs)) Meets)) ≡ Fails k
-        → (failedIn bytes xs ≡ k) × (failedIn bytes xs ≢ 0)
-    go Accepted true false c e' = (let z : failedIn bytes xs ≡ k = cc in z, eqb-false (failedIn bytes xs) 0 c)
-    go Accepted true true c e' = absurd (let z : _≡_ {A = ℕ} 0 1 = cc in omega arith)
-    go Accepted false r c e' = absurd (let z : _≡_ {A = ℕ} 0 1 = cc in omega arith)
-    go (verdicts.Refused number place) q r c e' = absurd (let z : _≡_ {A = ℕ} 0 1 = cc in omega arith)
+        → (length xs ≡ variables (caseOf bytes)) × (failedIn bytes xs ≡ k) × (failedIn bytes xs ≢ 0)
+    go Accepted true b false c e' = (eqb-true _ _ b, let z : failedIn bytes xs ≡ k = cc in z, eqb-false (failedIn bytes xs) 0 c)
+    go Accepted true b true c e' = absurd (let z : _≡_ {A = ℕ} 0 1 = cc in omega arith)
+    go Accepted false b r c e' = absurd (let z : _≡_ {A = ℕ} 0 1 = cc in omega arith)
+    go (verdicts.Refused number place) q b r c e' = absurd (let z : _≡_ {A = ℕ} 0 1 = cc in omega arith)
 
 -- The number that the checker answers is that of a row that fails, and all rows before it hold.
 pub checker-names-the-first : (bytes xs : List ℕ) (k : ℕ) → checked bytes xs ≡ Fails k
-    → FirstFails (caseOf bytes) (assignmentOf (caseOf bytes) xs) 1 (table (caseOf bytes)) k
+    → (length xs ≡ variables (caseOf bytes)) × FirstFails (caseOf bytes) (assignmentOf (caseOf bytes) xs) 1 (table (caseOf bytes)) k
 checker-names-the-first bytes xs k e =
-    let failed = failed-of-fails bytes xs k e in
-    first-fails (caseOf bytes) (assignmentOf (caseOf bytes) xs) 1 (table (caseOf bytes)) k (failed .0) (λ z. failed .1 (failed .0 ∙ z))
+    let failed = failed-of-fails bytes xs k e in (
+      failed .0,
+      first-fails (caseOf bytes) (assignmentOf (caseOf bytes) xs) 1 (table (caseOf bytes)) k (failed .1) (λ z. failed .2 (failed .1 ∙ z)),
+    )
+
+-- And the other way round.
+pub fails-of-first : (bytes xs : List ℕ) (k : ℕ) → verdict bytes ≡ Accepted → length xs ≡ variables (caseOf bytes)
+    → FirstFails (caseOf bytes) (assignmentOf (caseOf bytes) xs) 1 (table (caseOf bytes)) k → checked bytes xs ≡ Fails k
+unfolding checked onCase
+fails-of-first bytes xs k accepted sized first =
+    let found : failedIn bytes xs ≡ k = failing-of-first (caseOf bytes) (assignmentOf (caseOf bytes) xs) 1 (table (caseOf bytes)) k first in
+    rw (accepted, eq-eqb _ _ sized, found, ne-eqb k 0 (λ z. omega (arith, first .place)))
 
 pub rows-of-numbers : (rows : List Row) → rowsOf (numbersOf rows) ≡ rows
 unfolding rowsOf numbersOf

@@ -15,7 +15,8 @@ pub mod Breaks
 -- Runs, their traces and the machine's answer
 pub mod Traces
 pub mod Runs
-pub mod Legal
+pub mod Endings
+pub mod Courses
 -- Assignments and schedules as lists of numbers
 pub mod Numbers
 pub mod Inputs
@@ -30,9 +31,12 @@ pub mod FirstFailing
 pub mod WellFormed
 pub mod Replies
 pub mod Claims
+pub mod RunEnds
+pub mod RunReplies
 pub mod Demand3
 -- The definitions held beside document 01
 pub mod KindByKind
 pub mod Computing
+pub mod NoLines
 pub mod CaseA
 pub mod Examples

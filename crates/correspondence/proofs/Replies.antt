@@ -22,34 +22,26 @@ use Rattle.model.specs.declared.Checked.{Checked}
 use Rattle.model.specs.declared.Checked.the-variants.{Meets}
 use Rattle.model.specs.declared.Checked.the-variants as checkeds
 use Rattle.model.specs.declared.Decoded.the-variants as decodeds
-use Rattle.model.specs.declared.Replayed.{Replayed}
-use Rattle.model.specs.declared.Replayed.the-variants.{Violated, Clean, CutOff}
 use Rattle.model.specs.declared.Replayed.the-variants as replayeds
+use Rattle.correspondence.specs.Demand3.{NotRefused}
 
--- The replayer takes the schedule: no refusal.
-abbrev pub Taken : Replayed → Type 0
-Taken (Violated k) = Unit
-Taken Clean = Unit
-Taken (CutOff k) = Unit
-Taken (replayeds.Refused number place) = ⊥
-
--- What refusals 1 to 13 leave to a schedule that is taken.
+-- What refusals 1 to 13 leave to a schedule that is answered.
 pub record Fits (bytes schedule : List ℕ) (room : ℕ) : Type 0 where
   pub accepted : verdict bytes ≡ Accepted
   pub has-room : itemCount (caseOf bytes) ≤ room
   pub has-size : length schedule ≡ scheduleSize (caseOf bytes)
   pub adds-up : lengthsAddUp (caseOf bytes) (blockLengths (caseOf bytes) schedule) ≡ true
 
-pub fits-of-taken : (bytes schedule : List ℕ) (room : ℕ) → Taken (replayed bytes schedule room) → Fits bytes schedule room
+pub fits-of-answered : (bytes schedule : List ℕ) (room : ℕ) → NotRefused (replayed bytes schedule room) → Fits bytes schedule room
 unfolding replayed onCase
-fits-of-taken bytes schedule room taken =
+fits-of-answered bytes schedule room taken =
     go (verdict bytes) refl (leb (itemCount (caseOf bytes)) room) refl (eqb (length schedule) (scheduleSize (caseOf bytes))) refl
     (lengthsAddUp (caseOf bytes) (blockLengths (caseOf bytes) schedule)) refl taken
   where
     go : (v : Verdict) → verdict bytes ≡ v → (q : Bool) → leb (itemCount (caseOf bytes)) room ≡ q
         → (r : Bool) → eqb (length schedule) (scheduleSize (caseOf bytes)) ≡ r
         → (s : Bool) → lengthsAddUp (caseOf bytes) (blockLengths (caseOf bytes) schedule) ≡ s
-        → Taken (onCase v replayeds.Refused (unless q (replayeds.Refused 10 0) (unless r (replayeds.Refused 12 0)
+        → NotRefused (onCase v replayeds.Refused (unless q (replayeds.Refused 10 0) (unless r (replayeds.Refused 12 0)
         (unless s (replayeds.Refused 13 0) (answerOfRun (runOf (caseOf bytes) schedule))))))
         → Fits bytes schedule room
     go Accepted a true b true c true d t = record { accepted = a; has-room = leb-true _ _ b; has-size = eqb-true _ _ c; adds-up = d }

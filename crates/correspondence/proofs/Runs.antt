@@ -13,12 +13,12 @@ use Rattle.model.specs.Machine.{start}
 use Rattle.model.specs.Assignment.{Assignment}
 use Rattle.model.specs.Copies.{latest, valueBefore, readLocal}
 use Rattle.correspondence.specs.Meaning.{WellFormed, Meets, DecodesTo, breakCount}
-use Rattle.correspondence.specs.Trace.{events, snapshots, brokenIn, sumOfEvents, Legal, Agrees, AgreesItems}
+use Rattle.correspondence.specs.Trace.{events, snapshots, brokenIn, sumOfEvents, Finishes, Agrees, AgreesItems}
 use Rattle.correspondence.specs.Fill.{tracedRun}
 use Rattle.correspondence.proofs.Blocks.{BlocksNext, blocks-of-order, order-of-blocks}
 use Rattle.correspondence.proofs.Values.{Invariant, BlocksRun, blocks-run, decoded-of-run}
 use Rattle.correspondence.proofs.Breaks.{run-breaks-alike}
-use Rattle.correspondence.proofs.Traces.{run-agrees, run-agrees-items, run-is-legal, agreed-run, sum-of-run, traced-agrees-with, traced-agrees-with-items, length-of-snapshots, agreeing-records-are-same, agreeing-blocks-are-same}
+use Rattle.correspondence.proofs.Traces.{run-agrees, run-agrees-items, run-finishes, agreed-run, sum-of-run, traced-agrees-with, traced-agrees-with-items, length-of-snapshots, agreeing-records-are-same, agreeing-blocks-are-same}
 
 -- At the start no thread has run a line.
 abbrev pub noneRun : ℕ → List Line
@@ -75,20 +75,20 @@ module _ (case : Case) (wf : WellFormed case) where
 
   -- An assignment that meets the constraints decodes to a legal and complete run, which has the assignment's numbers.
   pub sound : (α : Assignment) (lens : List ℕ) (given : ℕ → ℕ) → Meets case α → DecodesTo case α lens given
-      → Legal case given 0 lens (start case)
+      → Finishes case given 0 lens (start case)
       × Agrees α (events case given 0 lens (start case))
       × AgreesItems case α 0 (snapshots case given 0 lens (start case))
       × (breakCount case α ≡ brokenIn (events case given 0 lens (start case)))
   sound α lens given meets decodes =
       let runs = run-of-assignment α lens given meets decodes in (
-        run-is-legal case given α 0 lens (start case) (runs .0) (runs .1),
+        run-finishes case given α 0 lens (start case) (runs .0) (runs .1),
         run-agrees case given α 0 lens (start case) (runs .0) (runs .1),
         run-agrees-items case given α 0 lens (start case) (runs .1),
         breakCount-of-run α lens given (decodes .all-blocks) runs,
       )
 
   -- An assignment that has the numbers of a legal and complete run meets the constraints and decodes to it.
-  pub complete : (β : Assignment) (lens : List ℕ) (given : ℕ → ℕ) → length lens ≡ suc (case .n) → Legal case given 0 lens (start case)
+  pub complete : (β : Assignment) (lens : List ℕ) (given : ℕ → ℕ) → length lens ≡ suc (case .n) → Finishes case given 0 lens (start case)
       → Agrees β (events case given 0 lens (start case)) → AgreesItems case β 0 (snapshots case given 0 lens (start case))
       → Meets case β × DecodesTo case β lens given × (breakCount case β ≡ brokenIn (events case given 0 lens (start case)))
   complete β lens given all-blocks legal agrees items =

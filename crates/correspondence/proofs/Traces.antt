@@ -13,8 +13,9 @@ use Rattle.laws.proofs.Counting.{own-number-counts, number-is-other}
 use Rattle.model.specs.CaseFile.{Line, Case, itemCount, sumOfLines, sumOfThreads, hasNumber}
 use Rattle.model.specs.Machine.{Memory, State, stepped, restIn, memoryIn}
 use Rattle.model.specs.Assignment.{Assignment}
+use Rattle.model.specs.Runs.{nextState}
 use Rattle.correspondence.specs.Meaning.{AllLines, AllThreads, WellFormed}
-use Rattle.correspondence.specs.Trace.{Event, blockEvents, leftEvents, allLeftEvents, events, snapshots, nextState, sumOfEvents, LegalBlock, Legal, MayBeLeft, Agrees, AgreesItems}
+use Rattle.correspondence.specs.Trace.{Event, blockEvents, leftEvents, allLeftEvents, events, snapshots, sumOfEvents, FinishesBlock, Finishes, MayBeLeft, Agrees, AgreesItems}
 use Rattle.correspondence.specs.Fill.{blockIn, valueIn, traced}
 use Rattle.correspondence.proofs.Order.{NextIn}
 use Rattle.correspondence.proofs.Block.{BlockRuns}
@@ -51,12 +52,12 @@ module _ (case : Case) (given : ℕ → ℕ) (α : Assignment) where
   block-agrees i (suc steps) (l ∷ ls) m next runs =
       (next .0, runs .0 .has-value, block-agrees i steps ls (stepped case given l m) (next .1) (runs .1))
 
-  block-legal : (steps : ℕ) (ls : List Line) (m : Memory) → BlockRuns case given α steps ls m → LegalBlock case given steps ls m
-  block-legal zero ls m runs = tt
-  block-legal (suc steps) [] m runs = runs
-  block-legal (suc steps) (l ∷ ls) m runs = (runs .0 .goes-on, runs .0 .not-stray, block-legal steps ls (stepped case given l m) (runs .1))
+  block-finishes : (steps : ℕ) (ls : List Line) (m : Memory) → BlockRuns case given α steps ls m → FinishesBlock case given steps ls m
+  block-finishes zero ls m runs = tt
+  block-finishes (suc steps) [] m runs = runs
+  block-finishes (suc steps) (l ∷ ls) m runs = (runs .0 .goes-on, runs .0 .not-stray, block-finishes steps ls (stepped case given l m) (runs .1))
 
-  agreed-block-runs : (i steps : ℕ) (ls : List Line) (m : Memory) → LegalBlock case given steps ls m
+  agreed-block-runs : (i steps : ℕ) (ls : List Line) (m : Memory) → FinishesBlock case given steps ls m
       → Agrees α (blockEvents case given i steps ls m)
       → NextIn (α .block) i steps ls × BlockRuns case given α steps ls m
   agreed-block-runs i zero ls m legal agrees = (tt, tt)
@@ -79,15 +80,15 @@ module _ (case : Case) (given : ℕ → ℕ) (α : Assignment) where
   run-agrees-items i [] s runs = tt
   run-agrees-items i (len ∷ lens) s runs = (runs .1, run-agrees-items (suc i) lens (nextState case given i len s) (runs .2))
 
-  pub run-is-legal : (i : ℕ) (lens : List ℕ) (s : State) → BlocksNext case α i lens (s .rests) → BlocksRun case given α i lens s
-      → Legal case given i lens s
-  run-is-legal i [] s blocks runs = blocks
-  run-is-legal i (len ∷ lens) s blocks runs = (
-    block-legal len (restIn case i s) (memoryIn case i s) (runs .0),
-    run-is-legal (suc i) lens (nextState case given i len s) (blocks .1) (runs .2),
+  pub run-finishes : (i : ℕ) (lens : List ℕ) (s : State) → BlocksNext case α i lens (s .rests) → BlocksRun case given α i lens s
+      → Finishes case given i lens s
+  run-finishes i [] s blocks runs = blocks
+  run-finishes i (len ∷ lens) s blocks runs = (
+    block-finishes len (restIn case i s) (memoryIn case i s) (runs .0),
+    run-finishes (suc i) lens (nextState case given i len s) (blocks .1) (runs .2),
   )
 
-  pub agreed-run : (i : ℕ) (lens : List ℕ) (s : State) → Legal case given i lens s → Agrees α (events case given i lens s)
+  pub agreed-run : (i : ℕ) (lens : List ℕ) (s : State) → Finishes case given i lens s → Agrees α (events case given i lens s)
       → AgreesItems case α i (snapshots case given i lens s) → BlocksNext case α i lens (s .rests) × BlocksRun case given α i lens s
   agreed-run i [] s legal agrees items = (legal, tt)
   agreed-run i (len ∷ lens) s legal agrees items =

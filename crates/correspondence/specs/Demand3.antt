@@ -11,19 +11,19 @@ use Rattle.model.specs.Word.{wordSize, AllBelow}
 use Rattle.model.specs.Lists.{writtenOver}
 use Rattle.model.specs.CaseFile.{caseOf, itemCount}
 use Rattle.model.specs.Accept.{verdict}
-use Rattle.model.specs.Machine.{start}
 use Rattle.model.specs.Assignment.{variables, assignmentOf}
-use Rattle.model.specs.Table.{table, numbersOf}
-use Rattle.model.specs.Schedule.{scheduleSize, blockLengths}
-use Rattle.model.specs.Answers.{encoded, encodedInto, checked, decoded, decodedInto, replayed}
+use Rattle.model.specs.Table.{Row, table, numbersOf}
+use Rattle.model.specs.Schedule.{scheduleSize, decode}
+use Rattle.model.specs.Runs.{Step, Complete, Legal, Violates, InBlocks, Takes, FirstBroken, NoneBroken, FirstEnding, lastItems}
+use Rattle.model.specs.Answers.{encoded, encodedInto, checked, decoded, decodedInto, replayed, replayedInto}
 use Rattle.model.specs.declared.Verdict.the-variants.{Accepted}
 use Rattle.model.specs.declared.Encoded.the-variants as encodeds
-use Rattle.model.specs.declared.Checked.the-variants.{Meets}
+use Rattle.model.specs.declared.Checked.the-variants.{Meets, Fails}
 use Rattle.model.specs.declared.Decoded.the-variants as decodeds
+use Rattle.model.specs.declared.Replayed.{Replayed}
 use Rattle.model.specs.declared.Replayed.the-variants as replayeds
-use Rattle.correspondence.specs.ReadBack.{rowsOf, AllHold}
-use Rattle.correspondence.specs.Trace.{Legal, events, brokenIn}
-use Rattle.correspondence.specs.Fill.{givenIn, fill}
+use Rattle.correspondence.specs.ReadBack.{rowsOf, AllHold, FirstFails}
+use Rattle.correspondence.specs.Fill.{fill}
 
 -- How many numbers the slices lent to the encoder, the decoder and the replayer must hold.
 abbrev pub tableRoom : List ℕ → ℕ
@@ -35,6 +35,10 @@ scheduleRoom bytes = scheduleSize (caseOf bytes)
 abbrev pub itemRoom : List ℕ → ℕ
 itemRoom bytes = itemCount (caseOf bytes)
 
+-- The table that the encoder writes, read back from the slice, six numbers a row.
+abbrev pub writtenRows : List ℕ → List ℕ → List Row
+writtenRows bytes slice = rowsOf (take (tableRoom bytes) (encodedInto bytes slice))
+
 -- "An assignment is 2R + n × (G + M) numbers from 0 to 65,535": the checker says yes to this one.
 abbrev pub Yes : List ℕ → List ℕ → Type 0
 Yes bytes xs = AllBelow wordSize xs × (checked bytes xs ≡ Meets)
@@ -45,37 +49,77 @@ DecodedAs bytes xs schedule =
     (slice : List ℕ) → scheduleRoom bytes ≤ length slice
     → (decoded bytes xs (length slice) ≡ decodeds.Schedule (length schedule)) × (decodedInto bytes xs slice ≡ writtenOver schedule slice)
 
+-- The schedule that the counting gives.
+abbrev pub counted : List ℕ → List ℕ → List ℕ
+counted bytes xs = decode (caseOf bytes) (assignmentOf (caseOf bytes) xs)
+
+-- The reply is no refusal.
+abbrev pub NotRefused : Replayed → Type 0
+NotRefused (replayeds.Violated k) = Unit
+NotRefused replayeds.Clean = Unit
+NotRefused (replayeds.CutOff k) = Unit
+NotRefused (replayeds.Refused number place) = ⊥
+
+-- With room for the items the replayer leaves these final values.
+abbrev pub Leaves : List ℕ → List ℕ → List ℕ → Type 0
+Leaves bytes schedule items = (slice : List ℕ) → itemRoom bytes ≤ length slice → replayedInto bytes schedule slice ≡ writtenOver items slice
+
 -- "the schedule replays to a broken assertion when the reply is violated": with room, it is, at one record whatever the room.
 abbrev pub AnsweredViolated : List ℕ → List ℕ → Type 0
 AnsweredViolated bytes schedule =
     AllBelow wordSize schedule × ((k : ℕ) × ((room : ℕ) → itemRoom bytes ≤ room → replayed bytes schedule room ≡ replayeds.Violated k))
 
--- A complete legal run in blocks 0 to n breaks an assertion: the run of this schedule.
-pub record BrokenRun (bytes schedule : List ℕ) : Type 0 where
-  pub numbers : AllBelow wordSize schedule
-  pub has-size : length schedule ≡ scheduleSize (caseOf bytes)
-  pub legal : Legal (caseOf bytes) (givenIn (caseOf bytes) schedule) 0 (blockLengths (caseOf bytes) schedule) (start (caseOf bytes))
-  pub broken : 0 < brokenIn (events (caseOf bytes) (givenIn (caseOf bytes) schedule) 0 (blockLengths (caseOf bytes) schedule) (start (caseOf bytes)))
+-- "A run in blocks 0 to n is the run of some such schedule.": that of this one, and it violates.
+abbrev pub ViolatingRun : List ℕ → List ℕ → Type 0
+ViolatingRun bytes schedule = InBlocks (caseOf bytes) schedule × Violates (caseOf bytes) schedule
 
 pub record Demand3 (bytes : List ℕ) : Type 0 where
-  -- The checker says yes exactly where the assignment has its length and every row holds of the table that the encoder writes,
-  -- read back from the slice, six numbers a row.
+  -- ---- The encoder's table and the checker.
+  -- The checker says yes exactly where the assignment has its length and every row holds of the table that the encoder writes;
   pub yes-is-all-rows : (slice : List ℕ) → tableRoom bytes ≤ length slice → (xs : List ℕ) →
       (checked bytes xs ≡ Meets)
-      ↔ ((length xs ≡ variables (caseOf bytes))
-      × AllHold (caseOf bytes) (assignmentOf (caseOf bytes) xs) (rowsOf (take (tableRoom bytes) (encodedInto bytes slice))))
-  -- Some assignment gets yes exactly where some schedule is answered with violated,
+      ↔ ((length xs ≡ variables (caseOf bytes)) × AllHold (caseOf bytes) (assignmentOf (caseOf bytes) xs) (writtenRows bytes slice))
+  -- and it names row j exactly where the assignment has its length and row j of that table, from 1, is the first that fails.
+  pub no-names-the-first-row : (slice : List ℕ) → tableRoom bytes ≤ length slice → (xs : List ℕ) (j : ℕ) →
+      (checked bytes xs ≡ Fails j)
+      ↔ ((length xs ≡ variables (caseOf bytes)) × FirstFails (caseOf bytes) (assignmentOf (caseOf bytes) xs) 1 (writtenRows bytes slice) j)
+  -- ---- Assignments and runs.
+  -- Some assignment gets yes exactly where some run in blocks 0 to n violates,
+  pub some-yes-is-some-violating-run : ((xs : List ℕ) × Yes bytes xs) ↔ ((schedule : List ℕ) × ViolatingRun bytes schedule)
+  -- that is, where some schedule is answered with violated: the run of a schedule violates exactly where the answer is that.
   pub some-yes-is-some-violated : ((xs : List ℕ) × Yes bytes xs) ↔ ((schedule : List ℕ) × AnsweredViolated bytes schedule)
-  -- that is, where a complete legal run in blocks 0 to n breaks an assertion.
-  pub violated-is-broken-run : (schedule : List ℕ) → AnsweredViolated bytes schedule ↔ BrokenRun bytes schedule
-  -- Every assignment with yes decodes to a schedule that is answered with violated;
-  pub decodes-to-violated : (xs : List ℕ) → Yes bytes xs → (schedule : List ℕ) × DecodedAs bytes xs schedule × AnsweredViolated bytes schedule
+  pub violated-is-violating-run : (schedule : List ℕ) → AnsweredViolated bytes schedule ↔ ViolatingRun bytes schedule
+  -- Every assignment with yes decodes to the schedule that the counting gives, which is answered with violated;
+  pub decodes-to-violated : (xs : List ℕ) → Yes bytes xs → DecodedAs bytes xs (counted bytes xs) × AnsweredViolated bytes (counted bytes xs)
   -- two with the same schedule are one;
   pub one-to-one : (xs zs schedule : List ℕ) → Yes bytes xs → Yes bytes zs → DecodedAs bytes xs schedule → DecodedAs bytes zs schedule → xs ≡ zs
   -- and every schedule that is answered with violated is the decoding of one, the filled one.
   pub onto : (schedule : List ℕ) → AnsweredViolated bytes schedule
       → Yes bytes (fill (caseOf bytes) schedule) × DecodedAs bytes (fill (caseOf bytes) schedule) schedule
-  -- A slice that is too short is refused with 10; the calls above give no other refusal.
+  -- ---- "replies and final values are those of the machine under Runs".
+  -- With room for the items, the replayer takes a schedule exactly where it gives no refusal.
+  pub takes-is-no-refusal : (schedule : List ℕ) (room : ℕ) → itemRoom bytes ≤ room →
+      Takes (caseOf bytes) schedule ↔ NotRefused (replayed bytes schedule room)
+  -- Violated: taken, and the run violates; the record is that of the first zero assert in running order.
+  pub violated-names-the-first : (schedule : List ℕ) (room : ℕ) → itemRoom bytes ≤ room → (k : ℕ) →
+      (replayed bytes schedule room ≡ replayeds.Violated k)
+      ↔ (Takes (caseOf bytes) schedule × Violates (caseOf bytes) schedule × FirstBroken (caseOf bytes) schedule k)
+  -- Clean: taken, legal, and nothing broken.
+  pub clean-is-nothing-broken : (schedule : List ℕ) (room : ℕ) → itemRoom bytes ≤ room →
+      (replayed bytes schedule room ≡ replayeds.Clean)
+      ↔ (Takes (caseOf bytes) schedule × Legal (caseOf bytes) schedule × NoneBroken (caseOf bytes) schedule)
+  -- Cut off: taken, and the record is that of the line whose assume or lock failed first.
+  pub cut-off-names-the-first : (schedule : List ℕ) (room : ℕ) → itemRoom bytes ≤ room → (k : ℕ) →
+      (replayed bytes schedule room ≡ replayeds.CutOff k)
+      ↔ (Takes (caseOf bytes) schedule × ((s : Step) × FirstEnding (caseOf bytes) schedule s × (s .line .number ≡ k)))
+  -- A legal run of a schedule that is taken is complete.
+  pub legal-is-complete : (schedule : List ℕ) → Takes (caseOf bytes) schedule → Legal (caseOf bytes) schedule → Complete (caseOf bytes) schedule
+  -- The final values: "at the end of the run, or at the cut-off with the failed line not run".
+  pub values-at-the-end : (schedule : List ℕ) → Takes (caseOf bytes) schedule → Legal (caseOf bytes) schedule
+      → Leaves bytes schedule (lastItems (caseOf bytes) schedule)
+  pub values-at-the-cut-off : (schedule : List ℕ) → Takes (caseOf bytes) schedule → (s : Step) → FirstEnding (caseOf bytes) schedule s
+      → Leaves bytes schedule (s .memory .items)
+  -- ---- A slice that is too short is refused with 10; the calls above give no other refusal.
   pub short-table : (room : ℕ) → room < tableRoom bytes → encoded bytes room ≡ encodeds.Refused 10 0
   pub long-table : (room : ℕ) → tableRoom bytes ≤ room → encoded bytes room ≡ encodeds.Table (length (table (caseOf bytes))) (variables (caseOf bytes))
   pub short-schedule : (xs : List ℕ) → Yes bytes xs → (room : ℕ) → room < scheduleRoom bytes → decoded bytes xs room ≡ decodeds.Refused 10 0

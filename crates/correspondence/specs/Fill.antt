@@ -10,7 +10,7 @@ use Rattle.model.specs.Lists.{numbersFrom}
 use Rattle.model.specs.CaseFile.{Case, itemCount}
 use Rattle.model.specs.Machine.{start}
 use Rattle.model.specs.Assignment.{Assignment}
-use Rattle.model.specs.Schedule.{allInputLines, blockLengths, inputValues, valueGiven}
+use Rattle.model.specs.Schedule.{blockLengths, givenIn}
 use Rattle.correspondence.specs.Trace.{Event, events, snapshots}
 
 -- The block and the value of record k in the events.
@@ -37,10 +37,6 @@ blockNumbers case α i (suc many) = numbersFrom (α .blockValue i) 0 (itemCount 
 
 abbrev pub numbersOfAssignment : Case → Assignment → List ℕ
 numbersOfAssignment case α = recordNumbers α 1 (case .R) ++ blockNumbers case α 0 (case .n)
-
--- The input values of a schedule by record number.
-abbrev pub givenIn : Case → List ℕ → ℕ → ℕ
-givenIn case schedule = valueGiven (allInputLines (case .threads)) (inputValues case schedule)
 
 -- The run with these block lengths and given values, as an assignment.
 abbrev pub tracedRun : Case → List ℕ → (ℕ → ℕ) → Assignment

@@ -1,9 +1,11 @@
--- A table read back from the numbers that the encoder writes, and what it is that all its rows hold.
+-- A table read back from the numbers that the encoder writes; what it is that all its rows hold, and that a row is the first that
+-- does not.
 -- Assumes nothing.
 use mathlib.Core.Path.{_≡_}
-use Prim.Native.Nat.{ℕ}
-use mathlib.Core.Bool.{true}
-use mathlib.Core.List.{List, [], _∷_}
+use Prim.Native.Nat.{ℕ, _+_}
+use mathlib.Core.Bool.{true, false}
+use mathlib.Core.List.{List, [], _∷_, _++_}
+use lib.ListN.{length}
 use Rattle.model.specs.CaseFile.{Case}
 use Rattle.model.specs.Assignment.{Assignment}
 use Rattle.model.specs.Table.{Row, row}
@@ -23,3 +25,13 @@ rowsOf (kind ∷ (one ∷ (two ∷ (three ∷ (four ∷ (five ∷ rest)))))) = r
 abbrev pub AllHold : Case → Assignment → List Row → Type 0
 AllHold case α [] = Unit
 AllHold case α (w ∷ ws) = (holds case α w ≡ true) × AllHold case α ws
+
+-- Row j, counted from k, fails, and all rows before it hold.
+pub record FirstFails (case : Case) (α : Assignment) (k : ℕ) (rows : List Row) (j : ℕ) : Type 0 where
+  pub before : List Row
+  pub failing : Row
+  pub after : List Row
+  pub split : rows ≡ before ++ (failing ∷ after)
+  pub place : length before + k ≡ j
+  pub hold : AllHold case α before
+  pub fails : holds case α failing ≡ false

@@ -4,13 +4,14 @@
 use mathlib.Core.Path.{_≡_}
 use Prim.Native.Nat.{ℕ, zero, suc, _+_, _<_}
 use mathlib.Core.Bool.{Bool, false}
-use mathlib.Core.List.{List, [], _∷_, _++_}
+use mathlib.Core.List.{List, [], _∷_, _++_, map}
 use lib.ListN.{getD}
 use Rattle.model.specs.Word.{bit}
 use Rattle.model.specs.CaseFile.{Line, Case, itemCount}
-use Rattle.model.specs.Line.{valueOf, stops, breaks, strayInput}
+use Rattle.model.specs.Line.{valueOf, stops, strayInput}
 use Rattle.model.specs.Assignment.{Assignment}
-use Rattle.model.specs.Machine.{Memory, State, readsIn, stepped, restIn, memoryIn, afterBlock}
+use Rattle.model.specs.Machine.{Memory, State, readsIn, stepped, restIn, memoryIn}
+use Rattle.model.specs.Runs.{Step, blockSteps, nextState, readsAt, broken}
 use Rattle.correspondence.specs.Meaning.{AllThreads}
 
 -- A line, the block that runs it, its value, and whether it breaks an assertion.
@@ -20,31 +21,17 @@ pub record Event : Type 0 where
   pub value : ℕ
   pub broken : Bool
 
-abbrev pub eventOf : Case → (ℕ → ℕ) → ℕ → Line → Memory → Event
-eventOf case given i l m = record {
-  line = l;
-  block = i;
-  value = valueOf l (readsIn case given l m);
-  broken = breaks (l .kind) l (readsIn case given l m) (valueOf l (readsIn case given l m));
+abbrev pub eventOf : Case → (ℕ → ℕ) → Step → Event
+eventOf case given s = record {
+  line = s .line;
+  block = s .block;
+  value = valueOf (s .line) (readsAt case given s);
+  broken = broken case given s;
 }
 
--- The events of so many steps in block i, and the memory after them.
+-- The events of so many steps in block i.
 abbrev pub blockEvents : Case → (ℕ → ℕ) → ℕ → ℕ → List Line → Memory → List Event
-blockEvents case given i zero ls m = []
-blockEvents case given i (suc steps) [] m = []
-blockEvents case given i (suc steps) (l ∷ ls) m = eventOf case given i l m ∷ blockEvents case given i steps ls (stepped case given l m)
-
-abbrev pub memoryAfter : Case → (ℕ → ℕ) → ℕ → List Line → Memory → Memory
-memoryAfter case given zero ls m = m
-memoryAfter case given (suc steps) [] m = m
-memoryAfter case given (suc steps) (l ∷ ls) m = memoryAfter case given steps ls (stepped case given l m)
-
--- The memory and the state after block i.
-abbrev pub endMemory : Case → (ℕ → ℕ) → ℕ → ℕ → State → Memory
-endMemory case given i len s = memoryAfter case given len (restIn case i s) (memoryIn case i s)
-
-abbrev pub nextState : Case → (ℕ → ℕ) → ℕ → ℕ → State → State
-nextState case given i len s = afterBlock case i len s (endMemory case given i len s)
+blockEvents case given i steps ls m = map (eventOf case given) (blockSteps case given i steps ls m)
 
 -- Lines that no block has run.
 abbrev pub leftEvents : ℕ → List Line → List Event
@@ -74,22 +61,22 @@ abbrev pub sumOfEvents : (Line → ℕ) → List Event → ℕ
 sumOfEvents weight [] = 0
 sumOfEvents weight (e ∷ es) = weight (e .line) + sumOfEvents weight es
 
--- A run is legal and complete: no step is stopped or refused, and at the end no line is left.
-abbrev pub LegalBlock : Case → (ℕ → ℕ) → ℕ → List Line → Memory → Type 0
-LegalBlock case given zero ls m = Unit
-LegalBlock case given (suc steps) [] m = ⊥
-LegalBlock case given (suc steps) (l ∷ ls) m =
+-- A run finishes: no step is stopped or refused, and at the end no line is left.
+abbrev pub FinishesBlock : Case → (ℕ → ℕ) → ℕ → List Line → Memory → Type 0
+FinishesBlock case given zero ls m = Unit
+FinishesBlock case given (suc steps) [] m = ⊥
+FinishesBlock case given (suc steps) (l ∷ ls) m =
     (stops (l .kind) l (readsIn case given l m) ≡ false) × (strayInput (l .kind) l (readsIn case given l m) ≡ false)
-    × LegalBlock case given steps ls (stepped case given l m)
+    × FinishesBlock case given steps ls (stepped case given l m)
 
 -- What may be left at the end of a run: no line.
 abbrev pub MayBeLeft : Line → Type 0
 MayBeLeft l = ⊥
 
-abbrev pub Legal : Case → (ℕ → ℕ) → ℕ → List ℕ → State → Type 0
-Legal case given i [] s = AllThreads MayBeLeft (s .rests)
-Legal case given i (len ∷ lens) s =
-    LegalBlock case given len (restIn case i s) (memoryIn case i s) × Legal case given (suc i) lens (nextState case given i len s)
+abbrev pub Finishes : Case → (ℕ → ℕ) → ℕ → List ℕ → State → Type 0
+Finishes case given i [] s = AllThreads MayBeLeft (s .rests)
+Finishes case given i (len ∷ lens) s =
+    FinishesBlock case given len (restIn case i s) (memoryIn case i s) × Finishes case given (suc i) lens (nextState case given i len s)
 
 -- An assignment has a trace's numbers: those of the events, and the items where blocks 0 to n − 1 end.
 abbrev pub Agrees : Assignment → List Event → Type 0

@@ -1,13 +1,17 @@
--- The one statement. What the calls of this library answer equals the definitions (each call's own theorem), and about these
--- same definitions demand 3 holds for every accepted case: so the claim is about the code that runs.
+-- The one statement. What the calls answer equals the definitions (each call's own theorem, for the calls that C and Rust link and
+-- for those that they are made of), and about these same definitions demand 3 holds for every accepted case: so the claim is about
+-- the code that runs, and it can be read off the numbers that the code hands out.
 -- Assumes nothing.
 use mathlib.Core.Path.{_≡_}
+use mathlib.Core.Logic.{_↔_}
 use Prim.Native.Nat.{ℕ}
 use mathlib.Core.List.{List}
 use Rattle.model.specs.Word.{AllBelow}
 use Rattle.model.specs.Accept.{verdict}
 use Rattle.model.specs.declared.Verdict.the-variants.{Accepted}
-use Rattle.correspondence.specs.Demand3.{Demand3}
+use Rattle.laws.specs.Sizes.{Sizes}
+use Rattle.laws.proofs.Sizes.{sizes}
+use Rattle.correspondence.specs.Demand3.{ForEveryAcceptedCase}
 use Rattle.correspondence.proofs.Demand3.{demand-3}
 use Rattle.case_file.proofs.accept.Statement as accept-statement
 use Rattle.case_file.proofs.accept.Met as accept-met
@@ -19,14 +23,42 @@ use Rattle.decoder.proofs.decode.Statement as decode-statement
 use Rattle.decoder.proofs.decode.Met as decode-met
 use Rattle.replayer.proofs.replay.Statement as replay-statement
 use Rattle.replayer.proofs.replay.Met as replay-met
+use Rattle.listing_text.proofs.listing_text.Statement as listing-text-statement
+use Rattle.listing_text.proofs.listing_text.Met as listing-text-met
+use Rattle.menduvo.proofs.menduvo_accept.Statement as exported-accept-statement
+use Rattle.menduvo.proofs.menduvo_accept.Met as exported-accept-met
+use Rattle.menduvo.proofs.menduvo_encode.Statement as exported-encode-statement
+use Rattle.menduvo.proofs.menduvo_encode.Met as exported-encode-met
+use Rattle.menduvo.proofs.menduvo_check.Statement as exported-check-statement
+use Rattle.menduvo.proofs.menduvo_check.Met as exported-check-met
+use Rattle.menduvo.proofs.menduvo_decode.Statement as exported-decode-statement
+use Rattle.menduvo.proofs.menduvo_decode.Met as exported-decode-met
+use Rattle.menduvo.proofs.menduvo_replay.Statement as exported-replay-statement
+use Rattle.menduvo.proofs.menduvo_replay.Met as exported-replay-met
+use Rattle.menduvo.specs.ReadOff.{AnswersToldApart, SomeYes, SomeViolated}
+use Rattle.menduvo.proofs.ReadOff.{answers-told-apart, read-off}
 
 pub record Delivered (M : Type 1) : Type 2 where
+  -- The calls, each with an enum for its answer;
   pub accept : accept-statement.statement M
   pub encode : encode-statement.statement M
   pub check : check-statement.statement M
   pub decode : decode-statement.statement M
   pub replay : replay-statement.statement M
-  pub corresponds : (bytes : List ℕ) → AllBelow 256 bytes → verdict bytes ≡ Accepted → Demand3 bytes
+  pub listing_text : listing-text-statement.statement M
+  -- the calls that C and Rust link, whose answers are numbers;
+  pub menduvo_accept : exported-accept-statement.statement M
+  pub menduvo_encode : exported-encode-statement.statement M
+  pub menduvo_check : exported-check-statement.statement M
+  pub menduvo_decode : exported-decode-statement.statement M
+  pub menduvo_replay : exported-replay-statement.statement M
+  -- demand 3 over what all of them answer;
+  pub corresponds : ForEveryAcceptedCase
+  -- slices of the largest sizes are never too short;
+  pub sizes : (bytes : List ℕ) → verdict bytes ≡ Accepted → Sizes bytes
+  -- and the numbers tell the answers apart, so that it can be read off them.
+  pub told-apart : AnswersToldApart
+  pub corresponds-in-numbers : (bytes : List ℕ) → AllBelow 256 bytes → verdict bytes ≡ Accepted → SomeYes bytes ↔ SomeViolated bytes
 
 pub delivered : {M : Type 1} → Delivered M
 delivered = record {
@@ -35,5 +67,14 @@ delivered = record {
   check = check-met.met;
   decode = decode-met.met;
   replay = replay-met.met;
+  listing_text = listing-text-met.met;
+  menduvo_accept = exported-accept-met.met;
+  menduvo_encode = exported-encode-met.met;
+  menduvo_check = exported-check-met.met;
+  menduvo_decode = exported-decode-met.met;
+  menduvo_replay = exported-replay-met.met;
   corresponds = demand-3;
+  sizes = sizes;
+  told-apart = answers-told-apart;
+  corresponds-in-numbers = λ bytes small accepted. read-off bytes (demand-3 bytes small accepted);
 }

@@ -1,4 +1,4 @@
--- The machine's answer and legality: a run comes to its end exactly when it is legal and complete, and it is then violated
+-- The machine's answer: a run comes to its end exactly when it finishes (legal and complete), and it is then violated
 -- exactly when some event breaks an assertion.
 -- Assumes nothing. Met again in Claims.
 use mathlib.Core.Path.{_≡_, refl, sym, ap, _∙_}
@@ -18,7 +18,8 @@ use Rattle.model.specs.Machine as machine
 use Rattle.model.specs.Schedule.{stepsOf}
 use Rattle.laws.proofs.Views.{EqView, same, diff, eq-view}
 use Rattle.correspondence.specs.Meaning.{AllLines, AllThreads, WellFormed}
-use Rattle.correspondence.specs.Trace.{Event, blockEvents, leftEvents, allLeftEvents, memoryAfter, nextState, events, brokenIn, sumOfEvents, LegalBlock, MayBeLeft, Legal}
+use Rattle.model.specs.Runs.{memoryAfter, nextState, lastState}
+use Rattle.correspondence.specs.Trace.{Event, blockEvents, leftEvents, allLeftEvents, events, brokenIn, sumOfEvents, FinishesBlock, MayBeLeft, Finishes}
 use Rattle.correspondence.proofs.AllLines.{all-threads, each-thread}
 use Rattle.correspondence.proofs.Blocks.{turn, rests-kept, own-rest-after, other-rest-after}
 
@@ -69,58 +70,53 @@ Ended (clean items) = Unit
 abbrev pub AddsUp : Case → ℕ → List ℕ → List (List Line) → Type 0
 AddsUp case i lens rests = (t : ℕ) → t < case .T → stepsOf case t i lens ≡ length (getD rests t [])
 
--- The state where the run ends.
-abbrev pub lastState : Case → (ℕ → ℕ) → ℕ → List ℕ → State → State
-lastState case given i [] s = s
-lastState case given i (len ∷ lens) s = lastState case given (suc i) lens (nextState case given i len s)
-
 module _ (case : Case) (given : ℕ → ℕ) where
-  block-of-legal : (i steps : ℕ) (ls : List Line) (m : Memory) (note : ℕ) → LegalBlock case given steps ls m
+  block-of-finished : (i steps : ℕ) (ls : List Line) (m : Memory) (note : ℕ) → FinishesBlock case given steps ls m
       → runBlock case given steps ls m note ≡ passed (memoryAfter case given steps ls m) (noteAfter note (blockEvents case given i steps ls m))
   unfolding runBlock
-  block-of-legal i zero ls m note h = refl
-  block-of-legal i (suc steps) [] m note h = refl
-  block-of-legal i (suc steps) (l ∷ ls) m note h =
-      rw (h .1, h .0) (block-of-legal i steps ls (stepped case given l m) (notedAt case given note l m) (h .2))
+  block-of-finished i zero ls m note h = refl
+  block-of-finished i (suc steps) [] m note h = refl
+  block-of-finished i (suc steps) (l ∷ ls) m note h =
+      rw (h .1, h .0) (block-of-finished i steps ls (stepped case given l m) (notedAt case given note l m) (h .2))
 
-  legal-of-block : (steps : ℕ) (ls : List Line) (m : Memory) (note : ℕ) (m' : Memory) (note' : ℕ) → steps ≤ length ls
-      → runBlock case given steps ls m note ≡ passed m' note' → LegalBlock case given steps ls m
+  finished-of-block : (steps : ℕ) (ls : List Line) (m : Memory) (note : ℕ) (m' : Memory) (note' : ℕ) → steps ≤ length ls
+      → runBlock case given steps ls m note ≡ passed m' note' → FinishesBlock case given steps ls m
   unfolding runBlock
-  legal-of-block zero ls m note m' note' h e = tt
-  legal-of-block (suc steps) [] m note m' note' h e = absurd (omega arith)
-  legal-of-block (suc steps) (l ∷ ls) m note m' note' h e =
+  finished-of-block zero ls m note m' note' h e = tt
+  finished-of-block (suc steps) [] m note m' note' h e = absurd (omega arith)
+  finished-of-block (suc steps) (l ∷ ls) m note m' note' h e =
       let p = step-passed (strayInput (l .kind) l (readsIn case given l m)) (stops (l .kind) l (readsIn case given l m)) (l .number) (m .items)
       (runBlock case given steps ls (stepped case given l m) (notedAt case given note l m)) m' note' e in
-      (p .0, p .1, legal-of-block steps ls (stepped case given l m) (notedAt case given note l m) m' note' (omega arith) (p .2))
+      (p .0, p .1, finished-of-block steps ls (stepped case given l m) (notedAt case given note l m) m' note' (omega arith) (p .2))
 
-  legal-of-ended-block : (steps : ℕ) (ls : List Line) (m : Memory) (note : ℕ) (next : Memory → ℕ → Outcome) → steps ≤ length ls
-      → Ended (machine.afterSteps (runBlock case given steps ls m note) next) → LegalBlock case given steps ls m
-  legal-of-ended-block steps ls m note next h ended = go (runBlock case given steps ls m note) refl ended
+  finished-of-ended-block : (steps : ℕ) (ls : List Line) (m : Memory) (note : ℕ) (next : Memory → ℕ → Outcome) → steps ≤ length ls
+      → Ended (machine.afterSteps (runBlock case given steps ls m note) next) → FinishesBlock case given steps ls m
+  finished-of-ended-block steps ls m note next h ended = go (runBlock case given steps ls m note) refl ended
     where
-      go : (result : BlockEnd) → runBlock case given steps ls m note ≡ result → Ended (machine.afterSteps result next) → LegalBlock case given steps ls m
+      go : (result : BlockEnd) → runBlock case given steps ls m note ≡ result → Ended (machine.afterSteps result next) → FinishesBlock case given steps ls m
       go (strayed k) e x = absurd x
       go (stopped k items) e x = absurd x
-      go (passed m' note') e x = legal-of-block steps ls m note m' note' h e
+      go (passed m' note') e x = finished-of-block steps ls m note m' note' h e
 
-  -- A legal block runs as many lines as its length says.
-  lines-of-legal : (steps : ℕ) (ls : List Line) (m : Memory) → LegalBlock case given steps ls m → steps + length (drop steps ls) ≡ length ls
-  lines-of-legal zero ls m h = zero-add (length ls)
-  lines-of-legal (suc steps) [] m h = absurd h
-  lines-of-legal (suc steps) (l ∷ ls) m h = omega (arith, lines-of-legal steps ls (stepped case given l m) (h .2))
+  -- A finished block runs as many lines as its length says.
+  lines-of-finished : (steps : ℕ) (ls : List Line) (m : Memory) → FinishesBlock case given steps ls m → steps + length (drop steps ls) ≡ length ls
+  lines-of-finished zero ls m h = zero-add (length ls)
+  lines-of-finished (suc steps) [] m h = absurd h
+  lines-of-finished (suc steps) (l ∷ ls) m h = omega (arith, lines-of-finished steps ls (stepped case given l m) (h .2))
 
-  pub outcome-of-legal : (i : ℕ) (lens : List ℕ) (s : State) (note : ℕ) → Legal case given i lens s
+  pub outcome-of-finished : (i : ℕ) (lens : List ℕ) (s : State) (note : ℕ) → Finishes case given i lens s
       → runBlocks case given i lens s note ≡ ending (noteAfter note (events case given i lens s)) (lastState case given i lens s .items)
   unfolding runBlocks
-  outcome-of-legal i [] s note h = ap (λ (x : ℕ). ending x (s .items)) (sym (note-after-rests note i (s .rests) h))
-  outcome-of-legal i (len ∷ lens) s note h =
+  outcome-of-finished i [] s note h = ap (λ (x : ℕ). ending x (s .items)) (sym (note-after-rests note i (s .rests) h))
+  outcome-of-finished i (len ∷ lens) s note h =
       let here = blockEvents case given i len (restIn case i s) (memoryIn case i s) in
       let later = events case given (suc i) lens (nextState case given i len s) in
-      rw (block-of-legal i len (restIn case i s) (memoryIn case i s) note (h .0), note-after-append note here later)
-      (outcome-of-legal (suc i) lens (nextState case given i len s) (noteAfter note here) (h .1))
+      rw (block-of-finished i len (restIn case i s) (memoryIn case i s) note (h .0), note-after-append note here later)
+      (outcome-of-finished (suc i) lens (nextState case given i len s) (noteAfter note here) (h .1))
 
   module _ (wf : WellFormed case) where
-    -- A legal block takes its length off what its thread has left, and the others keep theirs.
-    steps-of-block : (i len t : ℕ) (s : State) → length (s .rests) ≡ case .T → LegalBlock case given len (restIn case i s) (memoryIn case i s)
+    -- A finished block takes its length off what its thread has left, and the others keep theirs.
+    steps-of-block : (i len t : ℕ) (s : State) → length (s .rests) ≡ case .T → FinishesBlock case given len (restIn case i s) (memoryIn case i s)
         → cond (eqb t (i % case .T)) len 0 + length (getD (nextState case given i len s .rests) t []) ≡ length (getD (s .rests) t [])
     steps-of-block i len t s hn h = go (eq-view t (i % case .T))
       where
@@ -129,21 +125,21 @@ module _ (case : Case) (given : ℕ → ℕ) where
         go (same e q) =
             rw q (omega (
               arith,
-              lines-of-legal len (restIn case i s) (memoryIn case i s) h,
+              lines-of-finished len (restIn case i s) (memoryIn case i s) h,
               ap (λ (x : ℕ). length (getD (nextState case given i len s .rests) x [])) e,
               ap length (own-rest-after case wf i len (s .rests) hn),
               ap (λ (x : ℕ). length (getD (s .rests) x [])) e,
             ))
         go (diff e q) = rw q (omega (arith, ap length (other-rest-after case wf i len (s .rests) hn t e)))
 
-    pub adds-up-of-legal : (i : ℕ) (lens : List ℕ) (s : State) → length (s .rests) ≡ case .T → Legal case given i lens s → AddsUp case i lens (s .rests)
+    pub adds-up-of-finished : (i : ℕ) (lens : List ℕ) (s : State) → length (s .rests) ≡ case .T → Finishes case given i lens s → AddsUp case i lens (s .rests)
     unfolding stepsOf
-    adds-up-of-legal i [] s hn h t ht = sym (none-of-left (getD (s .rests) t []) (each-thread MayBeLeft (s .rests) h t))
-    adds-up-of-legal i (len ∷ lens) s hn h t ht =
-        let later = adds-up-of-legal (suc i) lens (nextState case given i len s) (rests-kept case wf i len (s .rests) hn) (h .1) t ht in
+    adds-up-of-finished i [] s hn h t ht = sym (none-of-left (getD (s .rests) t []) (each-thread MayBeLeft (s .rests) h t))
+    adds-up-of-finished i (len ∷ lens) s hn h t ht =
+        let later = adds-up-of-finished (suc i) lens (nextState case given i len s) (rests-kept case wf i len (s .rests) hn) (h .1) t ht in
         omega (arith, later, steps-of-block i len t s hn (h .0))
 
-    adds-up-after : (i len : ℕ) (lens : List ℕ) (s : State) → length (s .rests) ≡ case .T → LegalBlock case given len (restIn case i s) (memoryIn case i s)
+    adds-up-after : (i len : ℕ) (lens : List ℕ) (s : State) → length (s .rests) ≡ case .T → FinishesBlock case given len (restIn case i s) (memoryIn case i s)
         → AddsUp case i (len ∷ lens) (s .rests) → AddsUp case (suc i) lens (nextState case given i len s .rests)
     unfolding stepsOf
     adds-up-after i len lens s hn h sums t ht = omega (arith, sums t ht, steps-of-block i len t s hn h)
@@ -152,17 +148,17 @@ module _ (case : Case) (given : ℕ → ℕ) where
     unfolding stepsOf
     fits-block i len lens s sums = omega (arith, rw (eq-eqb (i % case .T) (i % case .T) refl) at (sums (i % case .T) (turn case wf i)))
 
-    pub legal-of-ended : (i : ℕ) (lens : List ℕ) (s : State) (note : ℕ) → length (s .rests) ≡ case .T → AddsUp case i lens (s .rests)
-        → Ended (runBlocks case given i lens s note) → Legal case given i lens s
+    pub finished-of-ended : (i : ℕ) (lens : List ℕ) (s : State) (note : ℕ) → length (s .rests) ≡ case .T → AddsUp case i lens (s .rests)
+        → Ended (runBlocks case given i lens s note) → Finishes case given i lens s
     unfolding runBlocks stepsOf
-    legal-of-ended i [] s note hn sums ended = all-threads MayBeLeft (s .rests) (λ t ht. left-of-none (getD (s .rests) t []) (sym (sums t (omega arith))))
-    legal-of-ended i (len ∷ lens) s note hn sums ended =
-        let legal = legal-of-ended-block len (restIn case i s) (memoryIn case i s) note
+    finished-of-ended i [] s note hn sums ended = all-threads MayBeLeft (s .rests) (λ t ht. left-of-none (getD (s .rests) t []) (sym (sums t (omega arith))))
+    finished-of-ended i (len ∷ lens) s note hn sums ended =
+        let legal = finished-of-ended-block len (restIn case i s) (memoryIn case i s) note
         (λ m note'. runBlocks case given (suc i) lens (afterBlock case i len s m) note') (fits-block i len lens s sums) ended in (
           legal,
-          legal-of-ended (suc i) lens (nextState case given i len s) (noteAfter note (blockEvents case given i len (restIn case i s) (memoryIn case i s)))
+          finished-of-ended (suc i) lens (nextState case given i len s) (noteAfter note (blockEvents case given i len (restIn case i s) (memoryIn case i s)))
               (rests-kept case wf i len (s .rests) hn) (adds-up-after i len lens s hn legal sums)
-              (rw (block-of-legal i len (restIn case i s) (memoryIn case i s) note legal) at ended),
+              (rw (block-of-finished i len (restIn case i s) (memoryIn case i s) note legal) at ended),
         )
 
 -- ---- The note and the broken events.

@@ -1,0 +1,112 @@
+-- The numbers that C and Rust get tell the answers apart: each answer can be had back from them. So demand 3 can be read off them.
+-- Assumes nothing. Met again in Delivered.
+use mathlib.Core.Path.{_≡_, refl, sym, ap, _∙_}
+use mathlib.Core.Logic.{_↔_}
+use Prim.Native.Nat.{ℕ}
+use mathlib.Core.Bool.{cond}
+use mathlib.Core.List.{List}
+use lib.Dec.{eqb}
+use Rattle.model.specs.Answers.{verdictNumbers, encodedNumbers, checkedNumbers, decodedNumbers, replayedNumbers, checked, replayed}
+use Rattle.model.specs.Listing.{listedNumbers}
+use Rattle.model.specs.declared.Numbers.{Numbers}
+use Rattle.model.specs.declared.Verdict.{Verdict}
+use Rattle.model.specs.declared.Verdict.the-variants as verdicts
+use Rattle.model.specs.declared.Encoded.{Encoded}
+use Rattle.model.specs.declared.Encoded.the-variants as encodeds
+use Rattle.model.specs.declared.Checked.{Checked}
+use Rattle.model.specs.declared.Checked.the-variants as checkeds
+use Rattle.model.specs.declared.Decoded.{Decoded}
+use Rattle.model.specs.declared.Decoded.the-variants as decodeds
+use Rattle.model.specs.declared.Replayed.{Replayed}
+use Rattle.model.specs.declared.Replayed.the-variants as replayeds
+use Rattle.model.specs.declared.Listed.{Listed}
+use Rattle.model.specs.declared.Listed.the-variants as listeds
+use Rattle.correspondence.specs.Demand3.{Demand3}
+use Rattle.menduvo.specs.ReadOff.{AnswersToldApart, SomeYes, SomeViolated}
+
+-- ---- Each answer had back from its numbers.
+
+abbrev verdict-back : Numbers → Verdict
+verdict-back x = cond (eqb (x .answer) 1) verdicts.Accepted (verdicts.Refused (x .refusal) (x .place))
+
+verdict-is-back : (r : Verdict) → verdict-back (verdictNumbers r) ≡ r
+verdict-is-back verdicts.Accepted = refl
+verdict-is-back (verdicts.Refused number place) = refl
+
+abbrev encoded-back : Numbers → Encoded
+encoded-back x = cond (eqb (x .answer) 1) (encodeds.Table (x .first) (x .second)) (encodeds.Refused (x .refusal) (x .place))
+
+encoded-is-back : (r : Encoded) → encoded-back (encodedNumbers r) ≡ r
+encoded-is-back (encodeds.Table constraints variables) = refl
+encoded-is-back (encodeds.Refused number place) = refl
+
+abbrev checked-back : Numbers → Checked
+checked-back x = cond (eqb (x .answer) 1) checkeds.Meets (cond (eqb (x .answer) 2) (checkeds.Fails (x .first)) (checkeds.Refused (x .refusal) (x .place)))
+
+checked-is-back : (r : Checked) → checked-back (checkedNumbers r) ≡ r
+checked-is-back checkeds.Meets = refl
+checked-is-back (checkeds.Fails constraint) = refl
+checked-is-back (checkeds.Refused number place) = refl
+
+abbrev decoded-back : Numbers → Decoded
+decoded-back x = cond (eqb (x .answer) 1) (decodeds.Schedule (x .first)) (decodeds.Refused (x .refusal) (x .place))
+
+decoded-is-back : (r : Decoded) → decoded-back (decodedNumbers r) ≡ r
+decoded-is-back (decodeds.Schedule numbers) = refl
+decoded-is-back (decodeds.Refused number place) = refl
+
+abbrev replayed-back : Numbers → Replayed
+replayed-back x =
+    cond (eqb (x .answer) 1) (replayeds.Violated (x .first))
+    (cond (eqb (x .answer) 2) replayeds.Clean
+    (cond (eqb (x .answer) 3) (replayeds.CutOff (x .first)) (replayeds.Refused (x .refusal) (x .place))))
+
+replayed-is-back : (r : Replayed) → replayed-back (replayedNumbers r) ≡ r
+replayed-is-back (replayeds.Violated k) = refl
+replayed-is-back replayeds.Clean = refl
+replayed-is-back (replayeds.CutOff k) = refl
+replayed-is-back (replayeds.Refused number place) = refl
+
+abbrev listed-back : Numbers → Listed
+listed-back x = cond (eqb (x .answer) 1) (listeds.Text (x .first)) (listeds.Refused (x .refusal) (x .place))
+
+listed-is-back : (r : Listed) → listed-back (listedNumbers r) ≡ r
+listed-is-back (listeds.Text bytes) = refl
+listed-is-back (listeds.Refused number place) = refl
+
+-- ---- So answers with the same numbers are one.
+
+told : {A : Type 0} (numbers : A → Numbers) (back : Numbers → A) → ((r : A) → back (numbers r) ≡ r) → (r s : A) → (numbers r ≡ numbers s) ↔ (r ≡ s)
+told numbers back is-back r s = ((λ e. sym (is-back r) ∙ ap back e ∙ is-back s), (λ e. ap numbers e))
+
+pub answers-told-apart : AnswersToldApart
+answers-told-apart = record {
+  accepted = λ r. told verdictNumbers verdict-back verdict-is-back r verdicts.Accepted;
+  not-accepted = λ r number place. told verdictNumbers verdict-back verdict-is-back r (verdicts.Refused number place);
+  table = λ r constraints variables. told encodedNumbers encoded-back encoded-is-back r (encodeds.Table constraints variables);
+  not-encoded = λ r number place. told encodedNumbers encoded-back encoded-is-back r (encodeds.Refused number place);
+  meets = λ r. told checkedNumbers checked-back checked-is-back r checkeds.Meets;
+  fails = λ r constraint. told checkedNumbers checked-back checked-is-back r (checkeds.Fails constraint);
+  not-checked = λ r number place. told checkedNumbers checked-back checked-is-back r (checkeds.Refused number place);
+  schedule = λ r numbers. told decodedNumbers decoded-back decoded-is-back r (decodeds.Schedule numbers);
+  not-decoded = λ r number place. told decodedNumbers decoded-back decoded-is-back r (decodeds.Refused number place);
+  violated = λ r k. told replayedNumbers replayed-back replayed-is-back r (replayeds.Violated k);
+  clean = λ r. told replayedNumbers replayed-back replayed-is-back r replayeds.Clean;
+  cut-off = λ r k. told replayedNumbers replayed-back replayed-is-back r (replayeds.CutOff k);
+  not-replayed = λ r number place. told replayedNumbers replayed-back replayed-is-back r (replayeds.Refused number place);
+  text = λ r bytes. told listedNumbers listed-back listed-is-back r (listeds.Text bytes);
+  not-listed = λ r number place. told listedNumbers listed-back listed-is-back r (listeds.Refused number place);
+}
+
+-- ---- Demand 3's equivalence, in numbers.
+
+pub read-off : (bytes : List ℕ) → Demand3 bytes → SomeYes bytes ↔ SomeViolated bytes
+read-off bytes d = (
+  (λ yes. let found = d .some-yes-is-some-violated .0 (yes .0, (yes .1, answers-told-apart .meets (checked bytes (yes .0)) .0 (yes .2))) in
+      (found .0, found .1 .0, (found .1 .1 .0, (λ room h. ap replayedNumbers (found .1 .1 .1 room h))))),
+  (λ hit. let found = d .some-yes-is-some-violated .1 (
+    hit .0,
+    (hit .1, (hit .2 .0, (λ room h. answers-told-apart .violated (replayed bytes (hit .0) room) (hit .2 .0) .0 (hit .2 .1 room h)))),
+  ) in
+      (found .0, found .1 .0, ap checkedNumbers (found .1 .1))),
+)

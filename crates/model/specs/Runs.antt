@@ -1,0 +1,143 @@
+-- Document 01, "Runs" and "What demand 3 compares": the run of a schedule step by step; when it is complete, is legal and violates.
+-- Assumes nothing.
+use mathlib.Core.Path.{_≡_}
+use Prim.Native.Nat.{ℕ, zero, suc, _%_, _≤_, _<_}
+use mathlib.Core.Bool.{Bool, true, false, cond}
+use mathlib.Core.List.{List, [], _∷_, _++_}
+use lib.Dec.{eqb}
+use lib.ListN.{length}
+use Rattle.model.specs.Word.{wordSize, AllBelow}
+use Rattle.model.specs.CaseFile.{Line, Case, linesOf}
+use Rattle.model.specs.Line.{Reads, valueOf, stops, breaks, strayInput}
+use Rattle.model.specs.Machine.{Memory, State, readsIn, stepped, start, restIn, memoryIn, afterBlock}
+use Rattle.model.specs.Schedule.{blockLengths, givenIn, scheduleSize, stepsOf, lengthsAddUp}
+
+-- "A step takes the thread's next line": the block that it is in, the line, and the memory that the line finds.
+pub record Step : Type 0 where
+  pub block : ℕ
+  pub line : Line
+  pub memory : Memory
+
+-- "it steps the thread of block i as often as the length of block i says; no thread has more steps than lines"; "After any other
+-- step the record that follows becomes the next line.": the steps of block i, and the memory after them.
+abbrev pub blockSteps : Case → (ℕ → ℕ) → ℕ → ℕ → List Line → Memory → List Step
+blockSteps case given i zero ls m = []
+blockSteps case given i (suc steps) [] m = []
+blockSteps case given i (suc steps) (l ∷ ls) m =
+    record { block = i; line = l; memory = m } ∷ blockSteps case given i steps ls (stepped case given l m)
+
+abbrev pub memoryAfter : Case → (ℕ → ℕ) → ℕ → List Line → Memory → Memory
+memoryAfter case given zero ls m = m
+memoryAfter case given (suc steps) [] m = m
+memoryAfter case given (suc steps) (l ∷ ls) m = memoryAfter case given steps ls (stepped case given l m)
+
+-- The memory and the state after block i.
+abbrev pub endMemory : Case → (ℕ → ℕ) → ℕ → ℕ → State → Memory
+endMemory case given i len s = memoryAfter case given len (restIn case i s) (memoryIn case i s)
+
+abbrev pub nextState : Case → (ℕ → ℕ) → ℕ → ℕ → State → State
+nextState case given i len s = afterBlock case i len s (endMemory case given i len s)
+
+-- "For i from 0 to n": the steps of the blocks from i on in running order, as if no line ended the run; and the state after them.
+abbrev pub course : Case → (ℕ → ℕ) → ℕ → List ℕ → State → List Step
+course case given i [] s = []
+course case given i (len ∷ lens) s =
+    blockSteps case given i len (restIn case i s) (memoryIn case i s) ++ course case given (suc i) lens (nextState case given i len s)
+
+abbrev pub lastState : Case → (ℕ → ℕ) → ℕ → List ℕ → State → State
+lastState case given i [] s = s
+lastState case given i (len ∷ lens) s = lastState case given (suc i) lens (nextState case given i len s)
+
+-- What a step's line reads.
+abbrev pub readsAt : Case → (ℕ → ℕ) → Step → Reads
+readsAt case given s = readsIn case given (s .line) (s .memory)
+
+-- "with a true guard, an assume that is zero or a lock whose mutex is not 0 ends the run there"
+abbrev pub ends : Case → (ℕ → ℕ) → Step → Bool
+ends case given s = stops (s .line .kind) (s .line) (readsAt case given s)
+
+-- "14. The run meets an input line with a false guard and a value other than 0"
+abbrev pub strays : Case → (ℕ → ℕ) → Step → Bool
+strays case given s = strayInput (s .line .kind) (s .line) (readsAt case given s)
+
+-- "A run breaks an assertion when a guarded-in assert of it is zero."
+abbrev pub broken : Case → (ℕ → ℕ) → Step → Bool
+broken case given s = breaks (s .line .kind) (s .line) (readsAt case given s) (valueOf (s .line) (readsAt case given s))
+
+-- The steps before the first that has the test.
+abbrev pub upToFirst : (Step → Bool) → List Step → List Step
+upToFirst test [] = []
+upToFirst test (s ∷ steps) = cond (test s) [] (s ∷ upToFirst test steps)
+
+-- No step has the test; this one is the first that has it; the first is that of record k.
+abbrev pub None : (Step → Bool) → List Step → Type 0
+None test [] = Unit
+None test (s ∷ steps) = (test s ≡ false) × None test steps
+
+pub record First (test : Step → Bool) (steps : List Step) (s : Step) : Type 0 where
+  pub before : List Step
+  pub after : List Step
+  pub split : steps ≡ before ++ (s ∷ after)
+  pub none-before : None test before
+  pub here : test s ≡ true
+
+abbrev pub FirstAt : (Step → Bool) → List Step → ℕ → Type 0
+FirstAt test steps k = (s : Step) × First test steps s × (s .line .number ≡ k)
+
+-- "The run of a schedule is what this machine does.": the steps that its blocks have, those that it takes before a line ends it,
+-- and the items where the blocks end.
+abbrev pub courseOf : Case → List ℕ → List Step
+courseOf case schedule = course case (givenIn case schedule) 0 (blockLengths case schedule) (start case)
+
+abbrev pub runSteps : Case → List ℕ → List Step
+runSteps case schedule = upToFirst (ends case (givenIn case schedule)) (courseOf case schedule)
+
+abbrev pub lastItems : Case → List ℕ → List ℕ
+lastItems case schedule = lastState case (givenIn case schedule) 0 (blockLengths case schedule) (start case) .items
+
+-- The lines that thread t runs in these steps: "Block i (0 to n) belongs to thread i modulo T".
+abbrev pub linesRun : Case → ℕ → List Step → List Line
+linesRun case t [] = []
+linesRun case t (s ∷ steps) = cond (eqb t (s .block % case .T)) (s .line ∷ linesRun case t steps) (linesRun case t steps)
+
+-- "A run is complete when every thread has run all its lines, in chain order."
+abbrev pub Complete : Case → List ℕ → Type 0
+Complete case schedule = (t : ℕ) → t < case .T → linesRun case t (runSteps case schedule) ≡ linesOf case t
+
+-- "It is legal when every guarded-in assume holds and every guarded-in lock finds its mutex at 0."
+abbrev pub Legal : Case → List ℕ → Type 0
+Legal case schedule = None (ends case (givenIn case schedule)) (courseOf case schedule)
+
+-- The run's first zero assert is that of record k; it has none; and the first line whose assume or lock fails is record k.
+abbrev pub FirstBroken : Case → List ℕ → ℕ → Type 0
+FirstBroken case schedule k = FirstAt (broken case (givenIn case schedule)) (runSteps case schedule) k
+
+abbrev pub NoneBroken : Case → List ℕ → Type 0
+NoneBroken case schedule = None (broken case (givenIn case schedule)) (runSteps case schedule)
+
+abbrev pub FirstEnding : Case → List ℕ → Step → Type 0
+FirstEnding case schedule s = First (ends case (givenIn case schedule)) (courseOf case schedule) s
+
+-- "An input line whose guard is false in the run has value 0."
+abbrev pub NoneStrays : Case → List ℕ → Type 0
+NoneStrays case schedule = None (strays case (givenIn case schedule)) (runSteps case schedule)
+
+-- "It violates when it is complete and legal and some guarded-in assert is zero"
+pub record Violates (case : Case) (schedule : List ℕ) : Type 0 where
+  pub complete : Complete case schedule
+  pub legal : Legal case schedule
+  pub some-broken : (k : ℕ) × FirstBroken case schedule k
+
+-- "A schedule is n + 1 block lengths, then one value for each input line, .. each a number from 0 to 65,535"; "no thread has more
+-- steps than lines". "A run in blocks 0 to n is the run of some such schedule."
+pub record InBlocks (case : Case) (schedule : List ℕ) : Type 0 where
+  pub numbers : AllBelow wordSize schedule
+  pub has-size : length schedule ≡ scheduleSize case
+  pub few-steps : (t : ℕ) → t < case .T → stepsOf case t 0 (blockLengths case schedule) ≤ length (linesOf case t)
+  pub none-strays : NoneStrays case schedule
+
+-- "The replayer takes a schedule when none of refusals 12 to 14 meets it"
+pub record Takes (case : Case) (schedule : List ℕ) : Type 0 where
+  pub not-12 : length schedule ≡ scheduleSize case
+  pub not-13 : lengthsAddUp case (blockLengths case schedule) ≡ true
+  pub not-14 : NoneStrays case schedule
