@@ -2,7 +2,7 @@
 -- Assumes nothing. No proof uses them: they hold the definitions beside the document.
 use mathlib.Core.Path.{_≡_, refl}
 use Prim.Native.Nat.{ℕ, zero, suc}
-use mathlib.Core.List.{List, [], _∷_, _++_}
+use mathlib.Core.List.{List, [], _∷_}
 use Rattle.model.specs.Accept.{verdict}
 use Rattle.model.specs.Answers.{encoded, encodedInto, checked, decoded, decodedInto, replayed, replayedInto}
 use Rattle.model.specs.declared.Verdict.the-variants.{Accepted, Refused}
@@ -12,18 +12,8 @@ use Rattle.model.specs.declared.Decoded.the-variants as decodeds
 use Rattle.model.specs.declared.Replayed.the-variants.{Violated, Clean, CutOff}
 use Rattle.model.specs.declared.Replayed.the-variants as replayeds
 use Rattle.correspondence.proofs.Computing.{computing}
-use Rattle.correspondence.proofs.CaseA.{bytesOf, caseA}
-
--- A header with no initial value other than 0, and a record.
-unfoldable header : ℕ → ℕ → ℕ → ℕ → ℕ → ℕ → ℕ → ℕ → List ℕ
-header T n G M f0 f1 f2 f3 = T ∷ n ∷ G ∷ M ∷ f0 ∷ f1 ∷ f2 ∷ f3 ∷ 0 ∷ 0 ∷ 0 ∷ 0 ∷ 0 ∷ 0 ∷ 0 ∷ 0 ∷ []
-
-unfoldable rec : ℕ → ℕ → ℕ → ℕ → ℕ → ℕ → ℕ → ℕ → List ℕ → List ℕ
-rec next kind guard target op a b c more = next ∷ kind ∷ guard ∷ target ∷ op ∷ a ∷ b ∷ c ∷ more
-
-unfoldable file : List ℕ → List ℕ → List ℕ
-unfolding bytesOf header rec
-file head records = bytesOf (head ++ records)
+use Rattle.correspondence.proofs.CaseA.{caseA}
+use Rattle.correspondence.proofs.CaseBytes.{header, rec, file}
 
 -- ---- Reading and copies
 
@@ -218,6 +208,11 @@ refused-6-cycle = refl
 refused-7 : verdict (file (header 2 0 0 0 0 0 0 0) (rec 1 1 0 0 0 0 0 0 [])) ≡ Refused 7 0
 unfolding computing file
 refused-7 = refl
+
+-- "R is at most 256 and may be 0."
+no-records : verdict (file (header 2 0 0 0 0 0 0 0) []) ≡ Accepted
+unfolding computing file
+no-records = refl
 
 -- Thread 0 has so many computing lines from record k on.
 longThread : ℕ → ℕ → List ℕ

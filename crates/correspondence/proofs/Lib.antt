@@ -39,4 +39,6 @@ pub mod KindByKind
 pub mod Computing
 pub mod NoLines
 pub mod CaseA
+pub mod CaseBytes
 pub mod Examples
+pub mod Conventions
