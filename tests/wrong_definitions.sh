@@ -12,13 +12,15 @@ trap 'rm -rf -- "$scratch"' EXIT
 passed=0
 failed=0
 
-# fresh FOLDER: a repository of what the theorem rests on. Case A and the worked examples are left
-# out: they too refuse many of the edits, and it is the theorem that must.
+# fresh FOLDER: a repository of what the theorem rests on. Case A, the worked examples and the laws on
+# sizes are left out: they too refuse many of the edits, and it is the theorem that must.
 fresh() {
-    local module proofs=$1/crates/correspondence/proofs
+    local module proofs
     mkdir "$1/crates" && cp -r crates/{model,laws,correspondence} "$1/crates" || return
     grep -E '^(model|laws|correspondence):' crates.txt >"$1/crates.txt" || return
-    for module in CaseA Examples Computing; do
+    for module in laws/Sizes correspondence/{NoLines,CaseA,CaseBytes,Examples,Conventions,Computing}; do
+        proofs=$1/crates/${module%/*}/proofs
+        module=${module#*/}
         rm -- "$proofs/$module.antt" && sed -i "/^pub mod $module\$/d" "$proofs/Lib.antt" || return
     done
 }
