@@ -3,13 +3,17 @@
  *
  * The calls are proved: what each of them answers, and what it leaves in each slice that it was lent, equals the definitions
  * in crates/model/specs/Answers.antt. They hold nothing between calls, allocate nothing, and may be called from any thread.
+ * Every call returns; how much of the stack it takes is not proved.
  *
- * A slice is a pointer and how many elements it has. The proof is about calls that keep three rules:
- *   - each pointer points to that many elements, and is not null, also where there are none;
+ * A slice is a pointer and how many elements it has. The proof is about calls that keep three rules, which no call can test:
+ *   - each pointer is valid for that many elements, and is not null, also where there are none;
  *   - it is aligned as its type asks (a uint16_t at an even address);
- *   - a slice that is written overlaps no other slice of the same call.
+ *   - a slice that is written overlaps no other slice of the same call; and until the call returns nobody else uses a slice
+ *     that is written, or writes to one that is read.
+ * Of a call that breaks one of them nothing is claimed.
+ *
  * A slice that is written is written from its start; elements beyond the result keep their values. A refused call alters
- * nothing.
+ * nothing. A slice that is const is never written.
  */
 #ifndef MENDUVO_H
 #define MENDUVO_H
@@ -21,10 +25,14 @@
 extern "C" {
 #endif
 
-/* The most that any accepted case needs: slices of these sizes are never refused with 10. */
+/*
+ * The most that any accepted case needs. A table, a schedule and items of these sizes are never refused with 10, whatever the
+ * case; no accepted case is longer, and no assignment that is taken has more numbers. This is proved of the definitions
+ * (Limits in crates/model/specs, crates/laws/proofs/Sizes.antt).
+ */
 #define MENDUVO_MOST_CASE_BYTES 4128u       /* 32 bytes, and 16 for each of 256 records */
 #define MENDUVO_MOST_TABLE_NUMBERS 7230u    /* six for each of 1,205 constraints */
-#define MENDUVO_MOST_VARIABLES 692u         /* the numbers of an assignment */
+#define MENDUVO_MOST_VARIABLES 692u         /* the numbers of an assignment: 512 of records, 180 block values */
 #define MENDUVO_MOST_SCHEDULE_NUMBERS 272u  /* 16 block lengths, 256 input values */
 #define MENDUVO_MOST_ITEMS 12u              /* 8 globals, then 4 mutexes */
 
@@ -34,7 +42,8 @@ extern "C" {
  * Where `refusal` is 0 the call was not refused: `place` is 0, `answer` says which answer it is, counted from 1, and `first`
  * and `second` are the values that it carries, as the calls below say; a value that is not named there is 0.
  *
- * Where `refusal` is 1 to 15 the call was refused: `place` is where, and the other three are 0. In checking order:
+ * Where `refusal` is 1 to 15 the call was refused: `place` is where, and the other three are 0. No other refusal is given. In
+ * checking order:
  *    1  the case is not 32 + 16R bytes with R from 0 to 256
  *    2  T, the number of threads, is outside 2 to 4
  *    3  n, the number of switches, is over 15
@@ -59,7 +68,7 @@ typedef struct {
 /*
  * Whether the other calls take this case.
  *   1  accepted
- * Refusals 1 to 9.
+ * Refusals 1 to 9, which every other call gives too, first and for the same cases.
  */
 MenduvoNumbers menduvo_accept(const uint8_t *case_, size_t case_len);
 
@@ -79,7 +88,8 @@ MenduvoNumbers menduvo_encode(const uint8_t *case_, size_t case_len, uint16_t *t
 MenduvoNumbers menduvo_check(const uint8_t *case_, size_t case_len, const uint16_t *assignment, size_t assignment_len);
 
 /*
- * Writes the schedule that the assignment stands for: n + 1 block lengths, then a value for each input line.
+ * Writes the schedule that the assignment stands for: n + 1 block lengths, then a value for each input line, by thread and
+ * then by chain. The assignment must meet every constraint.
  *   1  the schedule is written; first: how many numbers it has
  * Refusals 1 to 11 and 15.
  */
@@ -87,10 +97,11 @@ MenduvoNumbers menduvo_decode(const uint8_t *case_, size_t case_len, const uint1
                               uint16_t *schedule, size_t schedule_len);
 
 /*
- * Runs the schedule, and writes the items' values at the end of the run, or where it is cut off: globals first, then mutexes.
- *   1  violated; first: the record of the first assertion that is broken
- *   2  clean
- *   3  cut off; first: the record whose assume or lock failed
+ * Runs the schedule, and writes the items' values at the end of the run, or where it is cut off, with the failed line not run:
+ * G + M numbers, globals first, then mutexes.
+ *   1  violated: the run is complete and legal and breaks an assertion; first: the record of the first that is broken
+ *   2  clean: the run is complete and legal and breaks none
+ *   3  cut off, whether or not an assertion was broken before; first: the record whose assume or lock failed
  * Refusals 1 to 10 and 12 to 14.
  */
 MenduvoNumbers menduvo_replay(const uint8_t *case_, size_t case_len, const uint16_t *schedule, size_t schedule_len,

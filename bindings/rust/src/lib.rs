@@ -2,7 +2,15 @@
 //!
 //! What each call answers, and what it leaves in each slice that it is lent, is defined in `crates/model/specs/Answers.antt`;
 //! the library is proved to give just that. This package adds nothing but the passing of slices. It is the one place in this
-//! repository with unsafe code, and all of that stands in the private module `library`.
+//! repository with unsafe code, and all of that stands in the private module `library`: the declaration of the five functions
+//! of C, which nothing checks against their source, and the five calls. The proof asks three rules of a caller: pointers are
+//! valid for their lengths, aligned, and a slice that is written overlaps no other. Rust's slices keep them.
+//!
+//! A slice that is written is written from its start, and numbers beyond the result keep their values. A refused call alters
+//! nothing. The refusals, 1 to 15, are listed in `bindings/menduvo.h`; `place` is 0 but for 9 and 14 (a record) and 15 (a
+//! constraint), each counted from 1.
+//!
+//! Every call panics where the linked library gives numbers that stand for no answer: then it is not the proved one.
 #![deny(unsafe_code)]
 
 #[allow(unsafe_code)]
@@ -12,13 +20,13 @@ use library::{read, Numbers};
 
 /// The most bytes that an accepted case has.
 pub const MOST_CASE_BYTES: usize = 4_128;
-/// The most numbers that a table has: six for each constraint.
+/// The most numbers that a table has, six for each constraint: a slice of so many is never refused with 10.
 pub const MOST_TABLE_NUMBERS: usize = 7_230;
-/// The most numbers that an assignment has.
+/// The most numbers that an assignment of an accepted case has.
 pub const MOST_VARIABLES: usize = 692;
-/// The most numbers that a schedule has.
+/// The most numbers that a schedule has: a slice of so many is never refused with 10.
 pub const MOST_SCHEDULE_NUMBERS: usize = 272;
-/// The most items, globals and mutexes together.
+/// The most items, globals and mutexes together: a slice of so many is never refused with 10.
 pub const MOST_ITEMS: usize = 12;
 
 /// Whether the calls take a case.
@@ -28,7 +36,7 @@ pub enum Verdict {
     Refused { number: u16, place: u16 },
 }
 
-/// The encoder wrote the table, or refused.
+/// The encoder wrote the table, with so many constraints over so many variables, or refused.
 #[derive(Clone, Copy, Debug, PartialEq, Eq)]
 pub enum Encoded {
     Table { constraints: u16, variables: u16 },
@@ -43,14 +51,15 @@ pub enum Checked {
     Refused { number: u16, place: u16 },
 }
 
-/// The decoder wrote a schedule, or refused.
+/// The decoder wrote a schedule of so many numbers, or refused.
 #[derive(Clone, Copy, Debug, PartialEq, Eq)]
 pub enum Decoded {
     Schedule { numbers: u16 },
     Refused { number: u16, place: u16 },
 }
 
-/// The run breaks an assertion at a record, or none, or is cut off at a record.
+/// The run is complete and legal and breaks an assertion, first at this record; or it breaks none; or it is cut off at this
+/// record, whose assume or lock failed, whether or not an assertion was broken before; or the schedule is refused.
 #[derive(Clone, Copy, Debug, PartialEq, Eq)]
 pub enum Replayed {
     Violated(u16),
@@ -96,7 +105,8 @@ pub fn check(case: &[u8], assignment: &[u16]) -> Checked {
     )
 }
 
-/// Writes the schedule that the assignment stands for. Refusals 1 to 11 and 15.
+/// Writes the schedule that the assignment stands for: n + 1 block lengths, then a value for each input line, by thread and
+/// then by chain. Refusals 1 to 11 and 15.
 pub fn decode(case: &[u8], assignment: &[u16], schedule: &mut [u16]) -> Decoded {
     read(
         library::decode(case, assignment, schedule),
@@ -108,7 +118,8 @@ pub fn decode(case: &[u8], assignment: &[u16], schedule: &mut [u16]) -> Decoded 
     )
 }
 
-/// Runs the schedule, and writes the items' values at the end of the run or at the cut-off. Refusals 1 to 10 and 12 to 14.
+/// Runs the schedule, and writes the items' values at the end of the run, or at the cut-off with the failed line not run:
+/// globals first, then mutexes. Refusals 1 to 10 and 12 to 14.
 pub fn replay(case: &[u8], schedule: &[u16], items: &mut [u16]) -> Replayed {
     read(
         library::replay(case, schedule, items),
