@@ -21,7 +21,7 @@ use Rattle.correspondence.proofs.OrderRows.{order-of-all-rows}
 use Rattle.encoder.specs.Rows.{threadLines}
 use Rattle.encoder.proofs.Blocks.{few-blocks}
 use Rattle.checker.specs.Walked.{Sought}
-use Rattle.checker.proofs.Counts.{all-orders-few, all-values-few, blocks-length}
+use Rattle.laws.proofs.Sizes.{order-rows, value-rows, blocks-length}
 use Rattle.checker.proofs.Seeking.{Seeking, seeking-start, seeking-more, seeking-found, one-holds, one-fails}
 
 module _ (bytes : List ℕ) (ok : Accepted bytes) (xs : List ℕ) where
@@ -64,7 +64,7 @@ module _ (bytes : List ℕ) (ok : Accepted bytes) (xs : List ℕ) where
       after-orders = seeking-more case α 1 _ _ end start orders _ split f (order .first) n none (order .after none)
 
       pub values-start : (0 < n) × (n + length values ≤ 65535)
-      values-start = (after-orders .some, omega (arith, order .after none, all-orders-few bytes ok, all-values-few bytes ok))
+      values-start = (after-orders .some, omega (arith, order .after none, order-rows bytes ok, value-rows bytes ok))
 
       pub threads-ordered : (t : ℕ) → t < threadCount bytes → Ordered case (α .block) t 0 (threadLines bytes t)
       threads-ordered t h =
@@ -81,7 +81,7 @@ module _ (bytes : List ℕ) (ok : Accepted bytes) (xs : List ℕ) where
           after-values = seeking-more case α n _ _ end after-orders values _ refl f' (value .first) n' none' (value .after none')
 
           pub blocks-start : (0 < n') × (n' ≤ 50000)
-          blocks-start = (after-values .some, omega (arith, order .after none, value .after none', all-orders-few bytes ok, all-values-few bytes ok))
+          blocks-start = (after-values .some, omega (arith, order .after none, value .after none', order-rows bytes ok, value-rows bytes ok))
 
           module _ (f'' : ℕ) (block : f'' ≡ firstFailing case α n' blocks) where
             pub blocks-fail : f'' ≢ 0 → f'' ≡ failedIn bytes xs

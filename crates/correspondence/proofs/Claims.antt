@@ -1,30 +1,28 @@
 -- Demand 3 over well-formed cases: assignments that meet the constraints and schedules whose runs finish and break an
 -- assertion, each the other's. `decode-of-fill` and `fill-of-decode` are the two laws of the filled assignment.
 -- Assumes nothing. Met again in Demand3.
-use mathlib.Core.Path.{_≡_, refl, sym, ap₂, _∙_, subst}
-use Prim.Native.Nat.{ℕ, zero, suc, _+_, _<_}
+use mathlib.Core.Path.{_≡_, sym, ap₂, _∙_}
+use Prim.Native.Nat.{ℕ, suc, _+_}
 use mathlib.Core.Bool.{true}
 use mathlib.Core.List.{List, _++_}
 use native.Mathlib.Omega.{arith}
 use lib.Dec.{eqb}
 use lib.ListN.{length, length-append, length-drop, take-append-drop}
 use lib.Seq.{take-at, drop-at, length-take-le}
-use borrow.Author.Tests.{eqb-true, eq-eqb, ne-eqb}
-use Rattle.model.specs.CaseFile.{Case, linesOf, sumOfThreads, hasNumber}
-use Rattle.model.specs.Machine.{Outcome, refused14, cutOff, violated, clean, start, ending, run}
+use borrow.Author.Tests.{eqb-true, eq-eqb}
+use Rattle.model.specs.CaseFile.{Case, linesOf, hasNumber}
+use Rattle.model.specs.Machine.{start, run}
 use Rattle.model.specs.Assignment.{Assignment, variables, assignmentOf}
-use Rattle.model.specs.Schedule.{allInputLines, blockLengths, inputValues, givenIn, scheduleSize, stepsOf, lengthsAddUp, runOf, countedLengths, allDecodedValues, decode}
-use Rattle.model.specs.Runs.{lastItems}
-use Rattle.laws.proofs.Views.{EqView, same, diff, eq-view}
+use Rattle.model.specs.Schedule.{allInputLines, blockLengths, inputValues, givenIn, scheduleSize, stepsOf, lengthsAddUp, countedLengths, allDecodedValues, decode}
 use Rattle.laws.proofs.Ranges.{all-from-gives, all-from-of}
 use Rattle.correspondence.specs.Meaning.{WellFormed, Meets, DecodesTo, breakCount}
-use Rattle.correspondence.specs.Trace.{Event, events, snapshots, brokenIn, sumOfEvents, Finishes, Agrees, AgreesItems}
+use Rattle.correspondence.specs.Trace.{Event, events, snapshots, brokenIn, Finishes, Agrees, AgreesItems}
 use Rattle.correspondence.specs.Fill.{tracedRun, fill}
 use Rattle.correspondence.proofs.Runs.{sound, complete, traced-agrees, counted, same-records, same-blocks}
 use Rattle.correspondence.proofs.Traces.{agrees-transfer, items-transfer}
 use Rattle.correspondence.proofs.Numbers.{record-of-numbers, block-value-of-numbers, numbers-of-own, numbers-same}
 use Rattle.correspondence.proofs.Inputs.{length-of-decoded, counted-lengths, only-counted, length-of-counted, inputs-of-decoded, decoded-of-inputs}
-use Rattle.correspondence.proofs.Endings.{noteAfter, Ended, AddsUp, outcome-of-finished, adds-up-of-finished, finished-of-ended, note-of-none, note-of-some}
+use Rattle.correspondence.proofs.Endings.{AddsUp, adds-up-of-finished}
 
 -- The events of a schedule's run and the items where its blocks end, and whether it finishes: is complete and legal.
 abbrev pub eventsOf : Case → List ℕ → List Event
@@ -35,12 +33,6 @@ itemsOf case schedule = snapshots case (givenIn case schedule) 0 (blockLengths c
 
 abbrev pub FinishesRun : Case → List ℕ → Type 0
 FinishesRun case schedule = Finishes case (givenIn case schedule) 0 (blockLengths case schedule) (start case)
-
-IsViolated : Outcome → Type 0
-IsViolated (refused14 k) = ⊥
-IsViolated (cutOff k items) = ⊥
-IsViolated (violated k items) = Unit
-IsViolated (clean items) = ⊥
 
 module _ (case : Case) (wf : WellFormed case) where
   -- ---- An assignment's schedule.
@@ -125,29 +117,7 @@ module _ (case : Case) (wf : WellFormed case) where
       (same-blocks case wf (tracedRun case lens given) α lens given (all-blocks schedule (size-of-decode α)) (traced .1) (run .2))
       ∙ numbers-of-own case xs sized
 
-  -- ---- The machine's answer to a schedule.
-  no-zero-record : (schedule : List ℕ) → sumOfEvents (hasNumber 0) (eventsOf case schedule) ≡ 0
-  no-zero-record schedule = go (sumOfThreads (hasNumber 0) (case .threads)) refl
-    where
-      go : (x : ℕ) → sumOfThreads (hasNumber 0) (case .threads) ≡ x → sumOfEvents (hasNumber 0) (eventsOf case schedule) ≡ 0
-      go zero e = counted case wf (hasNumber 0) (blockLengths case schedule) (givenIn case schedule) ∙ e
-      go (suc x) e = absurd (omega (arith, wf .within 0 (omega (arith, e)) .0))
-
-  outcome : (schedule : List ℕ) → FinishesRun case schedule
-      → runOf case schedule ≡ ending (noteAfter 0 (eventsOf case schedule)) (lastItems case schedule)
-  unfolding runOf run
-  outcome schedule legal = outcome-of-finished case (givenIn case schedule) 0 (blockLengths case schedule) (start case) 0 legal
-
-  -- A legal run whose events break an assertion is violated, at the first that is noted.
-  pub violated-of-broken : (schedule : List ℕ) → FinishesRun case schedule → 0 < brokenIn (eventsOf case schedule)
-      → (k : ℕ) × (items : List ℕ) × (runOf case schedule ≡ violated k items)
-  violated-of-broken schedule legal broken =
-      let note = note-of-some (eventsOf case schedule) (no-zero-record schedule) broken in (
-        noteAfter 0 (eventsOf case schedule),
-        lastItems case schedule,
-        outcome schedule legal ∙ rw (ne-eqb (noteAfter 0 (eventsOf case schedule)) 0 (λ p. omega arith)),
-      )
-
+  -- ---- The block lengths of a schedule.
   pub adds-up : (schedule : List ℕ) → lengthsAddUp case (blockLengths case schedule) ≡ true → AddsUp case 0 (blockLengths case schedule) (case .threads)
   unfolding lengthsAddUp
   adds-up schedule e t ht =
@@ -160,19 +130,3 @@ module _ (case : Case) (wf : WellFormed case) where
       all-from-of (λ t. eqb (stepsOf case t 0 (blockLengths case schedule)) (length (linesOf case t))) 0 (case .T)
       (λ t h h'. eq-eqb _ _
       (adds-up-of-finished case (givenIn case schedule) wf 0 (blockLengths case schedule) (start case) (wf .thread-count) legal t (omega (arith, h'))))
-
-  -- A violated run is legal and breaks an assertion.
-  pub broken-of-violated : (schedule : List ℕ) (k : ℕ) (items : List ℕ) → lengthsAddUp case (blockLengths case schedule) ≡ true
-      → runOf case schedule ≡ violated k items
-      → FinishesRun case schedule × (0 < brokenIn (eventsOf case schedule))
-  unfolding runOf run IsViolated
-  broken-of-violated schedule k items sums e =
-      let legal = finished-of-ended case (givenIn case schedule) wf 0 (blockLengths case schedule) (start case) 0 (wf .thread-count)
-      (adds-up schedule sums) (subst Ended (sym e) tt) in
-      (legal, go (eq-view (brokenIn (eventsOf case schedule)) 0) (subst IsViolated (sym e ∙ outcome schedule legal) tt))
-    where
-      go : EqView (brokenIn (eventsOf case schedule)) 0
-          → IsViolated (ending (noteAfter 0 (eventsOf case schedule)) (lastItems case schedule))
-          → 0 < brokenIn (eventsOf case schedule)
-      go (diff p q) v = omega arith
-      go (same p q) v = absurd (rw (note-of-none (eventsOf case schedule) p) at v)

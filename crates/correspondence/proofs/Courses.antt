@@ -1,6 +1,6 @@
 -- The machine goes along the steps of a run: its answer is made by the first step that ends the run or strays, or, where there is
 -- none, by the first that breaks an assertion.
--- Assumes nothing. Met again in RunEnds.
+-- Assumes nothing. Met again in Endings and RunEnds.
 use mathlib.Core.Path.{_≡_, refl, sym, ap, _∙_}
 use Prim.Native.Nat.{ℕ, zero, suc, _<_}
 use mathlib.Core.Bool.{Bool, true, false, cond, true≢false}
@@ -27,6 +27,18 @@ module _ (test : Step → Bool) where
 
   pub first-here : (s : Step) (steps : List Step) → test s ≡ true → First test (s ∷ steps) s
   first-here s steps e = record { before = []; after = steps; split = refl; none-before = tt; here = e }
+
+  pub none-append : (xs ys : List Step) → None test xs → None test ys → None test (xs ++ ys)
+  none-append [] ys a b = b
+  none-append (s ∷ xs) ys a b = (a .0, none-append xs ys (a .1) b)
+
+  pub none-before : (xs ys : List Step) → None test (xs ++ ys) → None test xs
+  none-before [] ys a = tt
+  none-before (s ∷ xs) ys a = (a .0, none-before xs ys (a .1))
+
+  pub none-after : (xs ys : List Step) → None test (xs ++ ys) → None test ys
+  none-after [] ys a = a
+  none-after (s ∷ xs) ys a = none-after xs ys (a .1)
 
   none-then-some : (before after : List Step) (s : Step) → None test (before ++ (s ∷ after)) → test s ≡ true → ⊥
   none-then-some [] after s none here = true≢false (sym here ∙ none .0)

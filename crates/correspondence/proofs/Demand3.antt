@@ -1,7 +1,7 @@
 -- Demand 3 holds: the statement is specs/Demand3.antt, the argument docs/PROOF.md. What is left here is to bring the calls'
 -- answers (Replies) and the claims over well-formed cases (Claims) together.
 -- Assumes nothing. This is where the other modules lead.
-use mathlib.Core.Path.{_≡_, sym, ap, _∙_, subst}
+use mathlib.Core.Path.{_≡_, refl, sym, ap, _∙_, subst}
 use Prim.Native.Nat.{ℕ, suc, _≤_, _<_}
 use mathlib.Core.List.{List, _++_, append-nil}
 use native.Mathlib.Omega.{arith}
@@ -12,41 +12,38 @@ use Rattle.model.specs.Word.{wordSize, AllBelow}
 use Rattle.model.specs.Lists.{writtenOver}
 use Rattle.model.specs.CaseFile.{Case, caseOf, linesOf}
 use Rattle.model.specs.Accept.{verdict}
-use Rattle.model.specs.Machine.{Outcome, refused14, cutOff, violated, clean}
+use Rattle.model.specs.Machine.{start}
 use Rattle.model.specs.Assignment.{Assignment, variables, assignmentOf}
 use Rattle.model.specs.Table.{table, numbersOf}
-use Rattle.model.specs.Schedule.{scheduleSize, blockLengths, inputValues, runOf, decode}
-use Rattle.model.specs.Answers.{answerOfRun, checked}
+use Rattle.model.specs.Schedule.{scheduleSize, blockLengths, inputValues, givenIn, decode}
+use Rattle.model.specs.Runs.{courseOf, ends, Takes}
+use Rattle.model.specs.Answers.{checked}
 use Rattle.model.specs.declared.Verdict.the-variants.{Accepted}
 use Rattle.model.specs.declared.Checked.the-variants.{Meets}
 use Rattle.model.specs.declared.Decoded.the-variants as decodeds
-use Rattle.model.specs.declared.Replayed.the-variants.{Violated}
 use Rattle.laws.proofs.Accepted.{accepted-of}
 use Rattle.laws.proofs.Below.{all-below-drop}
 use Rattle.correspondence.specs.Meaning.{WellFormed}
 use Rattle.correspondence.specs.Fill.{fill}
 use Rattle.correspondence.specs.ReadBack.{rowsOf, AllHold}
 use Rattle.correspondence.specs.Trace.{brokenIn}
-use Rattle.correspondence.specs.Demand3.{tableRoom, scheduleRoom, itemRoom, writtenRows, Yes, DecodedAs, counted, NotRefused, AnsweredViolated, ViolatingRun, Demand3, ForEveryAcceptedCase}
+use Rattle.correspondence.specs.Demand3.{tableRoom, scheduleRoom, itemRoom, writtenRows, Yes, DecodedAs, counted, AnsweredViolated, ViolatingRun, Demand3, ForEveryAcceptedCase}
 use Rattle.correspondence.proofs.WellFormed.{well-formed}
-use Rattle.correspondence.proofs.Replies.{fits-of-answered, replayed-fits, PassesCheck, passes-of-meets, meets-of-passes, encoded-with-room, encoded-short, encoded-into, decoded-with-room, decoded-short, decoded-into, replayed-short}
+use Rattle.correspondence.proofs.Replies.{PassesCheck, passes-of-meets, meets-of-passes, encoded-with-room, encoded-short, encoded-into, decoded-with-room, decoded-short, decoded-into, replayed-short}
 use Rattle.correspondence.proofs.Rows.{meets-of-table, table-of-meets}
 use Rattle.correspondence.proofs.FirstFailing.{none-fails, all-hold-none-fails, checker-names-the-first, fails-of-first, rows-of-numbers}
 use Rattle.correspondence.proofs.Numbers.{length-of-assignment}
 use Rattle.correspondence.proofs.Bounds.{filled-below, decoded-below}
-use Rattle.correspondence.proofs.Claims.{eventsOf, FinishesRun, size-of-decode, run-of-meets, meets-of-run, decode-of-fill, fill-of-decode, violated-of-broken, broken-of-violated, adds-up, lengths-add-up}
+use Rattle.correspondence.proofs.Claims.{eventsOf, FinishesRun, size-of-decode, run-of-meets, meets-of-run, decode-of-fill, fill-of-decode, adds-up, lengths-add-up}
+use Rattle.correspondence.proofs.Courses.{up-to-none}
+use Rattle.correspondence.proofs.Endings.{legal-of-finished, broken-of-steps, first-of-some, some-of-first}
+use Rattle.correspondence.proofs.RunEnds.{finished-run}
 use Rattle.correspondence.proofs.RunReplies.{takes-of-answered, answered-of-takes, legal-completes, run-of-violated, violated-of-run, run-of-clean, clean-of-run, run-of-cut-off, cut-off-of-run, values-of-cut-off, values-of-legal, takes-of-violating}
 
 -- A result as long as the slice takes its place.
 written-whole : (result slice : List ℕ) → length result ≡ length slice → writtenOver result slice ≡ result
 unfolding writtenOver
 written-whole result slice h = ap (λ (k : ℕ). result ++ drop k slice) h ∙ ap (λ (xs : List ℕ). result ++ xs) (drop-length slice) ∙ append-nil result
-
-violated-of-answer : (outcome : Outcome) (k : ℕ) → answerOfRun outcome ≡ Violated k → (items : List ℕ) × (outcome ≡ violated k items)
-violated-of-answer (violated j items) k e = (items, ap (λ (x : ℕ). violated x items) (let z : j ≡ k = cc in z))
-violated-of-answer (refused14 j) k e = absurd (let z : _≡_ {A = ℕ} 0 1 = cc in omega arith)
-violated-of-answer (cutOff j items) k e = absurd (let z : _≡_ {A = ℕ} 0 1 = cc in omega arith)
-violated-of-answer (clean items) k e = absurd (let z : _≡_ {A = ℕ} 0 1 = cc in omega arith)
 
 -- A schedule whose run finishes and breaks an assertion, as the trace has it.
 record Breaking (case : Case) (schedule : List ℕ) : Type 0 where
@@ -96,25 +93,37 @@ module _ (bytes : List ℕ) (small : AllBelow 256 bytes) (accepted : verdict byt
 
   violated-of-breaking : (schedule : List ℕ) → Breaking case schedule → AnsweredViolated bytes schedule
   violated-of-breaking schedule run =
-      let found = violated-of-broken case wf schedule (run .finished) (run .some-broken) in (
+      let lens = blockLengths case schedule in
+      let given = givenIn case schedule in
+      let legal = legal-of-finished case given 0 lens (start case) (run .finished) in
+      let same = up-to-none (ends case given) (courseOf case schedule) (legal .1) in
+      let found = first-of-some case given (courseOf case schedule) (rw (← (broken-of-steps case given 0 lens (start case))) (run .some-broken)) in
+      let takes : Takes case schedule = record {
+        not-12 = run .has-size;
+        not-13 = lengths-add-up case wf schedule (run .finished);
+        not-14 = rw same (legal .0);
+      } in (
         run .numbers,
         (
-          found .0,
-          λ room h.
-              replayed-fits bytes schedule room
-              (record { accepted = accepted; has-room = h; has-size = run .has-size; adds-up = lengths-add-up case wf schedule (run .finished) })
-              ∙ ap answerOfRun (found .2),
+          found .0 .line .number,
+          λ room h. violated-of-run bytes accepted wf schedule room h (found .0 .line .number) takes (legal .1) (found .0, rw same (found .1), refl),
         ),
       )
 
   breaking-of-violated : (schedule : List ℕ) → AnsweredViolated bytes schedule → Breaking case schedule
   breaking-of-violated schedule answered =
-      let k = answered .1 .0 in
-      let answer = answered .1 .1 (itemRoom bytes) (le-refl (itemRoom bytes)) in
-      let fits = fits-of-answered bytes schedule (itemRoom bytes) (subst NotRefused (sym answer) tt) in
-      let found = violated-of-answer (runOf case schedule) k (sym (replayed-fits bytes schedule (itemRoom bytes) fits) ∙ answer) in
-      let run = broken-of-violated case wf schedule k (found .0) (fits .adds-up) (found .1) in
-      record { numbers = answered .0; has-size = fits .has-size; finished = run .0; some-broken = run .1 }
+      let lens = blockLengths case schedule in
+      let given = givenIn case schedule in
+      let reply = answered .1 .1 (itemRoom bytes) (le-refl (itemRoom bytes)) in
+      let run = run-of-violated bytes accepted wf schedule (itemRoom bytes) (le-refl (itemRoom bytes)) (answered .1 .0) reply in
+      let legal = run .1 .legal in
+      let first = rw (up-to-none (ends case given) (courseOf case schedule) legal) at (run .2 .1) in
+      record {
+        numbers = answered .0;
+        has-size = run .0 .not-12;
+        finished = finished-run case wf schedule (run .0 .not-13) (run .0 .not-14) legal;
+        some-broken = rw (broken-of-steps case given 0 lens (start case)) (some-of-first case given (courseOf case schedule) (run .2 .0) first);
+      }
 
   -- ---- What the decoder writes.
   decoded-as : (xs : List ℕ) → Yes bytes xs → DecodedAs bytes xs (decode case (assigned xs))

@@ -15,8 +15,8 @@ pub mod Breaks
 -- Runs, their traces and the machine's answer
 pub mod Traces
 pub mod Runs
-pub mod Endings
 pub mod Courses
+pub mod Endings
 -- Assignments and schedules as lists of numbers
 pub mod Numbers
 pub mod Inputs

@@ -1,7 +1,7 @@
 -- How the run of a schedule ends, in document 01's words: refused with 14, cut off, clean or violated; and a legal run whose
 -- block lengths add up is complete.
 -- Assumes nothing. Met again in Demand3.
-use mathlib.Core.Path.{_≡_, refl, sym, ap, _∙_, subst}
+use mathlib.Core.Path.{_≡_, refl, sym, ap, _∙_}
 use Prim.Native.Nat.{ℕ, zero, suc, _+_, _%_, _≤_, _<_}
 use mathlib.Core.Bool.{Bool, true, false, cond}
 use mathlib.Core.List.{List, [], _∷_, _++_, append-nil, append-assoc}
@@ -19,8 +19,8 @@ use Rattle.correspondence.specs.Meaning.{WellFormed, AllLines, Positive}
 use Rattle.correspondence.specs.Trace.{MayBeLeft, Finishes}
 use Rattle.correspondence.proofs.AllLines.{each-thread, all-dropped}
 use Rattle.correspondence.proofs.Blocks.{rests-kept, own-rest-after, other-rest-after}
-use Rattle.correspondence.proofs.Endings.{Ended, finished-of-ended}
-use Rattle.correspondence.proofs.Courses.{none-has-no-first, Numbered, numbered-append, along, Notes, quiet, loud, notes, Fate, met, cut, through, fate, stray-goes-on, run-goes, up-to-none}
+use Rattle.correspondence.proofs.Endings.{none-of-left, finished-of-legal}
+use Rattle.correspondence.proofs.Courses.{Numbered, numbered-append, along, Notes, quiet, loud, notes, Fate, met, cut, through, fate, stray-goes-on, run-goes, up-to-none}
 use Rattle.correspondence.proofs.Claims.{FinishesRun, adds-up}
 
 lines-run-append : (case : Case) (t : ℕ) (xs ys : List Step) → linesRun case t (xs ++ ys) ≡ linesRun case t xs ++ linesRun case t ys
@@ -31,10 +31,6 @@ lines-run-append case t (s ∷ xs) ys = go (eq-view t (s .block % case .T)) (lin
         → linesRun case t (s ∷ (xs ++ ys)) ≡ linesRun case t (s ∷ xs) ++ linesRun case t ys
     go (same p q) ih = rw q (ap (λ (ls : List Line). s .line ∷ ls) ih)
     go (diff p q) ih = rw q ih
-
-none-left : (ls : List Line) → AllLines MayBeLeft ls → ls ≡ []
-none-left [] h = refl
-none-left (l ∷ ls) h = absurd (h .0)
 
 module _ (case : Case) (given : ℕ → ℕ) where
   -- ---- The steps of a block, and of the blocks from i on.
@@ -56,7 +52,7 @@ module _ (case : Case) (given : ℕ → ℕ) where
 
   -- Where no line may be left, none is left in the last state.
   left-of-finished : (i : ℕ) (lens : List ℕ) (s : State) → Finishes case given i lens s → (t : ℕ) → getD (lastState case given i lens s .rests) t [] ≡ []
-  left-of-finished i [] s h t = none-left (getD (s .rests) t []) (each-thread MayBeLeft (s .rests) h t)
+  left-of-finished i [] s h t = none-of-left (getD (s .rests) t []) (each-thread MayBeLeft (s .rests) h t)
   left-of-finished i (len ∷ lens) s h t = left-of-finished (suc i) lens (nextState case given i len s) (h .1) t
 
 -- The steps of block i, and those after it.
@@ -180,20 +176,15 @@ module _ (case : Case) (wf : WellFormed case) (schedule : List ℕ) where
           ended-violated s none legal (rw (up-to-none (ends case given) (courseOf case schedule) legal) first)
           (e ∙ is 0 end ∙ ap end note ∙ rw (ne-eqb (s .line .number) 0 (λ p. omega arith)))
 
+  pub finished-run : lengthsAddUp case (blockLengths case schedule) ≡ true → NoneStrays case schedule → Legal case schedule → FinishesRun case schedule
+  finished-run sums none legal =
+      finished-of-legal case given wf 0 (blockLengths case schedule) (start case) (wf .thread-count) (adds-up case wf schedule sums)
+      (rw (up-to-none (ends case given) (courseOf case schedule) legal) at none) legal
+
   -- A legal run whose block lengths add up is complete.
   pub complete-of-legal : lengthsAddUp case (blockLengths case schedule) ≡ true → NoneStrays case schedule → Legal case schedule → Complete case schedule
-  unfolding runOf run
   complete-of-legal sums none legal t ht =
       ap (linesRun case t) (up-to-none (ends case given) (courseOf case schedule) legal)
       ∙ sym (append-nil (linesRun case t (courseOf case schedule)))
-      ∙ ap (λ (ls : List Line). linesRun case t (courseOf case schedule) ++ ls) (sym (left-of-finished case given 0 (blockLengths case schedule) (start case) finished t))
+      ∙ ap (λ (ls : List Line). linesRun case t (courseOf case schedule) ++ ls) (sym (left-of-finished case given 0 (blockLengths case schedule) (start case) (finished-run sums none legal) t))
       ∙ lines-of-course case given wf 0 (blockLengths case schedule) (start case) (wf .thread-count) t
-    where
-      ended : RunEnding → Ended (runOf case schedule)
-      ended (met-14 s first e) = absurd (none-has-no-first (strays case given) (runSteps case schedule) s none first)
-      ended (cut-off s none' first e) = absurd (none-has-no-first (ends case given) (courseOf case schedule) s legal first)
-      ended (ended-clean _ _ _ e) = subst Ended (sym e) tt
-      ended (ended-violated s _ _ _ e) = subst Ended (sym e) tt
-
-      finished : FinishesRun case schedule
-      finished = finished-of-ended case given wf 0 (blockLengths case schedule) (start case) 0 (wf .thread-count) (adds-up case wf schedule sums) (ended run-ending)

@@ -20,7 +20,7 @@ use Rattle.model.specs.declared.Encoded.the-variants.{Table, Refused}
 use Rattle.laws.specs.Accepted as laws
 use Rattle.laws.proofs.Views.{LeView, within, beyond, le-view}
 use Rattle.encoder.specs.Rows.{rowsAt, orderPart, tablePart, encodedAccepted}
-use Rattle.laws.proofs.Sizes.{length-numbers}
+use Rattle.laws.proofs.Sizes.{six-a-row}
 use Rattle.encoder.proofs.Writing.{rows-from-start}
 use Rattle.laws.proofs.Counting.{sumFrom}
 use Rattle.encoder.proofs.Records.{recordRows}
@@ -33,7 +33,7 @@ module _ (bytes : List ℕ) (ok : laws.Accepted bytes) where
 
   -- room for the parts
   table-size : length (numbersOf (table (caseOf bytes))) ≡ 6 * length (orderPart bytes) + 6 * length (tablePart bytes)
-  table-size = omega (arith, length-numbers (table (caseOf bytes)), ap length (table-is bytes ok), whole-size bytes)
+  table-size = omega (arith, six-a-row (table (caseOf bytes)), ap length (table-is bytes ok), whole-size bytes)
 
   pub order-fits : (room : ℕ) → length (numbersOf (table (caseOf bytes))) ≤ room → 6 * length (orderPart bytes) ≤ room
   order-fits room h = omega (arith, table-size)
@@ -46,15 +46,15 @@ module _ (bytes : List ℕ) (ok : laws.Accepted bytes) where
       b ≡ rowsAt a at (tablePart bytes) → b ≡ writtenOver (numbersOf (table (caseOf bytes))) d
   table-written d a b at h ea ep eb =
       whole-is bytes d a b at ea ep eb ∙ ap (rowsAt d 0) (table-is bytes ok)
-      ∙ rows-from-start d (table (caseOf bytes)) (omega (arith, length-numbers (table (caseOf bytes))))
+      ∙ rows-from-start d (table (caseOf bytes)) (omega (arith, six-a-row (table (caseOf bytes))))
 
 -- an accepted case
 pub too-short : (bytes : List ℕ) (count room : ℕ) → count ≡ length (table (caseOf bytes)) → room < 6 * count → Refused 10 0 ≡ encodedAccepted bytes room
 unfolding encodedAccepted
-too-short bytes count room e h = rw (lt-leb (length (numbersOf (table (caseOf bytes)))) room (omega (arith, length-numbers (table (caseOf bytes)))))
+too-short bytes count room e h = rw (lt-leb (length (numbersOf (table (caseOf bytes)))) room (omega (arith, six-a-row (table (caseOf bytes)))))
 
 pub long-enough : (bytes : List ℕ) (count room : ℕ) → count ≡ length (table (caseOf bytes)) → 6 * count ≤ room → length (numbersOf (table (caseOf bytes))) ≤ room
-long-enough bytes count room e h = omega (arith, length-numbers (table (caseOf bytes)))
+long-enough bytes count room e h = omega (arith, six-a-row (table (caseOf bytes)))
 
 pub table-answered :
     (bytes : List ℕ) (count room R blocks : ℕ) → count ≡ length (table (caseOf bytes)) → 6 * count ≤ room → R ≡ records bytes →
@@ -92,4 +92,4 @@ written-fits bytes room r constraints variables e h = go (verdict bytes) refl (l
     go Accepted ev (beyond p q) = absurd (let z : _≡_ {A = ℕ} 0 1 = cc (rw (ev, q) at e) in omega arith)
     go Accepted ev (within p q) =
         let same : constraints ≡ length (table (caseOf bytes)) = cc (rw (ev, q) at e) in
-        omega (arith, length-numbers (table (caseOf bytes)))
+        omega (arith, six-a-row (table (caseOf bytes)))

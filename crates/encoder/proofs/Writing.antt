@@ -12,7 +12,7 @@ use Rattle.model.specs.Lists.{writtenOver}
 use Rattle.model.specs.Table.{Row, row, numbersOf}
 use Rattle.laws.specs.Written.{numbersAt}
 use Rattle.laws.proofs.Writing as written
-use Rattle.laws.proofs.Sizes.{length-numbers}
+use Rattle.laws.proofs.Sizes.{six-a-row}
 use Rattle.encoder.specs.Rows.{rowsAt}
 
 pub numbers-append : (xs ys : List Row) → numbersOf (xs ++ ys) ≡ numbersOf xs ++ numbersOf ys
@@ -29,7 +29,7 @@ pub rows-append : (d : List ℕ) (at : ℕ) (xs ys : List Row) → rowsAt d at (
 unfolding rowsAt numbersAt
 rows-append d at xs ys =
     ap (sets d at) (numbers-append xs ys) ∙ written.numbers-append d at (numbersOf xs) (numbersOf ys)
-    ∙ ap (λ (k : ℕ). sets (sets d at (numbersOf xs)) (at + k) (numbersOf ys)) (length-numbers xs)
+    ∙ ap (λ (k : ℕ). sets (sets d at (numbersOf xs)) (at + k) (numbersOf ys)) (six-a-row xs)
 
 pub length-rows : (d : List ℕ) (at : ℕ) (rows : List Row) → length (rowsAt d at rows) ≡ length d
 unfolding rowsAt
@@ -38,7 +38,7 @@ length-rows d at rows = length-sets d at (numbersOf rows)
 -- from the start: the rows' numbers, and then the old rest
 pub rows-from-start : (d : List ℕ) (rows : List Row) → 6 * length rows ≤ length d → rowsAt d 0 rows ≡ writtenOver (numbersOf rows) d
 unfolding rowsAt numbersAt
-rows-from-start d rows h = written.numbers-from-start d (numbersOf rows) (omega (arith, length-numbers rows))
+rows-from-start d rows h = written.numbers-from-start d (numbersOf rows) (omega (arith, six-a-row rows))
 
 pub six-stores :
     (d : List ℕ) (at a b c e f g : ℕ) →

@@ -1,6 +1,6 @@
 -- How large an accepted case can be, and its table, an assignment, a schedule and the items. Whoever calls can lend slices of
 -- these sizes, and refusal 10 never meets them.
--- Assumes nothing. Met again in the encoder's counts and in the listing's text.
+-- Assumes nothing. Met again where encoder, checker and decoder count, and in the listing's text.
 use mathlib.Core.Path.{_≡_, refl}
 use Prim.Native.Nat.{ℕ, zero, suc, _+_, _*_, _%_, _≤_}
 use mathlib.Core.Bool.{Bool, true, false}
@@ -8,7 +8,7 @@ use mathlib.Core.List.{List, [], _∷_, _++_, reverse}
 use native.Mathlib.Omega.{arith}
 use native.Mathlib.Nat.{mul-le-mul, zero-mul, suc-mul, le-refl}
 use lib.ListN.{length, length-append}
-use Rattle.model.specs.Limits.{mostCaseBytes, mostSwitches, mostItems, mostVariables, mostScheduleNumbers, mostConstraints, mostTableNumbers}
+use Rattle.model.specs.Limits.{mostCaseBytes, mostRecords, mostSwitches, mostItems, mostVariables, mostScheduleNumbers, mostConstraints, mostTableNumbers}
 use Rattle.model.specs.CaseFile.{Kind, compute, store, load, input, assert, assume, lock, unlock, Line, Case, records, threadCount, switchCount, chains, caseOf, linesOf, itemCount, sumOfLines, sumOfThreads}
 use Rattle.model.specs.Line.{isInput}
 use Rattle.model.specs.Assignment.{variables}
@@ -23,10 +23,10 @@ use Rattle.laws.proofs.Counting.{sum-of-bits}
 use Rattle.laws.proofs.RecordSums.{lines-add-up}
 
 -- Six numbers a row.
-pub length-numbers : (rows : List Row) → length (numbersOf rows) ≡ 6 * length rows
+pub six-a-row : (rows : List Row) → length (numbersOf rows) ≡ 6 * length rows
 unfolding numbersOf
-length-numbers [] = refl
-length-numbers (w ∷ rows) = omega (arith, length-numbers rows)
+six-a-row [] = refl
+six-a-row (w ∷ rows) = omega (arith, six-a-row rows)
 
 -- The lines of all threads.
 abbrev lineCount : List (List Line) → ℕ
@@ -95,12 +95,12 @@ values-at-most case (ls ∷ threads) =
     )
 
 -- The 6s: one for each block but the last and each item.
-items-length : (case : Case) (lines : List Line) (i g many : ℕ) → length (itemRows case lines i g many) ≡ many
+pub items-length : (case : Case) (lines : List Line) (i g many : ℕ) → length (itemRows case lines i g many) ≡ many
 unfolding itemRows
 items-length case lines i g zero = refl
 items-length case lines i g (suc many) = omega (arith, items-length case lines i (suc g) many)
 
-blocks-length : (case : Case) (i many : ℕ) → length (blockRows case i many) ≡ many * itemCount case
+pub blocks-length : (case : Case) (i many : ℕ) → length (blockRows case i many) ≡ many * itemCount case
 unfolding blockRows
 blocks-length case i zero = omega (arith, zero-mul (itemCount case))
 blocks-length case i (suc many) =
@@ -145,27 +145,30 @@ module _ (bytes : List ℕ) (ok : Accepted bytes) where
   schedule-numbers =
       omega (arith, ok .few-records, ok .few-switches, all-inputs-at-most (chains bytes 0 (threadCount bytes)), lines-are-few bytes ok)
 
+  pub order-rows : length (allOrderRows (caseOf bytes) 0 (caseOf bytes .threads)) ≤ 2 * mostRecords
+  order-rows = omega (arith, orders-length (caseOf bytes) 0 (caseOf bytes .threads), lines-are-few bytes ok, ok .few-records)
+
+  pub value-rows : length (allValueRows (caseOf bytes) (caseOf bytes .threads)) ≤ 2 * mostRecords
+  value-rows = omega (arith, values-at-most (caseOf bytes) (caseOf bytes .threads), lines-are-few bytes ok, ok .few-records)
+
   pub table-rows : length (table (caseOf bytes)) ≤ mostConstraints
   unfolding table
   table-rows =
       let case = caseOf bytes in
-      let threads = chains bytes 0 (threadCount bytes) in
       let blocks = blockRows case 0 (switchCount bytes) in
       omega (
         arith,
-        length-append (allOrderRows case 0 threads) (allValueRows case threads ++ (blocks ++ (goalRow ∷ []))),
-        length-append (allValueRows case threads) (blocks ++ (goalRow ∷ [])),
+        length-append (allOrderRows case 0 (case .threads)) (allValueRows case (case .threads) ++ (blocks ++ (goalRow ∷ []))),
+        length-append (allValueRows case (case .threads)) (blocks ++ (goalRow ∷ [])),
         length-append blocks (goalRow ∷ []),
-        orders-length case 0 threads,
-        values-at-most case threads,
+        order-rows,
+        value-rows,
         blocks-length case 0 (switchCount bytes),
-        lines-are-few bytes ok,
-        ok .few-records,
         block-values-are-few,
       )
 
   pub table-numbers : length (numbersOf (table (caseOf bytes))) ≤ mostTableNumbers
-  table-numbers = omega (arith, length-numbers (table (caseOf bytes)), table-rows)
+  table-numbers = omega (arith, six-a-row (table (caseOf bytes)), table-rows)
 
 -- All of them, for every list of bytes that no refusal from 1 to 9 meets.
 pub sizes : (bytes : List ℕ) → verdict bytes ≡ verdicts.Accepted → Sizes bytes

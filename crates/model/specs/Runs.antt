@@ -108,7 +108,7 @@ Complete case schedule = (t : ℕ) → t < case .T → linesRun case t (runSteps
 abbrev pub Legal : Case → List ℕ → Type 0
 Legal case schedule = None (ends case (givenIn case schedule)) (courseOf case schedule)
 
--- The run's first zero assert is that of record k; it has none; and the first line whose assume or lock fails is record k.
+-- The run's first zero assert is that of record k; it has none; and this is the first step whose assume or lock fails.
 abbrev pub FirstBroken : Case → List ℕ → ℕ → Type 0
 FirstBroken case schedule k = FirstAt (broken case (givenIn case schedule)) (runSteps case schedule) k
 

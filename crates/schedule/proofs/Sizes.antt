@@ -1,17 +1,16 @@
 -- Laws of the number of input lines: there are as many as input records.
 -- Assumes nothing.
 use mathlib.Core.Path.{_≡_, refl, sym, _∙_}
-use Prim.Native.Nat.{ℕ, zero, suc, _+_, _*_, _≤_, _<_}
+use Prim.Native.Nat.{ℕ, _+_, _≤_, _<_}
 use mathlib.Core.Bool.{Bool, true, false, cond}
 use mathlib.Core.List.{List, [], _∷_}
 use native.Mathlib.Omega.{arith}
 use lib.ListN.{length, length-append}
 use Rattle.model.specs.Word.{bit}
-use Rattle.model.specs.CaseFile.{Line, records, threadCount, firstRecord, recordField, kindOf, chains, caseOf, sumOfLines, sumOfThreads}
+use Rattle.model.specs.CaseFile.{Line, records, recordField, kindOf, caseOf, sumOfLines, sumOfThreads}
 use Rattle.model.specs.Line.{isInput}
-use Rattle.model.specs.Schedule.{inputLines, allInputLines, scheduleSize}
-use Rattle.laws.specs.Accepted.{Accepted, linesFrom}
-use Rattle.laws.proofs.Lines.{few-lines-from}
+use Rattle.model.specs.Schedule.{inputLines, allInputLines}
+use Rattle.laws.specs.Accepted.{Accepted}
 use Rattle.laws.proofs.RecordSums.{lines-add-up, recordsFrom, records-all, records-more, records-none}
 
 pub input-is-4 : (k : ℕ) → k ≡ 4 → 1 ≡ bit (isInput (kindOf k))
@@ -25,33 +24,6 @@ inputs-more l ls = go (isInput (l .kind))
     go : (q : Bool) → length (cond q (l ∷ inputLines ls) (inputLines ls)) ≡ bit q + length (inputLines ls)
     go true = omega arith
     go false = omega arith
-
-inputs-at-most : (ls : List Line) → length (inputLines ls) ≤ length ls
-unfolding inputLines
-inputs-at-most [] = omega arith
-inputs-at-most (l ∷ ls) = go (isInput (l .kind)) (inputs-at-most ls)
-  where
-    go : (q : Bool) → length (inputLines ls) ≤ length ls → length (cond q (l ∷ inputLines ls) (inputLines ls)) ≤ suc (length ls)
-    go true h = omega arith
-    go false h = omega arith
-
-inputs-few : (bytes : List ℕ) → Accepted bytes → (t k : ℕ) → k ≤ records bytes → length (inputLines (linesFrom bytes t k)) ≤ 64
-inputs-few bytes ok t k h = omega (arith, inputs-at-most (linesFrom bytes t k), few-lines-from bytes ok t k h)
-
-inputs-at-most-64 : (bytes : List ℕ) → Accepted bytes → (t many : ℕ) → t + many ≤ threadCount bytes → length (allInputLines (chains bytes t many)) ≤ 64 * many
-unfolding allInputLines chains
-inputs-at-most-64 bytes ok t zero h = omega arith
-inputs-at-most-64 bytes ok t (suc many) h =
-    omega (
-      arith,
-      length-append (inputLines (linesFrom bytes t (firstRecord bytes t))) (allInputLines (chains bytes (suc t) many)),
-      inputs-few bytes ok t (firstRecord bytes t) (ok .firsts t (omega arith)),
-      inputs-at-most-64 bytes ok (suc t) many (omega arith),
-    )
-
-pub schedule-fits : (bytes : List ℕ) → Accepted bytes → scheduleSize (caseOf bytes) ≤ 272
-schedule-fits bytes ok =
-    omega (arith, inputs-at-most-64 bytes ok 0 (threadCount bytes) (omega arith), ok .few-threads, ok .few-switches)
 
 -- 1 for an input record.
 abbrev inputAt : List ℕ → ℕ → ℕ

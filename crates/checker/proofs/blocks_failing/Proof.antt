@@ -10,7 +10,7 @@ use Rattle.model.specs.Assignment.{assignmentOf}
 use Rattle.model.specs.Table.{blockRows}
 use Rattle.model.specs.Holds.{firstFailing}
 use Rattle.encoder.proofs.Blocks.{few-blocks}
-use Rattle.checker.proofs.Counts.{items-length, blocks-length}
+use Rattle.laws.proofs.Sizes.{items-length, blocks-length}
 use Rattle.checker.proofs.Seeking.{Seeking, seeking-start, seeking-end, seeking-room, seeking-more, seeking-found}
 use Rattle.checker.proofs.Blocks.{blocks-more, blocks-none, blocks-all}
 use Rattle.checker.proofs.blocks_failing.Statement.{statement}

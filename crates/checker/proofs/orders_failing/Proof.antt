@@ -8,7 +8,7 @@ use Rattle.model.specs.CaseFile.{caseOf}
 use Rattle.model.specs.Assignment.{assignmentOf}
 use Rattle.model.specs.Table.{allOrderRows}
 use Rattle.model.specs.Holds.{firstFailing}
-use Rattle.checker.proofs.Counts.{all-orders-few}
+use Rattle.laws.proofs.Sizes.{order-rows}
 use Rattle.checker.proofs.Orders.{AllOrdering, all-ordering-start, all-ordering-end, all-ordering-room, all-ordering-found, all-ordering-more}
 use Rattle.checker.proofs.orders_failing.Statement.{statement}
 use Rattle.checker.proofs.orders_failing.Tie as tie
@@ -29,7 +29,7 @@ loop-holds : tie.Need-loop-holds Inv-loop μ-loop
 loop-holds c = (refl, all-ordering-start _ _ _ (c .field-at .ensures))
 
 order-failing-requires : tie.Need-order-failing-requires Inv-loop μ-loop
-order-failing-requires c κs = (c .before .before .before .before .before .pre, ((omega (arith, c .loop-test .taken, c .before .before .field-at .ensures), c .before .loop .inv .1 .seeks .some), omega (arith, all-ordering-room _ _ _ _ _ _ _ (c .before .loop .inv .1) (c .loop-test .taken), all-orders-few _ (c .before .before .before .before .before .pre .0))))
+order-failing-requires c κs = (c .before .before .before .before .before .pre, ((omega (arith, c .loop-test .taken, c .before .before .field-at .ensures), c .before .loop .inv .1 .seeks .some), omega (arith, all-ordering-room _ _ _ _ _ _ _ (c .before .loop .inv .1) (c .loop-test .taken), order-rows _ (c .before .before .before .before .before .pre .0))))
 
 returns : tie.Need-returns Inv-loop μ-loop
 returns c = record { first = all-ordering-found _ _ _ _ _ _ _ (c .before .before .before .before .loop .inv .1) (c .before .before .before .loop-test .taken) _ _ (c .before .before .order-failing .ensures) (c .if1 .taken); after = λ z. absurd (c .if1 .taken z) }

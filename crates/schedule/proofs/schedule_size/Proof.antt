@@ -8,7 +8,8 @@ use Rattle.model.specs.Line.{isInput}
 use Rattle.model.specs.Schedule.{scheduleSize}
 use Rattle.model.specs.CaseFile.{kindOf, records, caseOf}
 use Rattle.case_file.specs.declared.Record.{Record}
-use Rattle.schedule.proofs.Sizes.{inputsFrom, inputs-start, inputs-go-on, inputs-end, schedule-fits}
+use Rattle.laws.proofs.Sizes.{schedule-numbers}
+use Rattle.schedule.proofs.Sizes.{inputsFrom, inputs-start, inputs-go-on, inputs-end}
 use Rattle.schedule.proofs.schedule_size.Statement.{statement}
 use Rattle.schedule.proofs.schedule_size.Tie as tie
 
@@ -40,7 +41,7 @@ inputs-of-requires : tie.Need-inputs-of-requires Inv-loop μ-loop
 inputs-of-requires c κs = search needs
 
 add-n-2 : tie.Need-add-n-2 Inv-loop μ-loop
-add-n-2 c = record { fits = omega (arith, c .before .before .before .loop .inv .1, inputs-go-on (c .before .before .before .before .before .before .before .args .case .now) (c .before .before .before .loop .k) (omega (arith, c .before .before .before .loop .inv .0 .0)) _ (c .inputs-of .ensures ∙ ap (λ (l : Record). bit (isInput (kindOf (l .kind)))) (c .before .record-at .ensures)), schedule-fits (c .before .before .before .before .before .before .before .args .case .now) (c .before .before .before .before .before .before .before .pre)) }
+add-n-2 c = record { fits = omega (arith, c .before .before .before .loop .inv .1, inputs-go-on (c .before .before .before .before .before .before .before .args .case .now) (c .before .before .before .loop .k) (omega (arith, c .before .before .before .loop .inv .0 .0)) _ (c .inputs-of .ensures ∙ ap (λ (l : Record). bit (isInput (kindOf (l .kind)))) (c .before .record-at .ensures)), schedule-numbers (c .before .before .before .before .before .before .before .args .case .now) (c .before .before .before .before .before .before .before .pre)) }
 
 add-k : tie.Need-add-k Inv-loop μ-loop
 add-k c = record { fits = omega (arith, c .before .before .before .loop .inv .0 .0, c .before .before .before .before .before .before .before .pre .few-records) }
@@ -54,7 +55,7 @@ loop-again c = ((c .before .before .before .loop .inv .0 .0, omega arith), omega
 returns : tie.Need-returns Inv-loop μ-loop
 returns c =
     let e : c .before .loop .n ≡ scheduleSize (caseOf (c .before .before .before .before .before .args .case .now)) = omega (arith, c .before .loop .inv .1, inputs-end (c .before .before .before .before .before .args .case .now) (c .before .loop .k) (omega (arith, c .before .loop .inv .0 .0))) in
-    (e, omega (arith, e, schedule-fits (c .before .before .before .before .before .args .case .now) (c .before .before .before .before .before .pre)))
+    (e, omega (arith, e, schedule-numbers (c .before .before .before .before .before .args .case .now) (c .before .before .before .before .before .pre)))
 
 pub schedule-size-spec : {M : Type 1} → statement M
 schedule-size-spec =
