@@ -9,13 +9,28 @@
 #               same cell, or a module or a crate itself; in README.md, where it begins with a capital, a module of the
 #               folder named before it in the same cell
 # and anything else (commands, types, words of other programs) is not looked at. Nothing is left to be filled in.
+# README.md names every module of definitions that the one statement rests on: those that it reaches by imports.
 # Ends with a line 'N passed, M failed'.
 cd -- "$(dirname -- "$0")/.." || exit
 there=$(mktemp) || exit
 trap 'rm -f -- "$there"' EXIT
 
+# imports FILE..: the modules of definitions that the files import.
+imports() {
+    sed -nE 's/^(ghost )?use Rattle·([a-z_]+)(·specs)?\.specs\.([A-Z][A-Za-z0-9]*)( |\.).*/crates\/\2\/specs\/\4.antt/p' -- "$@"
+}
+
+# From the one statement and the exported calls, until nothing more is reached.
+all=$(imports crates/menduvo/proofs/Delivered.antt crates/menduvo/src/lib.rt | sort -u)
+while [ "$all" != "$rest" ]; do
+    rest=$all
+    # shellcheck disable=SC2086 # paths without blanks, one word each
+    all=$({ echo "$rest"; imports $rest; } | sort -u)
+done
+
 # What there is, a line for each thing: its sort, then where it is, then its name.
 {
+    echo "$all" | sed 's/^/rests /'
     find . \( -name target -o -name .git \) -prune -o -print | sed 's|^\./|path |'
     sed -n 's/^\([a-z_]*\):.*/crate \1/p' crates.txt
     sed -n 's/^ *\(\.*group(\)\{0,1\}"\([a-z0-9-]*\)",.*/group \2/p' tests/src/groups/mod.rs
@@ -49,6 +64,7 @@ awk '
     FILENAME != last { last = FILENAME; file++ }
     file == 1 {
         is[$0] = 1
+        if ($1 == "rests") rests[$2] = 1
         if ($1 == "name") { is["in " $3 " " $4] = is["of " $2 " " $4] = is["any " $4] = 1 }
         if ($1 == "source") { is["of " $2 " " $3] = is["any " $3] = 1 }
         if ($1 == "module") { is["any " $3] = is["module " $3] = 1 }
@@ -70,7 +86,10 @@ awk '
     }
     # from: what the bare names of this cell belong to
     function bare(t) {
-        if (FILENAME == "README.md") { if (t ~ /^[A-Z]./) result(("path " folder t ".antt") in is, t) }
+        if (FILENAME == "README.md") {
+            if (t ~ /^[A-Z]./) result(("path " folder t ".antt") in is, t)
+            named_in_readme[folder t ".antt"] = 1
+        }
         else if (FILENAME != "docs/SPEC-MAP.md" || from == "") result(("any " t) in is, t)
         else result((from " " t) in is || ("crate " t) in is || ("module " t) in is, t)
     }
@@ -101,6 +120,8 @@ awk '
         }
     }
     END {
+        FILENAME = "README.md"
+        for (module in rests) result(module in named_in_readme, "does not name " module ", which the one statement rests on")
         print passed + 0 " passed, " failed + 0 " failed"
         exit failed > 0
     }' "$there" README.md docs/PROOF.md docs/SPEC-MAP.md docs/DECISIONS.md

@@ -17,7 +17,7 @@ use Rattle.model.specs.CaseFile.{Line, Case, linesOf}
 use Rattle.model.specs.Assignment.{Assignment}
 use Rattle.model.specs.Schedule.{linesInBlock}
 use Rattle.correspondence.specs.Meaning.{AllThreads, WellFormed, Ordered, Counted}
-use Rattle.correspondence.specs.Trace.{MayBeLeft}
+use Rattle.correspondence.specs.Agreement.{MayBeLeft}
 use Rattle.correspondence.proofs.AllLines.{all-threads, each-thread}
 use Rattle.correspondence.proofs.Order.{runMore, runMore-and-rest, RunBefore, NextIn, run-before-weakened, run-before-has-none, run-before-after-block, linesInBlock-of-reverse, ordered-weakened, ordered-past-other-thread, ordered-end-is-left, left-is-ordered, counted-block-is-next, next-is-ordered, next-is-counted}
 

@@ -14,7 +14,8 @@ use Rattle.model.specs.Assignment.{Assignment}
 use Rattle.model.specs.Copies.{readsAfter}
 use Rattle.model.specs.Runs.{nextState}
 use Rattle.correspondence.specs.Meaning.{WellFormed, AllLines, Positive, breaksIn, sumBelow}
-use Rattle.correspondence.specs.Trace.{Event, blockEvents, leftEvents, allLeftEvents, events, brokenIn, MayBeLeft}
+use Rattle.correspondence.specs.Trace.{Event, blockEvents, leftEvents, allLeftEvents, events}
+use Rattle.correspondence.specs.Agreement.{brokenIn, MayBeLeft}
 use Rattle.correspondence.proofs.Sums.{sumBelow-zero, sumBelow-differs-at}
 use Rattle.correspondence.proofs.Step.{MemoryFits, step-fits, Corresponds, step-keeps-correspondence}
 use Rattle.correspondence.proofs.AllLines.{each-thread}

@@ -16,7 +16,8 @@ use Rattle.model.specs.Assignment.{Assignment, variables, assignmentOf}
 use Rattle.model.specs.Schedule.{allInputLines, blockLengths, inputValues, givenIn, scheduleSize, stepsOf, lengthsAddUp, countedLengths, allDecodedValues, decode}
 use Rattle.laws.proofs.Ranges.{all-from-gives, all-from-of}
 use Rattle.correspondence.specs.Meaning.{WellFormed, Meets, DecodesTo, breakCount}
-use Rattle.correspondence.specs.Trace.{Event, events, snapshots, brokenIn, Finishes, Agrees, AgreesItems}
+use Rattle.correspondence.specs.Trace.{Event, events, snapshots}
+use Rattle.correspondence.specs.Agreement.{brokenIn, Finishes, Agrees, AgreesItems}
 use Rattle.correspondence.specs.Fill.{tracedRun, fill}
 use Rattle.correspondence.proofs.Runs.{sound, complete, traced-agrees, counted, same-records, same-blocks}
 use Rattle.correspondence.proofs.Traces.{agrees-transfer, items-transfer}

@@ -26,7 +26,7 @@ use Rattle.laws.proofs.Below.{all-below-drop}
 use Rattle.correspondence.specs.Meaning.{WellFormed}
 use Rattle.correspondence.specs.Fill.{fill}
 use Rattle.correspondence.specs.ReadBack.{rowsOf, AllHold}
-use Rattle.correspondence.specs.Trace.{brokenIn}
+use Rattle.correspondence.specs.Agreement.{brokenIn}
 use Rattle.correspondence.specs.Demand3.{tableRoom, scheduleRoom, itemRoom, writtenRows, Yes, DecodedAs, counted, AnsweredViolated, ViolatingRun, Demand3, ForEveryAcceptedCase}
 use Rattle.correspondence.proofs.WellFormed.{well-formed}
 use Rattle.correspondence.proofs.Replies.{PassesCheck, passes-of-meets, meets-of-passes, encoded-with-room, encoded-short, encoded-into, decoded-with-room, decoded-short, decoded-into, replayed-short}

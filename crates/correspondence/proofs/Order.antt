@@ -14,7 +14,7 @@ use Rattle.laws.proofs.Views.{EqView, same, diff, eq-view}
 use Rattle.model.specs.CaseFile.{Line, Case}
 use Rattle.model.specs.Schedule.{linesInBlock}
 use Rattle.correspondence.specs.Meaning.{AllLines, Ordered}
-use Rattle.correspondence.specs.Trace.{MayBeLeft}
+use Rattle.correspondence.specs.Agreement.{MayBeLeft}
 
 -- The lines already run, latest first, after so many more of these.
 abbrev pub runMore : ℕ → List Line → List Line → List Line

@@ -16,7 +16,7 @@ use Rattle.model.specs.Runs.{Step, blockSteps, nextState, course, lastState, en
 use Rattle.laws.proofs.Views.{EqView, same, diff, eq-view}
 use Rattle.laws.proofs.Ranges.{all-from-of}
 use Rattle.correspondence.specs.Meaning.{WellFormed, AllLines, Positive}
-use Rattle.correspondence.specs.Trace.{MayBeLeft, Finishes}
+use Rattle.correspondence.specs.Agreement.{MayBeLeft, Finishes}
 use Rattle.correspondence.proofs.AllLines.{each-thread, all-dropped}
 use Rattle.correspondence.proofs.Blocks.{rests-kept, own-rest-after, other-rest-after}
 use Rattle.correspondence.proofs.Endings.{none-of-left, finished-of-legal}

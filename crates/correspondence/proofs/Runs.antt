@@ -13,7 +13,8 @@ use Rattle.model.specs.Machine.{start}
 use Rattle.model.specs.Assignment.{Assignment}
 use Rattle.model.specs.Copies.{latest, valueBefore, readLocal}
 use Rattle.correspondence.specs.Meaning.{WellFormed, Meets, DecodesTo, breakCount}
-use Rattle.correspondence.specs.Trace.{events, snapshots, brokenIn, sumOfEvents, Finishes, Agrees, AgreesItems}
+use Rattle.correspondence.specs.Trace.{events, snapshots}
+use Rattle.correspondence.specs.Agreement.{brokenIn, sumOfEvents, Finishes, Agrees, AgreesItems}
 use Rattle.correspondence.specs.Fill.{tracedRun}
 use Rattle.correspondence.proofs.Blocks.{BlocksNext, blocks-of-order, order-of-blocks}
 use Rattle.correspondence.proofs.Values.{Invariant, BlocksRun, blocks-run, decoded-of-run}

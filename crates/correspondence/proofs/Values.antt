@@ -17,7 +17,7 @@ use Rattle.model.specs.Assignment.{Assignment}
 use Rattle.model.specs.Copies.{latest, valueBefore, readLocal, readItem, readName, readAfter, walkBack}
 use Rattle.correspondence.specs.Meaning.{WellFormed, AllLines, Positive, Ordered, BlockMet}
 use Rattle.model.specs.Runs.{endMemory, nextState}
-use Rattle.correspondence.specs.Trace.{MayBeLeft, Snapshot}
+use Rattle.correspondence.specs.Agreement.{MayBeLeft, Snapshot}
 use Rattle.correspondence.proofs.Copies.{item-of-name}
 use Rattle.correspondence.proofs.Step.{MemoryFits, Corresponds}
 use Rattle.correspondence.proofs.AllLines.{each-thread, all-earlier-and-rest}

@@ -1,5 +1,6 @@
 pub mod Meaning
 pub mod Trace
+pub mod Agreement
 pub mod Fill
 pub mod KindByKind
 pub mod ReadBack
