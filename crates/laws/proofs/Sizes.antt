@@ -1,23 +1,33 @@
 -- How large an accepted case can be, and its table, an assignment, a schedule and the items. Whoever calls can lend slices of
 -- these sizes, and refusal 10 never meets them.
--- Assumes nothing. Met again where encoder, checker and decoder count, and in the listing's text.
+-- Assumes nothing. Met again where encoder, checker and decoder count, in the listing's text, and in menduvo's Delivered.
 use mathlib.Core.Path.{_≡_, refl}
-use Prim.Native.Nat.{ℕ, zero, suc, _+_, _*_, _%_, _≤_}
+use mathlib.Core.Logic.{_≢_}
+use Prim.Native.Nat.{ℕ, zero, suc, _+_, _*_, _%_, _≤_, _<_}
 use mathlib.Core.Bool.{Bool, true, false}
 use mathlib.Core.List.{List, [], _∷_, _++_, reverse}
 use native.Mathlib.Omega.{arith}
 use native.Mathlib.Nat.{mul-le-mul, zero-mul, suc-mul, le-refl}
+use borrow.Author.Tests.{le-leb}
+use lib.Dec.{eqb}
 use lib.ListN.{length, length-append}
+use Rattle.model.specs.Lists.{unless}
 use Rattle.model.specs.Limits.{mostCaseBytes, mostRecords, mostSwitches, mostItems, mostVariables, mostScheduleNumbers, mostConstraints, mostTableNumbers}
 use Rattle.model.specs.CaseFile.{Kind, compute, store, load, input, assert, assume, lock, unlock, Line, Case, records, threadCount, switchCount, chains, caseOf, linesOf, itemCount, sumOfLines, sumOfThreads}
 use Rattle.model.specs.Line.{isInput}
 use Rattle.model.specs.Assignment.{variables}
 use Rattle.model.specs.Table.{Row, orderRows, demandRows, valueRows, allOrderRows, allValueRows, itemRows, blockRows, goalRow, table, numbersOf}
-use Rattle.model.specs.Schedule.{inputLines, allInputLines, scheduleSize}
-use Rattle.model.specs.Accept.{verdict}
+use Rattle.model.specs.Machine.{Outcome, refused14, cutOff, violated, clean}
+use Rattle.model.specs.Schedule.{inputLines, allInputLines, scheduleSize, blockLengths, lengthsAddUp, runOf}
+use Rattle.model.specs.Accept.{sizeOk, threadsOk, switchesOk, itemsOk, absentOk, linksOk, reachedOk, lengthsOk, brokenRecord, verdict}
+use Rattle.model.specs.Answers.{onCase, encoded, failedIn, decoded, answerOfRun, replayed, verdictNumbers, encodedNumbers, decodedNumbers, replayedNumbers}
+use Rattle.model.specs.declared.Verdict.{Verdict}
 use Rattle.model.specs.declared.Verdict.the-variants as verdicts
+use Rattle.model.specs.declared.Encoded.the-variants as encodeds
+use Rattle.model.specs.declared.Decoded.the-variants as decodeds
+use Rattle.model.specs.declared.Replayed.the-variants as replayeds
 use Rattle.laws.specs.Accepted.{Accepted}
-use Rattle.laws.specs.Sizes.{Sizes}
+use Rattle.laws.specs.Sizes.{Sizes, NeverTooShort}
 use Rattle.laws.proofs.Accepted.{accepted-of}
 use Rattle.laws.proofs.Counting.{sum-of-bits}
 use Rattle.laws.proofs.RecordSums.{lines-add-up}
@@ -181,3 +191,71 @@ sizes bytes accepted =
       schedule-numbers = schedule-numbers bytes ok;
       item-numbers = item-numbers bytes ok;
     }
+
+-- ---- Slices of these sizes are never refused with 10
+
+-- Checks 1 to 9 have the numbers 1 to 9.
+below-10-unless : (test : Bool) (number place : ℕ) (next : Verdict) → number < 10 → verdictNumbers next .refusal < 10
+    → verdictNumbers (unless test (verdicts.Refused number place) next) .refusal < 10
+below-10-unless true number place next h rest = rest
+below-10-unless false number place next h rest = h
+
+verdict-below-10 : (bytes : List ℕ) → verdictNumbers (verdict bytes) .refusal < 10
+unfolding verdict
+verdict-below-10 bytes =
+    below-10-unless (sizeOk bytes) 1 0 _ (omega arith)
+    (below-10-unless (threadsOk bytes) 2 0 _ (omega arith)
+    (below-10-unless (switchesOk bytes) 3 0 _ (omega arith)
+    (below-10-unless (itemsOk bytes) 4 0 _ (omega arith)
+    (below-10-unless (absentOk bytes) 5 0 _ (omega arith)
+    (below-10-unless (linksOk bytes) 6 0 _ (omega arith)
+    (below-10-unless (reachedOk bytes) 7 0 _ (omega arith)
+    (below-10-unless (lengthsOk bytes) 8 0 _ (omega arith)
+    (below-10-unless (eqb (brokenRecord bytes) 0) 9 (brokenRecord bytes) verdicts.Accepted (omega arith) (omega arith)))))))))
+
+refused-not-10 : (bytes : List ℕ) (number place : ℕ) → verdict bytes ≡ verdicts.Refused number place → number ≢ 10
+refused-not-10 bytes number place e ten = let few : number < 10 = rw e at (verdict-below-10 bytes) in omega arith
+
+-- What comes after the room: 11 and 15 of the decoder, 12 and 13 of the replayer, and the run.
+decoded-not-10 : (sized none : Bool) (failed size : ℕ)
+    → decodedNumbers (unless sized (decodeds.Refused 11 0) (unless none (decodeds.Refused 15 failed) (decodeds.Schedule size))) .refusal ≢ 10
+decoded-not-10 true true failed size = λ ten. omega arith
+decoded-not-10 true false failed size = λ ten. omega arith
+decoded-not-10 false none failed size = λ ten. omega arith
+
+run-not-10 : (outcome : Outcome) → replayedNumbers (answerOfRun outcome) .refusal ≢ 10
+run-not-10 (refused14 k) = λ ten. omega arith
+run-not-10 (cutOff k items) = λ ten. omega arith
+run-not-10 (violated k items) = λ ten. omega arith
+run-not-10 (clean items) = λ ten. omega arith
+
+replayed-not-10 : (sized adds-up : Bool) (outcome : Outcome)
+    → replayedNumbers (unless sized (replayeds.Refused 12 0) (unless adds-up (replayeds.Refused 13 0) (answerOfRun outcome))) .refusal ≢ 10
+replayed-not-10 true true outcome = run-not-10 outcome
+replayed-not-10 true false outcome = λ ten. omega arith
+replayed-not-10 false adds-up outcome = λ ten. omega arith
+
+pub never-too-short : (bytes : List ℕ) → NeverTooShort bytes
+unfolding encoded decoded replayed onCase
+never-too-short bytes = record {
+  table-never-short = λ room h. by-table room h (verdict bytes) refl;
+  schedule-never-short = λ xs room h. by-schedule xs room h (verdict bytes) refl;
+  items-never-short = λ schedule room h. by-items schedule room h (verdict bytes) refl;
+}
+  where
+    by-table : (room : ℕ) → mostTableNumbers ≤ room → (v : Verdict) → verdict bytes ≡ v → encodedNumbers (encoded bytes room) .refusal ≢ 10
+    by-table room h verdicts.Accepted e = rw (e, le-leb (length (numbersOf (table (caseOf bytes)))) room (omega (arith, table-numbers bytes (accepted-of bytes e)))) (λ ten. omega arith)
+    by-table room h (verdicts.Refused number place) e = rw e (refused-not-10 bytes number place e)
+
+    by-schedule : (xs : List ℕ) (room : ℕ) → mostScheduleNumbers ≤ room → (v : Verdict) → verdict bytes ≡ v → decodedNumbers (decoded bytes xs room) .refusal ≢ 10
+    by-schedule xs room h verdicts.Accepted e =
+        rw (e, le-leb (scheduleSize (caseOf bytes)) room (omega (arith, schedule-numbers bytes (accepted-of bytes e))))
+        (decoded-not-10 (eqb (length xs) (variables (caseOf bytes))) (eqb (failedIn bytes xs) 0) (failedIn bytes xs) (scheduleSize (caseOf bytes)))
+    by-schedule xs room h (verdicts.Refused number place) e = rw e (refused-not-10 bytes number place e)
+
+    by-items : (schedule : List ℕ) (room : ℕ) → mostItems ≤ room → (v : Verdict) → verdict bytes ≡ v → replayedNumbers (replayed bytes schedule room) .refusal ≢ 10
+    by-items schedule room h verdicts.Accepted e =
+        rw (e, le-leb (itemCount (caseOf bytes)) room (omega (arith, item-numbers bytes (accepted-of bytes e))))
+        (replayed-not-10 (eqb (length schedule) (scheduleSize (caseOf bytes))) (lengthsAddUp (caseOf bytes) (blockLengths (caseOf bytes) schedule))
+        (runOf (caseOf bytes) schedule))
+    by-items schedule room h (verdicts.Refused number place) e = rw e (refused-not-10 bytes number place e)

@@ -1,6 +1,7 @@
--- How large an accepted case is at the most, and its table, an assignment, a schedule and the items: an output slice of these
--- sizes is never refused with 10. That every accepted case keeps to them is proofs/Sizes.antt.
+-- How large an accepted case is at the most, and its table, an assignment, a schedule and the items; and that an output slice of
+-- these sizes is never refused with 10. Both are proved in proofs/Sizes.antt.
 -- Assumes nothing.
+use mathlib.Core.Logic.{_≢_}
 use Prim.Native.Nat.{ℕ, _≤_}
 use mathlib.Core.List.{List}
 use lib.ListN.{length}
@@ -9,6 +10,7 @@ use Rattle.model.specs.CaseFile.{caseOf, itemCount}
 use Rattle.model.specs.Assignment.{variables}
 use Rattle.model.specs.Table.{table, numbersOf}
 use Rattle.model.specs.Schedule.{scheduleSize}
+use Rattle.model.specs.Answers.{encoded, encodedNumbers, decoded, decodedNumbers, replayed, replayedNumbers}
 
 pub record Sizes (bytes : List ℕ) : Type 0 where
   pub case-bytes : length bytes ≤ mostCaseBytes
@@ -16,3 +18,9 @@ pub record Sizes (bytes : List ℕ) : Type 0 where
   pub assignment-numbers : variables (caseOf bytes) ≤ mostVariables
   pub schedule-numbers : scheduleSize (caseOf bytes) ≤ mostScheduleNumbers
   pub item-numbers : itemCount (caseOf bytes) ≤ mostItems
+
+-- Whatever the bytes are, and whatever assignment or schedule comes with them.
+pub record NeverTooShort (bytes : List ℕ) : Type 0 where
+  pub table-never-short : (room : ℕ) → mostTableNumbers ≤ room → encodedNumbers (encoded bytes room) .refusal ≢ 10
+  pub schedule-never-short : (xs : List ℕ) (room : ℕ) → mostScheduleNumbers ≤ room → decodedNumbers (decoded bytes xs room) .refusal ≢ 10
+  pub items-never-short : (schedule : List ℕ) (room : ℕ) → mostItems ≤ room → replayedNumbers (replayed bytes schedule room) .refusal ≢ 10

@@ -9,8 +9,8 @@ use mathlib.Core.List.{List}
 use Rattle.model.specs.Word.{AllBelow}
 use Rattle.model.specs.Accept.{verdict}
 use Rattle.model.specs.declared.Verdict.the-variants.{Accepted}
-use Rattle.laws.specs.Sizes.{Sizes}
-use Rattle.laws.proofs.Sizes.{sizes}
+use Rattle.laws.specs.Sizes.{Sizes, NeverTooShort}
+use Rattle.laws.proofs.Sizes.{sizes, never-too-short}
 use Rattle.correspondence.specs.Demand3.{ForEveryAcceptedCase}
 use Rattle.correspondence.proofs.Demand3.{demand-3}
 use Rattle.case_file.proofs.accept.Statement as accept-statement
@@ -54,8 +54,9 @@ pub record Delivered (M : Type 1) : Type 2 where
   pub menduvo_replay : exported-replay-statement.statement M
   -- demand 3 over what all of them answer;
   pub corresponds : ForEveryAcceptedCase
-  -- slices of the largest sizes are never too short;
+  -- no accepted case needs more than the largest sizes, and slices of these sizes are never refused with 10;
   pub sizes : (bytes : List ℕ) → verdict bytes ≡ Accepted → Sizes bytes
+  pub never-too-short : (bytes : List ℕ) → NeverTooShort bytes
   -- and the numbers tell the answers apart, so that it can be read off them.
   pub told-apart : AnswersToldApart
   pub corresponds-in-numbers : (bytes : List ℕ) → AllBelow 256 bytes → verdict bytes ≡ Accepted → SomeYes bytes ↔ SomeViolated bytes
@@ -75,6 +76,7 @@ delivered = record {
   menduvo_replay = exported-replay-met.met;
   corresponds = demand-3;
   sizes = sizes;
+  never-too-short = never-too-short;
   told-apart = answers-told-apart;
   corresponds-in-numbers = λ bytes small accepted. read-off bytes (demand-3 bytes small accepted);
 }
