@@ -2,8 +2,8 @@
  * Menduvo's calls, for C: the static library libmenduvo.a, written by `rt staticlib menduvo`.
  *
  * The calls are proved: what each of them answers, and what it leaves in each slice that it was lent, equals the definitions
- * in crates/model/specs/Answers.antt. They hold nothing between calls, allocate nothing, and may be called from any thread.
- * Every call returns; how much of the stack it takes is not proved.
+ * in crates/model/specs (Accept, Answers, Listing), and every call returns. Not proved is how much of the stack a call takes. The
+ * language has no static and no heap: the calls hold nothing between them, allocate nothing, and may be called from any thread.
  *
  * A slice is a pointer and how many elements it has. The proof is about calls that keep three rules, which no call can test:
  *   - each pointer is valid for that many elements, and is not null, also where there are none;
@@ -26,15 +26,16 @@ extern "C" {
 #endif
 
 /*
- * The most that any accepted case needs. A table, a schedule and items of these sizes are never refused with 10, whatever the
- * case; no accepted case is longer, and no assignment that is taken has more numbers. This is proved of the definitions
- * (Limits in crates/model/specs, crates/laws/proofs/Sizes.antt).
+ * The most that any accepted case needs. A table, a schedule, items and a listing of these sizes are never refused with 10,
+ * whatever the case; no accepted case is longer, and no assignment that is taken has more numbers. This is proved of the definitions
+ * (crates/laws/specs/Sizes.antt, crates/menduvo/proofs/Delivered.antt; the limits are in crates/model/specs/Limits.antt).
  */
 #define MENDUVO_MOST_CASE_BYTES 4128u       /* 32 bytes, and 16 for each of 256 records */
 #define MENDUVO_MOST_TABLE_NUMBERS 7230u    /* six for each of 1,205 constraints */
 #define MENDUVO_MOST_VARIABLES 692u         /* the numbers of an assignment: 512 of records, 180 block values */
 #define MENDUVO_MOST_SCHEDULE_NUMBERS 272u  /* 16 block lengths, 256 input values */
 #define MENDUVO_MOST_ITEMS 12u              /* 8 globals, then 4 mutexes */
+#define MENDUVO_MOST_LISTING_BYTES 43392u   /* six for each number of the largest table, and for the two counts */
 
 /*
  * An answer.
@@ -68,7 +69,7 @@ typedef struct {
 /*
  * Whether the other calls take this case.
  *   1  accepted
- * Refusals 1 to 9, which every other call gives too, first and for the same cases.
+ * Refusals 1 to 9, which every other call but the listing gives too, first and for the same cases.
  */
 MenduvoNumbers menduvo_accept(const uint8_t *case_, size_t case_len);
 
@@ -106,6 +107,15 @@ MenduvoNumbers menduvo_decode(const uint8_t *case_, size_t case_len, const uint1
  */
 MenduvoNumbers menduvo_replay(const uint8_t *case_, size_t case_len, const uint16_t *schedule, size_t schedule_len,
                               uint16_t *items, size_t items_len);
+
+/*
+ * Writes the listing of the case to `text`, in ASCII, each line ended by a line feed: the counts of constraints and of variables,
+ * then one constraint a line. Of a case that the other calls refuse it is one line with the number and place of the refusal; this
+ * call is not refused there.
+ *   1  the text is written; first: how many bytes it has
+ * Refusal 10.
+ */
+MenduvoNumbers menduvo_listing(const uint8_t *case_, size_t case_len, uint8_t *text, size_t text_len);
 
 #ifdef __cplusplus
 }

@@ -1,6 +1,6 @@
 #!/usr/bin/env bash
-# Tests the bindings: that bindings/menduvo.h is what the static library has, for C; and that the Rust package, and the command
-# over it, take no number from a library that the proved one cannot give.
+# Tests the bindings: from C, every call that bindings/menduvo.h declares on the static library; and over a library that lies, that
+# the Rust package tells numbers that stand for no answer, and the command a reply or items that its own walk does not find.
 set -u
 cd -- "$(dirname -- "${BASH_SOURCE[0]}")/.." || exit
 scratch=$(mktemp -d) || exit
@@ -45,6 +45,11 @@ result 'a refusal, from C' eval '[ "$status" = 2 ] && [ "$out" = "1 0" ]'
 run bash -c "'$scratch/listing' </dev/zero"
 result 'a case that is too long, from C' eval '[ "$status" = 2 ] && [ "$out" = "1 0" ]'
 
+compile calls.c "${MENDUVO_LIB_DIR:-target/staticlib}/libmenduvo.a" -o "$scratch/calls"
+result 'every call links' test "$status" = 0
+run bash -c "'$scratch/calls' $(tr '\n' ' ' <cases/case-a.assignment) <cases/case-a.case"
+result 'every call, from C' eval '[ "$status" = 0 ] && [ "$out" = "$(<tests/bindings/calls.expected)" ]'
+
 # The command, over a library that lies.
 compile lying.c -c -o "$scratch/lying.o"
 result 'the library that lies compiles' test "$status" = 0
@@ -70,6 +75,7 @@ result 'no picture is left' test ! -e "$scratch/none.svg"
 lies answer 'numbers that stand for no answer' replay cases/case-a.case cases/case-a.schedule
 lies 'fails 0' 'numbers that stand for no answer' check cases/case-a.case cases/case-a.assignment
 lies 'refusal 16' 'numbers that stand for no answer' decode cases/case-a.case cases/case-a.assignment
+lies listing 'numbers that stand for no answer' list cases/case-a.case
 
 # Unsafe code stands in one place.
 run grep -rnE --include='*.rs' '\bunsafe\b' tool bindings

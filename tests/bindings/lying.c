@@ -35,6 +35,11 @@ MenduvoNumbers menduvo_decode(const uint8_t *case_, size_t case_len, const uint1
     return refused;
 }
 
+MenduvoNumbers menduvo_listing(const uint8_t *case_, size_t case_len, uint8_t *text, size_t text_len) {
+    (void)case_, (void)case_len, (void)text, (void)text_len;
+    return answer(1, 0, lie_is("listing") ? 1 : 0);
+}
+
 MenduvoNumbers menduvo_replay(const uint8_t *case_, size_t case_len, const uint16_t *schedule, size_t schedule_len,
                               uint16_t *items, size_t items_len) {
     (void)case_, (void)case_len, (void)schedule, (void)schedule_len, (void)items_len;

@@ -7,7 +7,7 @@ use crate::input::Source;
 use crate::numbers::{self, Given};
 use crate::refusal::Refusal;
 use crate::table::{self, Table};
-use menduvo::{Checked, Decoded, Encoded, Replayed};
+use menduvo::{Checked, Decoded, Encoded, Listed, Replayed};
 
 /// An accepted case and its table.
 pub struct Loaded {
@@ -22,6 +22,16 @@ pub enum Ending {
     Violated(u16),
     Clean,
     CutOff(u16),
+}
+
+/// The listing of a case, refused or not.
+pub fn listing(case: &[u8]) -> Result<String, Failure> {
+    let mut room = vec![0; menduvo::MOST_LISTING_BYTES];
+    let Listed::Text { bytes } = menduvo::listing(case, &mut room) else {
+        return Err(Failure::Other("the library refused a listing that has the largest room".to_string()));
+    };
+    room.truncate(usize::from(bytes));
+    String::from_utf8(room).map_err(|_| Failure::Other("the library wrote a listing that is no text".to_string()))
 }
 
 impl Loaded {

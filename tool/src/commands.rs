@@ -1,13 +1,12 @@
 //! The commands, one function each.
 
 use crate::arguments::Call;
-use crate::calls::Loaded;
+use crate::calls::{listing, Loaded};
 use crate::failure::{Failure, Status};
 use crate::input::Source;
 use crate::output::Output;
 use crate::words::{count, numbers_in_lines};
-use crate::{demo, folder, help, picture, run, show, solve, solver, table};
-use menduvo::Verdict;
+use crate::{demo, folder, help, picture, run, show, solve, solver};
 use std::ffi::OsStr;
 use std::path::Path;
 
@@ -35,16 +34,9 @@ pub fn perform(call: Call, output: &mut Output) -> Result<Status, Failure> {
 /// As the listing program: the counts and the constraints, or a refusal's number and place.
 fn list(source: &Source, output: &mut Output) -> Result<Status, Failure> {
     let bytes = source.case_bytes()?;
-    if let Verdict::Refused { number, place } = menduvo::accept(&bytes) {
-        output.say(&format!("{number} {place}\n"))?;
-    }
-    let table = Loaded::of(source.name(), bytes)?.table;
-    let mut text = format!("{} {}\n", table.rows.len(), table.variables);
-    for row in table.rows {
-        text.push_str(&table::numbers(row));
-        text.push('\n');
-    }
-    output.say(&text).map(|()| Status::Done)
+    output.say(&listing(&bytes)?)?;
+    // A refused case has a listing too; that it is refused is told besides.
+    Loaded::of(source.name(), bytes).map(|_| Status::Done)
 }
 
 fn check(case: &Source, assignment: &Source, output: &mut Output) -> Result<Status, Failure> {

@@ -1,10 +1,11 @@
 //! Menduvo's proved calls, for Rust: safe functions on slices over the static library `libmenduvo.a`.
 //!
-//! What each call answers, and what it leaves in each slice that it is lent, is defined in `crates/model/specs/Answers.antt`;
-//! the library is proved to give just that. This package adds nothing but the passing of slices. It is the one place in this
-//! repository with unsafe code, and all of that stands in the private module `library`: the declaration of the five functions
-//! of C, which nothing checks against their source, and the five calls. The proof asks three rules of a caller: pointers are
-//! valid for their lengths, aligned, and a slice that is written overlaps no other. Rust's slices keep them.
+//! What each call answers, and what it leaves in each slice that it is lent, is defined in `crates/model/specs` (`Accept`,
+//! `Answers`, `Listing`); the library is proved to give just that. This package passes the slices and reads the numbers back into
+//! enums, which is not proved. It is the one place in this repository with unsafe code, and all of that stands in the private
+//! module `library`: the declaration of the six functions of C, which nothing checks against their source, and the six calls. The
+//! proof asks three rules of a caller: pointers are valid for their lengths, aligned, and a slice that is written overlaps no
+//! other. Rust's slices keep them.
 //!
 //! A slice that is written is written from its start, and numbers beyond the result keep their values. A refused call alters
 //! nothing. The refusals, 1 to 15, are listed in `bindings/menduvo.h`; `place` is 0 but for 9 and 14 (a record) and 15 (a
@@ -28,6 +29,8 @@ pub const MOST_VARIABLES: usize = 692;
 pub const MOST_SCHEDULE_NUMBERS: usize = 272;
 /// The most items, globals and mutexes together: a slice of so many is never refused with 10.
 pub const MOST_ITEMS: usize = 12;
+/// The most bytes that a listing has: a slice of so many is never refused with 10.
+pub const MOST_LISTING_BYTES: usize = 43_392;
 
 /// Whether the calls take a case.
 #[derive(Clone, Copy, Debug, PartialEq, Eq)]
@@ -65,6 +68,13 @@ pub enum Replayed {
     Violated(u16),
     Clean,
     CutOff(u16),
+    Refused { number: u16, place: u16 },
+}
+
+/// The listing was written, so many bytes of it, or did not fit.
+#[derive(Clone, Copy, Debug, PartialEq, Eq)]
+pub enum Listed {
+    Text { bytes: u16 },
     Refused { number: u16, place: u16 },
 }
 
@@ -128,6 +138,19 @@ pub fn replay(case: &[u8], schedule: &[u16], items: &mut [u16]) -> Replayed {
             Numbers { answer: 1, first: 1.., second: 0, .. } => Some(Replayed::Violated(numbers.first)),
             Numbers { answer: 2, first: 0, second: 0, .. } => Some(Replayed::Clean),
             Numbers { answer: 3, first: 1.., second: 0, .. } => Some(Replayed::CutOff(numbers.first)),
+            _ => None,
+        },
+    )
+}
+
+/// Writes the listing of the case, in ASCII: the counts of constraints and of variables, then one constraint a line. Of a case
+/// that the other calls refuse it is one line with the number and place of the refusal. Refusal 10.
+pub fn listing(case: &[u8], text: &mut [u8]) -> Listed {
+    read(
+        library::listing(case, text),
+        |number, place| Listed::Refused { number, place },
+        |numbers| match numbers {
+            Numbers { answer: 1, first, second: 0, .. } => Some(Listed::Text { bytes: first }),
             _ => None,
         },
     )

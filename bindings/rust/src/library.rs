@@ -31,6 +31,7 @@ unsafe extern "C" {
         items: *mut u16,
         items_len: usize,
     ) -> Numbers;
+    fn menduvo_listing(case: *const u8, case_len: usize, text: *mut u8, text_len: usize) -> Numbers;
 }
 
 // SAFETY, of every call below: each pointer and its length are those of one slice, which is lent until the call returns and
@@ -57,6 +58,10 @@ pub fn decode(case: &[u8], assignment: &[u16], schedule: &mut [u16]) -> Numbers 
 
 pub fn replay(case: &[u8], schedule: &[u16], items: &mut [u16]) -> Numbers {
     unsafe { menduvo_replay(case.as_ptr(), case.len(), schedule.as_ptr(), schedule.len(), items.as_mut_ptr(), items.len()) }
+}
+
+pub fn listing(case: &[u8], text: &mut [u8]) -> Numbers {
+    unsafe { menduvo_listing(case.as_ptr(), case.len(), text.as_mut_ptr(), text.len()) }
 }
 
 /// The answer that the numbers stand for. Numbers that stand for none cannot come from the proved library: then something else

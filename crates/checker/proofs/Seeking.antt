@@ -1,5 +1,5 @@
--- Looking for the first constraint that fails, one after the other: what is left decides what is found. The loops of the
--- checker all have this invariant.
+-- Looking for the first constraint that fails, one after the other: what is left decides what is found. The loops that look for
+-- one have this invariant.
 -- Assumes nothing.
 use mathlib.Core.Path.{_≡_, refl, sym, ap, _∙_}
 use mathlib.Core.Logic.{_≢_}

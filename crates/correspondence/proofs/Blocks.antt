@@ -1,6 +1,6 @@
 -- All blocks, block numbers alone: constraints 1 to 3 and the counted lengths say just that each block takes the next lines of
 -- its thread, and that all lines are taken.
--- Assumes nothing. Met again in Values and Runs; what is left after a block also in Endings and Courses.
+-- Assumes nothing. Met again in Values and Runs; what is left after a block also in Endings and RunEnds.
 use mathlib.Core.Path.{_≡_, refl, sym, ap, _∙_}
 use mathlib.Core.Logic.{_≢_}
 use Prim.Native.Nat.{ℕ, suc, _+_, _%_, _≤_, _<_}

@@ -3,7 +3,9 @@
 use mathlib.Core.Path.{_≡_, refl}
 use Prim.Native.Nat.{ℕ, zero, suc}
 use mathlib.Core.List.{List, [], _∷_}
+use lib.ListN.{take, drop, replicate}
 use Rattle.model.specs.Accept.{verdict}
+use Rattle.model.specs.Listing.{listingText}
 use Rattle.model.specs.Answers.{encoded, encodedInto, checked, decoded, decodedInto, replayed, replayedInto}
 use Rattle.model.specs.declared.Verdict.the-variants.{Accepted, Refused}
 use Rattle.model.specs.declared.Encoded.the-variants as encodeds
@@ -12,7 +14,7 @@ use Rattle.model.specs.declared.Decoded.the-variants as decodeds
 use Rattle.model.specs.declared.Replayed.the-variants.{Violated, Clean, CutOff}
 use Rattle.model.specs.declared.Replayed.the-variants as replayeds
 use Rattle.correspondence.proofs.Computing.{computing}
-use Rattle.correspondence.proofs.CaseA.{caseA}
+use Rattle.correspondence.proofs.CaseA.{caseA, codesOf, linesOfText}
 use Rattle.correspondence.proofs.CaseBytes.{header, rec, file}
 
 -- ---- Reading and copies
@@ -22,7 +24,7 @@ guardedStore : List ℕ
 unfolding file
 guardedStore = file (header 2 0 1 0 1 0 0 0) (rec 2 2 0 0 0 16 0 5 (rec 3 2 1 0 0 16 0 7 (rec 4 3 0 1 0 0 0 0 (rec 0 5 0 0 5 1 16 0 []))))
 
--- "Taking a store with a false guard as no copy: it carries the value it reads." Record 2's value is 5, and record 3 reads it.
+-- "Taking a store with a false guard as no copy: it carries the value it reads." Record 2's value is 5.
 guarded-store-carries : checked guardedStore (0 ∷ 5 ∷ 0 ∷ 5 ∷ 0 ∷ 5 ∷ 0 ∷ 0 ∷ []) ≡ checkeds.Meets
 unfolding computing guardedStore
 guarded-store-carries = refl
@@ -31,6 +33,11 @@ guarded-store-carries = refl
 guarded-store-must-carry : checked guardedStore (0 ∷ 5 ∷ 0 ∷ 7 ∷ 0 ∷ 7 ∷ 0 ∷ 0 ∷ []) ≡ checkeds.Fails 10
 unfolding computing guardedStore
 guarded-store-must-carry = refl
+
+-- Record 2 is the copy that record 3 reads: row 11 is its 4.
+guarded-store-is-a-copy : take 6 (drop 60 (encodedInto guardedStore (replicate 78 9))) ≡ 4 ∷ 3 ∷ 0 ∷ 2 ∷ 0 ∷ 0 ∷ []
+unfolding computing guardedStore
+guarded-store-is-a-copy = refl
 
 guarded-store-runs : replayedInto guardedStore (4 ∷ []) (9 ∷ 9 ∷ []) ≡ 5 ∷ 9 ∷ []
 unfolding computing guardedStore
@@ -51,6 +58,51 @@ too-late = refl
 wrong-block-value : checked (caseA 2) (0 ∷ 0 ∷ 0 ∷ 1 ∷ 2 ∷ 5 ∷ 2 ∷ 0 ∷ 1 ∷ 5 ∷ 2 ∷ 5 ∷ []) ≡ checkeds.Fails 16
 unfolding computing caseA
 wrong-block-value = refl
+
+-- Thread 0: local 0 is 9, and assume 0, both where local 1 is not zero, which it is not; assert local 0.
+guardedOut : List ℕ
+unfolding file
+guardedOut = file (header 2 0 0 0 1 0 0 0) (rec 2 1 2 0 0 16 0 9 (rec 3 6 2 0 0 16 0 0 (rec 0 5 0 0 0 0 0 0 [])))
+
+-- "Guard false: the target's old value (a local without copy has 0, ..), and 1 for assert and assume."
+guarded-out-values : checked guardedOut (0 ∷ 0 ∷ 0 ∷ 1 ∷ 0 ∷ 0 ∷ []) ≡ checkeds.Meets
+unfolding computing guardedOut
+guarded-out-values = refl
+
+-- After six rows of order, rows 7 and 8 are the 4s of records 1 and 2.
+guarded-out-local : checked guardedOut (0 ∷ 9 ∷ 0 ∷ 1 ∷ 0 ∷ 1 ∷ []) ≡ checkeds.Fails 7
+unfolding computing guardedOut
+guarded-out-local = refl
+
+guarded-out-assume : checked guardedOut (0 ∷ 0 ∷ 0 ∷ 0 ∷ 0 ∷ 0 ∷ []) ≡ checkeds.Fails 8
+unfolding computing guardedOut
+guarded-out-assume = refl
+
+-- Globals 0 and 1 begin at 6 and 7. Thread 0: 1 local 0 gets global 0; 2 global 0 gets 8; 3 local 1 gets global 0.
+-- Thread 1: 4 assert 0. Records 1 and 2 are in block 0, 3 in block 2, 4 in block 1.
+startsAt : List ℕ
+unfolding file
+startsAt = file (2 ∷ 2 ∷ 2 ∷ 0 ∷ 1 ∷ 4 ∷ 0 ∷ 0 ∷ 6 ∷ 7 ∷ 0 ∷ 0 ∷ 0 ∷ 0 ∷ 0 ∷ 0 ∷ [])
+    (rec 2 3 0 0 0 0 0 0 (rec 3 2 0 0 0 16 0 8 (rec 0 3 0 1 0 0 0 0 (rec 0 5 0 0 0 16 0 0 []))))
+
+starts-read : checked startsAt (0 ∷ 6 ∷ 0 ∷ 8 ∷ 2 ∷ 8 ∷ 1 ∷ 0 ∷ 8 ∷ 7 ∷ 8 ∷ 7 ∷ []) ≡ checkeds.Meets
+unfolding computing startsAt
+starts-read = refl
+
+-- "or its initial value when k is in block 0": row 9 is the 4 of record 1.
+initial-value-read : checked startsAt (0 ∷ 0 ∷ 0 ∷ 8 ∷ 2 ∷ 8 ∷ 1 ∷ 0 ∷ 8 ∷ 7 ∷ 8 ∷ 7 ∷ []) ≡ checkeds.Fails 9
+unfolding computing startsAt
+initial-value-read = refl
+
+-- "if none, .. the initial one for i = 0": row 14 is the 6 of item 1 in block 0.
+initial-value-stays : checked startsAt (0 ∷ 6 ∷ 0 ∷ 8 ∷ 2 ∷ 8 ∷ 1 ∷ 0 ∷ 8 ∷ 0 ∷ 8 ∷ 0 ∷ []) ≡ checkeds.Fails 14
+unfolding computing startsAt
+initial-value-stays = refl
+
+-- "if none, the block value at i − 1": row 15 is the 6 of item 0 in block 1.
+block-value-stays : checked startsAt (0 ∷ 6 ∷ 0 ∷ 8 ∷ 2 ∷ 6 ∷ 1 ∷ 0 ∷ 8 ∷ 7 ∷ 6 ∷ 7 ∷ []) ≡ checkeds.Fails 15
+unfolding computing startsAt
+block-value-stays = refl
 
 -- ---- Locks
 
@@ -165,6 +217,32 @@ ops-run : replayedInto ops (6 ∷ []) (0 ∷ 0 ∷ 0 ∷ 0 ∷ []) ≡ 65535 ∷
 unfolding computing ops
 ops-run = refl
 
+-- Thread 0: local 0 is 0 − 1; global 0 gets local 0 < 1; local 1 is 1; globals 1 to 3 get local 1 < local 0, local 1 = 1 and
+-- local 0 = 1.
+comparisons : List ℕ
+unfolding file
+comparisons = file (header 2 0 4 0 1 0 0 0)
+    (rec 2 1 0 0 2 1 16 1 (rec 3 2 0 0 6 0 16 1 (rec 4 1 0 1 0 16 0 1 (rec 5 2 0 1 6 1 0 0 (rec 6 2 0 2 5 1 16 1 (rec 0 2 0 3 5 0 16 1 []))))))
+
+-- "5 equal; 6 less (unsigned). Ops 5 and 6 give 1 or 0."
+comparisons-run : replayedInto comparisons (6 ∷ []) (9 ∷ 9 ∷ 9 ∷ 9 ∷ []) ≡ 0 ∷ 1 ∷ 1 ∷ 0 ∷ []
+unfolding computing comparisons
+comparisons-run = refl
+
+-- ---- Guards
+
+-- Thread 0: global 0 gets 5 where local 0 is zero; local 0 is 1; global 1 gets 6 where local 0 is zero; global 2 gets 7 where
+-- local 15 is zero; global 3 gets 8 where local 15 is not zero; global 4 gets 9 where local 0 is not zero.
+guards : List ℕ
+unfolding file
+guards = file (header 2 0 5 0 1 0 0 0)
+    (rec 2 2 17 0 0 16 0 5 (rec 3 1 0 0 0 16 0 1 (rec 4 2 17 1 0 16 0 6 (rec 5 2 32 2 0 16 0 7 (rec 6 2 16 3 0 16 0 8 (rec 0 2 1 4 0 16 0 9 []))))))
+
+-- "1 to 16 means local (guard − 1) is not zero; 17 to 32 means local (guard − 17) is zero."
+guards-run : replayedInto guards (6 ∷ []) (3 ∷ 3 ∷ 3 ∷ 3 ∷ 3 ∷ []) ≡ 5 ∷ 0 ∷ 7 ∷ 0 ∷ 9 ∷ []
+unfolding computing guards
+guards-run = refl
+
 -- ---- Refusals 1 to 9, with their places, and their order
 
 refused-1-short : verdict [] ≡ Refused 1 0
@@ -187,9 +265,22 @@ refused-4 : verdict (file (header 2 0 9 0 0 0 0 0) []) ≡ Refused 4 0
 unfolding computing file
 refused-4 = refl
 
+refused-4-mutexes : verdict (file (header 2 0 0 5 0 0 0 0) []) ≡ Refused 4 0
+unfolding computing file
+refused-4-mutexes = refl
+
 refused-5 : verdict (file (header 2 0 0 0 0 0 1 0) (rec 0 7 0 0 0 0 0 0 [])) ≡ Refused 5 0
 unfolding computing file
 refused-5 = refl
+
+-- Global 0 is absent and has an initial value.
+refused-5-global : verdict (file (2 ∷ 0 ∷ 0 ∷ 0 ∷ 0 ∷ 0 ∷ 0 ∷ 0 ∷ 1 ∷ 0 ∷ 0 ∷ 0 ∷ 0 ∷ 0 ∷ 0 ∷ 0 ∷ []) []) ≡ Refused 5 0
+unfolding computing file
+refused-5-global = refl
+
+refused-6-first : verdict (file (header 2 0 0 0 0 1 0 0) []) ≡ Refused 6 0
+unfolding computing file
+refused-6-first = refl
 
 -- A next number over R counts, also in a record that no chain reaches.
 refused-6-over : verdict (file (header 2 0 0 0 0 0 0 0) (rec 2 1 0 0 0 0 0 0 [])) ≡ Refused 6 0
@@ -233,6 +324,11 @@ refused-8 = refl
 refused-9 : verdict (file (header 2 0 0 0 1 0 0 0) (rec 2 1 0 0 0 0 0 0 (rec 3 9 0 0 0 0 0 0 (rec 0 1 33 0 0 0 0 0 [])))) ≡ Refused 9 2
 unfolding computing file
 refused-9 = refl
+
+-- "For a refused case it prints the number and place on one line."
+refused-9-text : listingText (file (header 2 0 0 0 1 0 0 0) (rec 2 1 0 0 0 0 0 0 (rec 0 9 0 0 0 0 0 0 []))) ≡ linesOfText ("9 2" ∷ [])
+unfolding computing file codesOf linesOfText
+refused-9-text = refl
 
 -- "c is 0 unless a used operand is 16"
 refused-9-constant : verdict (file (header 2 0 0 0 1 0 0 0) (rec 0 1 0 0 0 0 0 1 [])) ≡ Refused 9 1

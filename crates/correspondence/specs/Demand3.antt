@@ -119,7 +119,8 @@ pub record Demand3 (bytes : List ℕ) : Type 0 where
       → Leaves bytes schedule (lastItems (caseOf bytes) schedule)
   pub values-at-the-cut-off : (schedule : List ℕ) → Takes (caseOf bytes) schedule → (s : Step) → FirstEnding (caseOf bytes) schedule s
       → Leaves bytes schedule (s .memory .items)
-  -- ---- A slice that is too short is refused with 10; the calls above give no other refusal.
+  -- ---- A slice that is too short is refused with 10. With room, the table is written; an assignment with yes and its schedule are
+  -- not refused, as `decodes-to-violated` says.
   pub short-table : (room : ℕ) → room < tableRoom bytes → encoded bytes room ≡ encodeds.Refused 10 0
   pub long-table : (room : ℕ) → tableRoom bytes ≤ room → encoded bytes room ≡ encodeds.Table (length (table (caseOf bytes))) (variables (caseOf bytes))
   pub short-schedule : (xs : List ℕ) → Yes bytes xs → (room : ℕ) → room < scheduleRoom bytes → decoded bytes xs room ≡ decodeds.Refused 10 0

@@ -1,5 +1,5 @@
 -- The trace of a run: what each line did, and the items where each block ends. It is defined for every schedule: a line that
--- stops the run is passed over, and lines that no block runs are put at the end, so that each record has one event.
+-- would end the run is taken like any other, and lines that no block runs are put at the end, so that each record has one event.
 -- Assumes nothing.
 use Prim.Native.Nat.{ℕ, suc}
 use mathlib.Core.Bool.{Bool, false}

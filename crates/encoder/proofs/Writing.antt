@@ -1,5 +1,5 @@
--- Rows written one after the other: what is left to write decides what the slice holds in the end. The loops of the encoder
--- all have this invariant.
+-- Rows written one after the other: what is left to write decides what the slice holds in the end. The loops that write rows have
+-- this invariant.
 -- Assumes nothing.
 use mathlib.Core.Path.{_≡_, refl, sym, ap, _∙_}
 use Prim.Native.Nat.{ℕ, _+_, _*_, _≤_}

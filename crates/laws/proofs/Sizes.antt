@@ -1,6 +1,6 @@
 -- How large an accepted case can be, and its table, an assignment, a schedule and the items. Whoever calls can lend slices of
 -- these sizes, and refusal 10 never meets them.
--- Assumes nothing. Met again where encoder, checker and decoder count, in the listing's text, and in menduvo's Delivered.
+-- Assumes nothing. Met again where encoder, checker and schedule count, in the listing's text, and in menduvo's Delivered.
 use mathlib.Core.Path.{_≡_, refl}
 use mathlib.Core.Logic.{_≢_}
 use Prim.Native.Nat.{ℕ, zero, suc, _+_, _*_, _%_, _≤_, _<_}
@@ -27,7 +27,7 @@ use Rattle.model.specs.declared.Encoded.the-variants as encodeds
 use Rattle.model.specs.declared.Decoded.the-variants as decodeds
 use Rattle.model.specs.declared.Replayed.the-variants as replayeds
 use Rattle.laws.specs.Accepted.{Accepted}
-use Rattle.laws.specs.Sizes.{Sizes, NeverTooShort}
+use Rattle.laws.specs.Sizes.{Sizes, LargestSizes, NeverTooShort}
 use Rattle.laws.proofs.Accepted.{accepted-of}
 use Rattle.laws.proofs.Counting.{sum-of-bits}
 use Rattle.laws.proofs.RecordSums.{lines-add-up}
@@ -191,6 +191,16 @@ sizes bytes accepted =
       schedule-numbers = schedule-numbers bytes ok;
       item-numbers = item-numbers bytes ok;
     }
+
+pub largest-sizes : LargestSizes
+largest-sizes = record {
+  case-bytes = refl;
+  table-numbers = refl;
+  assignment-numbers = refl;
+  schedule-numbers = refl;
+  item-numbers = refl;
+  listing-bytes = refl;
+}
 
 -- ---- Slices of these sizes are never refused with 10
 

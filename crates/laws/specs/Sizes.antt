@@ -1,11 +1,12 @@
--- How large an accepted case is at the most, and its table, an assignment, a schedule and the items; and that an output slice of
--- these sizes is never refused with 10. Both are proved in proofs/Sizes.antt.
+-- How large an accepted case is at the most, and its table, an assignment, a schedule and the items; these sizes in numbers; and
+-- that an output slice of such a size is never refused with 10. All is proved in proofs/Sizes.antt.
 -- Assumes nothing.
+use mathlib.Core.Path.{_≡_}
 use mathlib.Core.Logic.{_≢_}
 use Prim.Native.Nat.{ℕ, _≤_}
 use mathlib.Core.List.{List}
 use lib.ListN.{length}
-use Rattle.model.specs.Limits.{mostCaseBytes, mostItems, mostVariables, mostScheduleNumbers, mostTableNumbers}
+use Rattle.model.specs.Limits.{mostCaseBytes, mostItems, mostVariables, mostScheduleNumbers, mostTableNumbers, mostListingBytes}
 use Rattle.model.specs.CaseFile.{caseOf, itemCount}
 use Rattle.model.specs.Assignment.{variables}
 use Rattle.model.specs.Table.{table, numbersOf}
@@ -18,6 +19,15 @@ pub record Sizes (bytes : List ℕ) : Type 0 where
   pub assignment-numbers : variables (caseOf bytes) ≤ mostVariables
   pub schedule-numbers : scheduleSize (caseOf bytes) ≤ mostScheduleNumbers
   pub item-numbers : itemCount (caseOf bytes) ≤ mostItems
+
+-- The numbers that the header for C and the binding for Rust have.
+pub record LargestSizes : Type 0 where
+  pub case-bytes : mostCaseBytes ≡ 4128
+  pub table-numbers : mostTableNumbers ≡ 7230
+  pub assignment-numbers : mostVariables ≡ 692
+  pub schedule-numbers : mostScheduleNumbers ≡ 272
+  pub item-numbers : mostItems ≡ 12
+  pub listing-bytes : mostListingBytes ≡ 43392
 
 -- Whatever the bytes are, and whatever assignment or schedule comes with them.
 pub record NeverTooShort (bytes : List ℕ) : Type 0 where

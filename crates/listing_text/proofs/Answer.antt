@@ -5,18 +5,18 @@ use Prim.Native.Nat.{ℕ, _+_, _*_, _≤_}
 use mathlib.Core.List.{List, [], _∷_}
 use native.Mathlib.Omega.{arith}
 use lib.ListN.{length}
-use Rattle.model.specs.Limits.{mostTableNumbers}
+use Rattle.model.specs.Limits.{mostTableNumbers, mostListingBytes}
 use Rattle.model.specs.Listing.{numbersLine}
 use Rattle.model.specs.declared.Encoded.{Encoded}
 use Rattle.model.specs.declared.Encoded.the-variants.{Table, Refused}
 use Rattle.laws.specs.Written.{numbersAt}
-use Rattle.listing_text.specs.Text.{mostTextBytes, sixLines, rowsOf, textOf}
+use Rattle.listing_text.specs.Text.{sixLines, rowsOf, textOf}
 use Rattle.listing_text.proofs.Numbers.{Put, put-then}
 use Rattle.listing_text.proofs.Rows.{line-size}
 
 pub rows-have-room :
     (answer : Encoded) (constraints variables at first second numbers : ℕ) → answer ≡ Table constraints variables → at ≡ length (numbersLine (first ∷ (second ∷ []))) →
-    6 * rowsOf answer ≤ numbers → numbers ≤ mostTableNumbers → (6 * constraints ≤ numbers) × (at + 36 * constraints ≤ mostTextBytes)
+    6 * rowsOf answer ≤ numbers → numbers ≤ mostTableNumbers → (6 * constraints ≤ numbers) × (at + 36 * constraints ≤ mostListingBytes)
 rows-have-room answer constraints variables at first second numbers e ea h few =
     let some : 6 * constraints ≤ numbers = rw e at h in
     (some, omega (arith, line-size (first ∷ (second ∷ []))))

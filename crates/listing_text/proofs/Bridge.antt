@@ -1,4 +1,4 @@
--- The text of the encoder's answer is the listing of `model`, and no listing is longer than `mostTextBytes`.
+-- The text of the encoder's answer is the listing of `model`, and no listing is longer than `mostListingBytes`.
 -- Assumes nothing. Met in the proof of `listing_text`, and where a program lends a text that is never too short.
 use mathlib.Core.Path.{_≡_, refl, sym, ap, _∙_}
 use Prim.Native.Nat.{ℕ, zero, suc, _+_, _*_, _≤_, _<_}
@@ -7,14 +7,14 @@ use native.Mathlib.Omega.{arith}
 use native.Mathlib.Nat.{suc-add}
 use borrow.Author.Tests.{le-leb, lt-leb}
 use lib.ListN.{length, drop, length-append}
-use Rattle.model.specs.Limits.{mostTableNumbers}
+use Rattle.model.specs.Limits.{mostTableNumbers, mostListingBytes}
 use Rattle.model.specs.Lists.{writtenOver}
 use Rattle.model.specs.CaseFile.{caseOf}
 use Rattle.model.specs.Accept.{verdict}
 use Rattle.model.specs.Assignment.{variables}
 use Rattle.model.specs.Table.{Row, table, numbersOf}
 use Rattle.model.specs.Answers.{onCase, encoded, afterEncoded, encodedInto}
-use Rattle.model.specs.Listing.{numbersLine, rowLine, rowLines, listingText, listed, afterListed, listedInto}
+use Rattle.model.specs.Listing.{numbersLine, rowLine, rowLines, listingText, listed, afterListed, listedInto, listedNumbers}
 use Rattle.model.specs.declared.Verdict.{Verdict}
 use Rattle.model.specs.declared.Verdict.the-variants.{Accepted}
 use Rattle.model.specs.declared.Verdict.the-variants as verdicts
@@ -24,11 +24,12 @@ use Rattle.model.specs.declared.Encoded.the-variants as encodeds
 use Rattle.model.specs.declared.Listed.{Listed}
 use Rattle.model.specs.declared.Listed.the-variants.{Text, Refused}
 use Rattle.laws.specs.Written.{numbersAt}
+use Rattle.laws.proofs.Views.{LeView, within, beyond, le-view}
 use Rattle.laws.proofs.Accepted.{accepted-of}
 use Rattle.laws.proofs.Writing.{numbers-from-start}
 use Rattle.laws.proofs.Sizes.{table-rows, table-numbers}
 use Rattle.encoder.proofs.Answer.{refused-answer, written-fits}
-use Rattle.listing_text.specs.Text.{mostTextBytes, sixAt, sixLines, rowsOf, textOf}
+use Rattle.listing_text.specs.Text.{sixAt, sixLines, rowsOf, textOf}
 use Rattle.listing_text.proofs.Rows.{line-size}
 
 -- The numbers of a table, six at a time, are its rows.
@@ -70,10 +71,10 @@ module _ (bytes : List ℕ) where
   unfolding listingText onCase
   listing-refused number place e = rw e
 
-  pub text-fits : length (listingText bytes) ≤ mostTextBytes
+  pub text-fits : length (listingText bytes) ≤ mostListingBytes
   text-fits = go (verdict bytes) refl
     where
-      go : (v : Verdict) → verdict bytes ≡ v → length (listingText bytes) ≤ mostTextBytes
+      go : (v : Verdict) → verdict bytes ≡ v → length (listingText bytes) ≤ mostListingBytes
       go Accepted e =
           let first = length (table (caseOf bytes)) ∷ (variables (caseOf bytes) ∷ []) in
           omega (
@@ -125,8 +126,17 @@ module _ (bytes : List ℕ) (room : ℕ) where
   unfolding listed
   answer-long h = rw (le-leb (length (listingText bytes)) room h)
 
+  -- what the answer says of the text's length
+  pub length-told : listedNumbers (listed bytes room) .first ≤ mostListingBytes
+  unfolding listed
+  length-told = go (le-view (length (listingText bytes)) room)
+    where
+      go : LeView (length (listingText bytes)) room → listedNumbers (listed bytes room) .first ≤ mostListingBytes
+      go (within h q) = rw q (text-fits bytes)
+      go (beyond h q) = rw q (omega arith)
+
   -- a text of this length is never refused
-  pub never-refused : mostTextBytes ≤ room → listed bytes room ≡ Text (length (listingText bytes))
+  pub never-refused : mostListingBytes ≤ room → listed bytes room ≡ Text (length (listingText bytes))
   never-refused h = answer-long (omega (arith, text-fits bytes))
 
 module _ (bytes slice : List ℕ) (size : ℕ) (es : size ≡ length (listingText bytes)) where
@@ -146,12 +156,15 @@ module _ (bytes slice : List ℕ) (size : ℕ) (es : size ≡ length (listingTex
       )
 
 -- for a caller whose text every listing fits
-pub no-refusal : (bytes : List ℕ) (room : ℕ) (r : Listed) → r ≡ listed bytes room → mostTextBytes ≤ room → (number place : ℕ) → r ≡ Refused number place → ⊥
+pub no-refusal : (bytes : List ℕ) (room : ℕ) (r : Listed) → r ≡ listed bytes room → mostListingBytes ≤ room → (number place : ℕ) → r ≡ Refused number place → ⊥
 no-refusal bytes room r er h number place e = let z : _≡_ {A = ℕ} 0 1 = cc (never-refused bytes room h) in omega arith
 
 pub whole-text :
-    (bytes slice x : List ℕ) (r : Listed) (size : ℕ) → r ≡ listed bytes (length slice) → mostTextBytes ≤ length slice → r ≡ Text size → x ≡ listedInto bytes slice →
+    (bytes slice x : List ℕ) (r : Listed) (size : ℕ) → r ≡ listed bytes (length slice) → mostListingBytes ≤ length slice → r ≡ Text size → x ≡ listedInto bytes slice →
     (size ≡ length (listingText bytes)) × (x ≡ writtenOver (listingText bytes) slice)
 unfolding listedInto
 whole-text bytes slice x r size er h e ex =
     (cc (never-refused bytes (length slice) h), ex ∙ ap (λ (q : Listed). afterListed q (listingText bytes) slice) (never-refused bytes (length slice) h))
+
+pub length-of-text : (l : Listed) (size : ℕ) → l ≡ Text size → listedNumbers l .first ≤ mostListingBytes → size ≤ mostListingBytes
+length-of-text l size e h = rw e at h

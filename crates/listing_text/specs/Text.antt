@@ -1,18 +1,12 @@
 -- The listing's text as the code writes it: from the encoder's answer and the numbers of the table. That this is the text of
 -- `model` is proved in proofs/Bridge.antt.
 -- Assumes nothing.
-use Prim.Native.Nat.{ℕ, zero, suc, _+_, _*_}
+use Prim.Native.Nat.{ℕ, zero, suc, _+_}
 use mathlib.Core.List.{List, [], _∷_, _++_}
 use lib.ListN.{getD}
-use Rattle.model.specs.Limits.{mostTableNumbers}
 use Rattle.model.specs.Listing.{decimal, numbersLine}
 use Rattle.model.specs.declared.Encoded.{Encoded}
 use Rattle.model.specs.declared.Encoded.the-variants.{Table, Refused}
-
--- The longest text: six bytes, which are five digits and what ends them, for each number of the largest table and for the two
--- counts. It has 43,392 bytes.
-abbrev pub mostTextBytes : ℕ
-mostTextBytes = 6 * (2 + mostTableNumbers)
 
 -- A number and the byte that ends it.
 unfoldable pub ended : ℕ → ℕ → List ℕ

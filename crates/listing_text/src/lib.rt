@@ -4,17 +4,17 @@ ghost use mathlib.Core.Path.{_≡_};
 ghost use Prim.Native.Nat.{_+_, _*_, _<_, _≤_};
 ghost use mathlib.Core.List.{[], _∷_};
 ghost use lib.ListN.{length};
-ghost use Rattle.model.specs.Limits.{mostTableNumbers};
+ghost use Rattle.model.specs.Limits.{mostTableNumbers, mostListingBytes};
 ghost use Rattle.model.specs.Listing.{digit, decimal, numbersLine, listed, listedInto};
 ghost use Rattle.laws.specs.Written.{numbersAt};
-ghost use Rattle.listing_text.specs.Text.{mostTextBytes, ended, sixAt, sixLines, rowsOf, textOf};
+ghost use Rattle.listing_text.specs.Text.{ended, sixAt, sixLines, rowsOf, textOf};
 use model::Encoded;
 use model::Listed;
 
 // The largest table has 1,205 constraints, of six numbers each.
 const MOST_NUMBERS: usize = 7230;
 
-// The longest text: six bytes for each of these numbers and for the two counts.
+// No text is longer: six bytes for each of these numbers and for the two counts.
 pub const MOST_BYTES: usize = 43392;
 
 // The listing's text, from the slice's start: a case's table, or the number and place of its refusal. Refusal 10 where the
@@ -58,7 +58,7 @@ fn write_text(text: &mut [u8], answer: Encoded, table: &[u16]) -> usize
 
 // So many constraints of the table, a line each, from a place on; the place after them.
 fn put_rows(text: &mut [u8], start: usize, table: &[u16], count: usize) -> usize
-    requires { ⌜ (6 * count ≤ length (now table)) × (start + 36 * count ≤ mostTextBytes) ⌝ }
+    requires { ⌜ (6 * count ≤ length (now table)) × (start + 36 * count ≤ mostListingBytes) ⌝ }
     ensures { λ r. ⌜ now (text .exit) ≡ numbersAt (now (text .entry)) start (sixLines (now (table .entry)) 0 count) ⌝ }
     ensures { λ r. ⌜ r ≡ start + length (sixLines (now (table .entry)) 0 count) ⌝ }
 {
@@ -73,7 +73,7 @@ fn put_rows(text: &mut [u8], start: usize, table: &[u16], count: usize) -> usize
 
 // The constraint whose numbers stand in the table from `from` on, on a line of its own; the place after it.
 fn put_row(text: &mut [u8], at: usize, table: &[u16], from: usize) -> usize
-    requires { ⌜ (from + 6 ≤ length (now table)) × (at + 36 ≤ mostTextBytes) ⌝ }
+    requires { ⌜ (from + 6 ≤ length (now table)) × (at + 36 ≤ mostListingBytes) ⌝ }
     ensures { λ r. ⌜ now (text .exit) ≡ numbersAt (now (text .entry)) at (numbersLine (sixAt (now (table .entry)) from)) ⌝ }
     ensures { λ r. ⌜ r ≡ at + length (numbersLine (sixAt (now (table .entry)) from)) ⌝ }
 {
@@ -99,7 +99,7 @@ fn put_two(text: &mut [u8], first: u16, second: u16) -> usize
 
 // Some numbers on a line, from a place on; the place after them.
 fn put_line(text: &mut [u8], start: usize, numbers: &[u16]) -> usize
-    requires { ⌜ (0 < length (now numbers)) × (start + 6 * length (now numbers) ≤ mostTextBytes) ⌝ }
+    requires { ⌜ (0 < length (now numbers)) × (start + 6 * length (now numbers) ≤ mostListingBytes) ⌝ }
     ensures { λ r. ⌜ now (text .exit) ≡ numbersAt (now (text .entry)) start (numbersLine (now (numbers .entry))) ⌝ }
     ensures { λ r. ⌜ r ≡ start + length (numbersLine (now (numbers .entry))) ⌝ }
 {
@@ -115,7 +115,7 @@ fn put_line(text: &mut [u8], start: usize, numbers: &[u16]) -> usize
 
 // A number and the byte that ends it.
 fn put_number(text: &mut [u8], at: usize, n: u16, end: u8) -> usize
-    requires { ⌜ at + 6 ≤ mostTextBytes ⌝ }
+    requires { ⌜ at + 6 ≤ mostListingBytes ⌝ }
     ensures { λ r. ⌜ now (text .exit) ≡ numbersAt (now (text .entry)) at (ended n end) ⌝ }
     ensures { λ r. ⌜ r ≡ at + length (ended n end) ⌝ }
 {
@@ -126,7 +126,7 @@ fn put_number(text: &mut [u8], at: usize, n: u16, end: u8) -> usize
 
 // A number's digits: those of its tenth, and the last one.
 fn put_digits(text: &mut [u8], at: usize, n: u16) -> usize
-    requires { ⌜ at + 6 ≤ mostTextBytes ⌝ }
+    requires { ⌜ at + 6 ≤ mostListingBytes ⌝ }
     ensures { λ r. ⌜ now (text .exit) ≡ numbersAt (now (text .entry)) at (decimal n) ⌝ }
     ensures { λ r. ⌜ r ≡ at + length (decimal n) ⌝ }
 {

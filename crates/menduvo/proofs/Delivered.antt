@@ -1,18 +1,23 @@
 -- The one statement. What the calls answer equals the definitions (each call's own theorem, for the calls that C and Rust link and
 -- for those that they are made of), and about these same definitions demand 3 holds for every accepted case: so the claim is about
--- the code that runs, and it can be read off the numbers that the code hands out.
+-- the code that is compiled, and it can be read off the numbers that the code hands out.
 -- Assumes nothing.
 use mathlib.Core.Path.{_≡_}
 use mathlib.Core.Logic.{_↔_}
-use Prim.Native.Nat.{ℕ}
+use Prim.Native.Nat.{ℕ, _≤_}
 use mathlib.Core.List.{List}
+use lib.ListN.{length}
 use Rattle.model.specs.Word.{AllBelow}
+use Rattle.model.specs.Limits.{mostListingBytes}
 use Rattle.model.specs.Accept.{verdict}
+use Rattle.model.specs.Listing.{listingText, listed}
 use Rattle.model.specs.declared.Verdict.the-variants.{Accepted}
-use Rattle.laws.specs.Sizes.{Sizes, NeverTooShort}
-use Rattle.laws.proofs.Sizes.{sizes, never-too-short}
+use Rattle.model.specs.declared.Listed.the-variants.{Text}
+use Rattle.laws.specs.Sizes.{Sizes, LargestSizes, NeverTooShort}
+use Rattle.laws.proofs.Sizes.{sizes, largest-sizes, never-too-short}
 use Rattle.correspondence.specs.Demand3.{ForEveryAcceptedCase}
 use Rattle.correspondence.proofs.Demand3.{demand-3}
+use Rattle.listing_text.proofs.Bridge.{never-refused}
 use Rattle.case_file.proofs.accept.Statement as accept-statement
 use Rattle.case_file.proofs.accept.Met as accept-met
 use Rattle.encoder.proofs.encode.Statement as encode-statement
@@ -35,6 +40,8 @@ use Rattle.menduvo.proofs.menduvo_decode.Statement as exported-decode-s
 use Rattle.menduvo.proofs.menduvo_decode.Met as exported-decode-met
 use Rattle.menduvo.proofs.menduvo_replay.Statement as exported-replay-statement
 use Rattle.menduvo.proofs.menduvo_replay.Met as exported-replay-met
+use Rattle.menduvo.proofs.menduvo_listing.Statement as exported-listing-statement
+use Rattle.menduvo.proofs.menduvo_listing.Met as exported-listing-met
 use Rattle.menduvo.specs.ReadOff.{AnswersToldApart, SomeYes, SomeViolated}
 use Rattle.menduvo.proofs.ReadOff.{answers-told-apart, read-off}
 
@@ -52,11 +59,14 @@ pub record Delivered (M : Type 1) : Type 2 where
   pub menduvo_check : exported-check-statement.statement M
   pub menduvo_decode : exported-decode-statement.statement M
   pub menduvo_replay : exported-replay-statement.statement M
-  -- demand 3 over what all of them answer;
+  pub menduvo_listing : exported-listing-statement.statement M
+  -- demand 3 over what accept, encode, check, decode and replay answer;
   pub corresponds : ForEveryAcceptedCase
   -- no accepted case needs more than the largest sizes, and slices of these sizes are never refused with 10;
   pub sizes : (bytes : List ℕ) → verdict bytes ≡ Accepted → Sizes bytes
+  pub largest-sizes : LargestSizes
   pub never-too-short : (bytes : List ℕ) → NeverTooShort bytes
+  pub listing-never-too-short : (bytes : List ℕ) (room : ℕ) → mostListingBytes ≤ room → listed bytes room ≡ Text (length (listingText bytes))
   -- and the numbers tell the answers apart, so that it can be read off them.
   pub told-apart : AnswersToldApart
   pub corresponds-in-numbers : (bytes : List ℕ) → AllBelow 256 bytes → verdict bytes ≡ Accepted → SomeYes bytes ↔ SomeViolated bytes
@@ -74,9 +84,12 @@ delivered = record {
   menduvo_check = exported-check-met.met;
   menduvo_decode = exported-decode-met.met;
   menduvo_replay = exported-replay-met.met;
+  menduvo_listing = exported-listing-met.met;
   corresponds = demand-3;
   sizes = sizes;
+  largest-sizes = largest-sizes;
   never-too-short = never-too-short;
+  listing-never-too-short = never-refused;
   told-apart = answers-told-apart;
   corresponds-in-numbers = λ bytes small accepted. read-off bytes (demand-3 bytes small accepted);
 }

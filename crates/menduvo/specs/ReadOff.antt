@@ -41,7 +41,8 @@ pub record AnswersToldApart : Type 0 where
   pub text : (r : Listed) (bytes : ℕ) → (listedNumbers r ≡ answerNumbers 1 bytes 0) ↔ (r ≡ listeds.Text bytes)
   pub not-listed : (r : Listed) (number place : ℕ) → (listedNumbers r ≡ refusedNumbers number place) ↔ (r ≡ listeds.Refused number place)
 
--- Some assignment is answered with 1 by the checker, and some schedule with 1 and a record by the replayer, whatever the room.
+-- Some assignment is answered with 1 by the checker, and some schedule with 1 and a record by the replayer, the same one in every
+-- room that holds the items.
 abbrev pub SomeYes : List ℕ → Type 0
 SomeYes bytes = (xs : List ℕ) × AllBelow wordSize xs × (checkedNumbers (checked bytes xs) ≡ answerNumbers 1 0 0)
 

@@ -1,14 +1,18 @@
-// The public library: `accept` and the four calls, for C and Rust. Each answer comes in the document's numbers; what each call
-// answers and leaves in the lent slices is defined in `model`'s specs/Answers.antt. The one statement about them all is
-// proofs/Delivered.antt.
+// The public library: `accept`, the four calls and the listing, for C and Rust. Each answer comes in the document's numbers; what
+// each call answers and leaves in the lent slices is defined in `model`'s specs/Accept.antt, specs/Answers.antt and
+// specs/Listing.antt. The one statement about them all is proofs/Delivered.antt.
 ghost use mathlib.Core.Path.{_≡_};
+ghost use Prim.Native.Nat.{_≤_};
 ghost use lib.ListN.{length};
+ghost use Rattle.model.specs.Limits.{mostListingBytes};
 ghost use Rattle.model.specs.Accept.{verdict};
 ghost use Rattle.model.specs.Answers.{encoded, encodedInto, checked, decoded, decodedInto, replayed, replayedInto};
 ghost use Rattle.model.specs.Answers.{refusedNumbers, answerNumbers, verdictNumbers, encodedNumbers, checkedNumbers, decodedNumbers, replayedNumbers};
+ghost use Rattle.model.specs.Listing.{listed, listedInto, listedNumbers};
 use model::Checked;
 use model::Decoded;
 use model::Encoded;
+use model::Listed;
 use model::Numbers;
 use model::Replayed;
 use model::Verdict;
@@ -88,6 +92,17 @@ fn replayed_numbers(p: Replayed) -> Numbers
     }
 }
 
+// A listing's length is a number of 16 bits.
+fn listed_numbers(l: Listed) -> Numbers
+    requires { ⌜ listedNumbers l .first ≤ mostListingBytes ⌝ }
+    ensures { λ r. ⌜ r ≡ listedNumbers l ⌝ }
+{
+    match l {
+        Listed::Text { bytes } => answer(1, bytes as u16, 0),
+        Listed::Refused { number, place } => refusal(number, place),
+    }
+}
+
 // Whether the calls take the case: checks 1 to 9.
 #[no_mangle]
 pub extern "C" fn menduvo_accept(case: &[u8]) -> Numbers
@@ -129,4 +144,13 @@ pub extern "C" fn menduvo_replay(case: &[u8], schedule: &[u16], items: &mut [u16
     ensures { λ r. ⌜ now (items .exit) ≡ replayedInto (now (case .entry)) (now (schedule .entry)) (now (items .entry)) ⌝ }
 {
     replayed_numbers(replayer::replay(case, schedule, items))
+}
+
+// The listing of the case as text, from the start of the slice: its constraints, or the number and place of its refusal.
+#[no_mangle]
+pub extern "C" fn menduvo_listing(case: &[u8], text: &mut [u8]) -> Numbers
+    ensures { λ r. ⌜ r ≡ listedNumbers (listed (now (case .entry)) (length (now (text .entry)))) ⌝ }
+    ensures { λ r. ⌜ now (text .exit) ≡ listedInto (now (case .entry)) (now (text .entry)) ⌝ }
+{
+    listed_numbers(listing_text::listing_text(case, text))
 }

@@ -84,8 +84,8 @@ pub record First (test : Step → Bool) (steps : List Step) (s : Step) : Type 0 
 abbrev pub FirstAt : (Step → Bool) → List Step → ℕ → Type 0
 FirstAt test steps k = (s : Step) × First test steps s × (s .line .number ≡ k)
 
--- "The run of a schedule is what this machine does.": the steps that its blocks have, those that it takes before a line ends it,
--- and the items where the blocks end.
+-- "The run of a schedule is what this machine does.": the steps that its blocks have, those before the first that ends the run,
+-- and the items where the blocks end. Of a schedule that meets refusal 14 nothing is said by them but that (NoneStrays).
 abbrev pub courseOf : Case → List ℕ → List Step
 courseOf case schedule = course case (givenIn case schedule) 0 (blockLengths case schedule) (start case)
 

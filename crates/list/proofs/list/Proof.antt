@@ -1,4 +1,4 @@
--- `list` prints the bytes of the listing, all of which are in its text. Assumes nothing.
+-- What `list` hands to write lies within its text. It rests on the contracts of C's read and write, which are assumed.
 use borrow.Author.Needs.{needs}
 use native.Mathlib.Omega.{arith}
 use lib.ListN.{take}

@@ -1,4 +1,5 @@
--- `read_case` counts the bytes that it has read, and each read that it goes on after has read some. Assumes nothing.
+-- `read_case` counts the bytes that it has read, and each read that it goes on after has read some. It rests
+-- on the contract of C's read, which is assumed.
 use borrow.Author.Needs.{needs}
 use Prim.Native.Nat.{_≤_, _-_}
 use mathlib.Core.Path.{_≡_}

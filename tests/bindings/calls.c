@@ -1,0 +1,45 @@
+/* Every call of bindings/menduvo.h from C: a case on standard input, an assignment as arguments. Prints the numbers of each answer
+ * and what was written; then refusals 10 to 12, with what the slices still hold. */
+#include "menduvo.h"
+#include <stdio.h>
+#include <stdlib.h>
+
+static void tell(const char *call, MenduvoNumbers n) {
+    printf("%s: %u %u %u %u %u\n", call, n.refusal, n.place, n.answer, n.first, n.second);
+}
+
+static void tell_slice(const uint16_t *numbers, size_t count) {
+    for (size_t i = 0; i < count; i++) printf(" %u", numbers[i]);
+    printf("\n");
+}
+
+int main(int argc, char **argv) {
+    static uint8_t bytes[MENDUVO_MOST_CASE_BYTES + 1], text[MENDUVO_MOST_LISTING_BYTES];
+    static uint16_t table[MENDUVO_MOST_TABLE_NUMBERS], assignment[MENDUVO_MOST_VARIABLES];
+    uint16_t schedule[MENDUVO_MOST_SCHEDULE_NUMBERS] = {0}, items[MENDUVO_MOST_ITEMS] = {0}, kept[2] = {7, 8};
+    size_t length = fread(bytes, 1, sizeof bytes, stdin), count = 0, schedule_length;
+    for (; count + 1 < (size_t)argc && count < MENDUVO_MOST_VARIABLES; count++) assignment[count] = (uint16_t)atoi(argv[count + 1]);
+
+    tell("accept", menduvo_accept(bytes, length));
+    MenduvoNumbers encoded = menduvo_encode(bytes, length, table, MENDUVO_MOST_TABLE_NUMBERS);
+    tell("encode", encoded);
+    tell_slice(table, 6 * (size_t)encoded.first);
+    tell("check", menduvo_check(bytes, length, assignment, count));
+    MenduvoNumbers decoded = menduvo_decode(bytes, length, assignment, count, schedule, MENDUVO_MOST_SCHEDULE_NUMBERS);
+    tell("decode", decoded);
+    schedule_length = decoded.first;
+    tell_slice(schedule, schedule_length);
+    tell("replay", menduvo_replay(bytes, length, schedule, schedule_length, items, MENDUVO_MOST_ITEMS));
+    tell_slice(items, 2);
+    MenduvoNumbers listed = menduvo_listing(bytes, length, text, MENDUVO_MOST_LISTING_BYTES);
+    tell("listing", listed);
+    fwrite(text, 1, listed.first, stdout);
+
+    tell("encode, short", menduvo_encode(bytes, length, kept, 2));
+    tell("decode, short", menduvo_decode(bytes, length, assignment, count, kept, 2));
+    tell("check, one number less", menduvo_check(bytes, length, assignment, count - 1));
+    tell("replay, one number less", menduvo_replay(bytes, length, schedule, schedule_length - 1, kept, 2));
+    tell("listing, short", menduvo_listing(bytes, length, text, 1));
+    tell_slice(kept, 2);
+    return 0;
+}
