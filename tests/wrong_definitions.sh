@@ -18,7 +18,7 @@ fresh() {
     local module proofs
     mkdir "$1/crates" && cp -r crates/{model,laws,correspondence} "$1/crates" || return
     grep -E '^(model|laws|correspondence):' crates.txt >"$1/crates.txt" || return
-    for module in laws/Sizes correspondence/{NoLines,CaseA,CaseBytes,Examples,Conventions,Computing}; do
+    for module in laws/Sizes correspondence/{NoLines,CaseA,CaseBytes,Examples,Refusals,Conventions,Computing}; do
         proofs=$1/crates/${module%/*}/proofs
         module=${module#*/}
         rm -- "$proofs/$module.antt" && sed -i "/^pub mod $module\$/d" "$proofs/Lib.antt" || return

@@ -1,5 +1,5 @@
 -- Case files for worked examples: a header and records, written as the fields that document 01 lists, and their bytes.
--- Assumes nothing. Met again in Examples and Conventions.
+-- Assumes nothing. Met again in Examples, Refusals and Conventions.
 use Prim.Native.Nat.{ℕ}
 use mathlib.Core.List.{List, [], _∷_, _++_}
 use Rattle.correspondence.proofs.CaseA.{bytesOf}

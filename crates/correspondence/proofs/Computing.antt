@@ -1,5 +1,5 @@
 -- `unfolding computing` lets a worked example compute: every definition of the model that is shut by itself is open there.
--- Assumes nothing. Met again in CaseA, Examples and Conventions.
+-- Assumes nothing. Met again in CaseA, Examples, Refusals and Conventions.
 use Rattle.model.specs.Lists.{numbersFrom, allFrom, lowestFailing, writtenOver}
 use Rattle.model.specs.CaseFile.{field, kindOf, chain, chains, findLine, findThread}
 use Rattle.model.specs.Accept.{kindRule, verdict}

@@ -1,20 +1,16 @@
--- Worked examples, each for a sentence of document 01 that case A does not touch, computed from bytes over what the calls answer.
+-- Worked examples of constraints and runs, each for a sentence of document 01 that case A does not touch, computed from bytes over
+-- what the calls answer.
 -- Assumes nothing. No proof uses them: they hold the definitions beside the document.
 use mathlib.Core.Path.{_≡_, refl}
-use Prim.Native.Nat.{ℕ, zero, suc}
+use Prim.Native.Nat.{ℕ}
 use mathlib.Core.List.{List, [], _∷_}
 use lib.ListN.{take, drop, replicate}
-use Rattle.model.specs.Accept.{verdict}
-use Rattle.model.specs.Listing.{listingText}
-use Rattle.model.specs.Answers.{encoded, encodedInto, checked, decoded, decodedInto, replayed, replayedInto}
-use Rattle.model.specs.declared.Verdict.the-variants.{Accepted, Refused}
-use Rattle.model.specs.declared.Encoded.the-variants as encodeds
+use Rattle.model.specs.Answers.{encodedInto, checked, decodedInto, replayed, replayedInto}
 use Rattle.model.specs.declared.Checked.the-variants as checkeds
-use Rattle.model.specs.declared.Decoded.the-variants as decodeds
 use Rattle.model.specs.declared.Replayed.the-variants.{Violated, Clean, CutOff}
 use Rattle.model.specs.declared.Replayed.the-variants as replayeds
 use Rattle.correspondence.proofs.Computing.{computing}
-use Rattle.correspondence.proofs.CaseA.{caseA, codesOf, linesOfText}
+use Rattle.correspondence.proofs.CaseA.{caseA}
 use Rattle.correspondence.proofs.CaseBytes.{header, rec, file}
 
 -- ---- Reading and copies
@@ -103,6 +99,18 @@ initial-value-stays = refl
 block-value-stays : checked startsAt (0 ∷ 6 ∷ 0 ∷ 8 ∷ 2 ∷ 6 ∷ 1 ∷ 0 ∷ 8 ∷ 7 ∷ 6 ∷ 7 ∷ []) ≡ checkeds.Fails 15
 unfolding computing startsAt
 block-value-stays = refl
+
+-- Thread 0: 1 local 0 is 7; 2 global 0 gets 8; 3 input to local 1; 4 lock mutex 0; 5 unlock it.
+unusedFields : List ℕ
+unfolding file
+unusedFields = file (header 2 0 1 1 1 0 0 0) (rec 2 1 0 0 0 16 0 7 (rec 3 2 0 0 0 16 0 8 (rec 4 4 0 1 0 0 0 0 (rec 5 7 0 0 0 0 0 0 (rec 0 8 0 0 0 0 0 0 [])))))
+
+-- "unused ones are 0": after ten rows of order and two 4s, the rows of an input, a lock and an unlock. Their operands name nothing,
+-- though both local 0 and global 0 have a copy.
+unused-fields-listed : take 24 (drop 72 (encodedInto unusedFields (replicate 102 9)))
+    ≡ 4 ∷ 3 ∷ 0 ∷ 0 ∷ 0 ∷ 0 ∷ 4 ∷ 4 ∷ 0 ∷ 0 ∷ 0 ∷ 0 ∷ 5 ∷ 4 ∷ 0 ∷ 0 ∷ 0 ∷ 0 ∷ 4 ∷ 5 ∷ 0 ∷ 0 ∷ 0 ∷ 4 ∷ []
+unfolding computing unusedFields
+unused-fields-listed = refl
 
 -- ---- Locks
 
@@ -242,140 +250,3 @@ guards = file (header 2 0 5 0 1 0 0 0)
 guards-run : replayedInto guards (6 ∷ []) (3 ∷ 3 ∷ 3 ∷ 3 ∷ 3 ∷ []) ≡ 5 ∷ 0 ∷ 7 ∷ 0 ∷ 9 ∷ []
 unfolding computing guards
 guards-run = refl
-
--- ---- Refusals 1 to 9, with their places, and their order
-
-refused-1-short : verdict [] ≡ Refused 1 0
-unfolding computing
-refused-1-short = refl
-
-refused-1-ragged : verdict (0 ∷ file (header 2 0 0 0 0 0 0 0) []) ≡ Refused 1 0
-unfolding computing file
-refused-1-ragged = refl
-
-refused-2 : verdict (file (header 1 0 0 0 0 0 0 0) []) ≡ Refused 2 0
-unfolding computing file
-refused-2 = refl
-
-refused-3 : verdict (file (header 2 16 0 0 0 0 0 0) []) ≡ Refused 3 0
-unfolding computing file
-refused-3 = refl
-
-refused-4 : verdict (file (header 2 0 9 0 0 0 0 0) []) ≡ Refused 4 0
-unfolding computing file
-refused-4 = refl
-
-refused-4-mutexes : verdict (file (header 2 0 0 5 0 0 0 0) []) ≡ Refused 4 0
-unfolding computing file
-refused-4-mutexes = refl
-
-refused-5 : verdict (file (header 2 0 0 0 0 0 1 0) (rec 0 7 0 0 0 0 0 0 [])) ≡ Refused 5 0
-unfolding computing file
-refused-5 = refl
-
--- Global 0 is absent and has an initial value.
-refused-5-global : verdict (file (2 ∷ 0 ∷ 0 ∷ 0 ∷ 0 ∷ 0 ∷ 0 ∷ 0 ∷ 1 ∷ 0 ∷ 0 ∷ 0 ∷ 0 ∷ 0 ∷ 0 ∷ 0 ∷ []) []) ≡ Refused 5 0
-unfolding computing file
-refused-5-global = refl
-
-refused-6-first : verdict (file (header 2 0 0 0 0 1 0 0) []) ≡ Refused 6 0
-unfolding computing file
-refused-6-first = refl
-
--- A next number over R counts, also in a record that no chain reaches.
-refused-6-over : verdict (file (header 2 0 0 0 0 0 0 0) (rec 2 1 0 0 0 0 0 0 [])) ≡ Refused 6 0
-unfolding computing file
-refused-6-over = refl
-
-refused-6-twice : verdict (file (header 2 0 0 0 1 1 0 0) (rec 0 1 0 0 0 0 0 0 [])) ≡ Refused 6 0
-unfolding computing file
-refused-6-twice = refl
-
-refused-6-cycle : verdict (file (header 2 0 0 0 1 0 0 0) (rec 1 1 0 0 0 0 0 0 [])) ≡ Refused 6 0
-unfolding computing file
-refused-6-cycle = refl
-
--- Reached is reached from a thread's first record: a stray cycle is in no chain.
-refused-7 : verdict (file (header 2 0 0 0 0 0 0 0) (rec 1 1 0 0 0 0 0 0 [])) ≡ Refused 7 0
-unfolding computing file
-refused-7 = refl
-
--- "R is at most 256 and may be 0."
-no-records : verdict (file (header 2 0 0 0 0 0 0 0) []) ≡ Accepted
-unfolding computing file
-no-records = refl
-
--- Thread 0 has so many computing lines from record k on.
-longThread : ℕ → ℕ → List ℕ
-unfolding rec
-longThread k zero = []
-longThread k (suc zero) = rec 0 1 0 0 0 0 0 0 []
-longThread k (suc (suc more)) = rec (suc k) 1 0 0 0 0 0 0 (longThread (suc k) (suc more))
-
-lines-64 : verdict (file (header 2 0 0 0 1 0 0 0) (longThread 1 64)) ≡ Accepted
-unfolding computing file longThread
-lines-64 = refl
-
-refused-8 : verdict (file (header 2 0 0 0 1 0 0 0) (longThread 1 65)) ≡ Refused 8 0
-unfolding computing file longThread
-refused-8 = refl
-
--- "the place is the lowest such record": record 2 has kind 9, and record 3 a guard of 33.
-refused-9 : verdict (file (header 2 0 0 0 1 0 0 0) (rec 2 1 0 0 0 0 0 0 (rec 3 9 0 0 0 0 0 0 (rec 0 1 33 0 0 0 0 0 [])))) ≡ Refused 9 2
-unfolding computing file
-refused-9 = refl
-
--- "For a refused case it prints the number and place on one line."
-refused-9-text : listingText (file (header 2 0 0 0 1 0 0 0) (rec 2 1 0 0 0 0 0 0 (rec 0 9 0 0 0 0 0 0 []))) ≡ linesOfText ("9 2" ∷ [])
-unfolding computing file codesOf linesOfText
-refused-9-text = refl
-
--- "c is 0 unless a used operand is 16"
-refused-9-constant : verdict (file (header 2 0 0 0 1 0 0 0) (rec 0 1 0 0 0 0 0 1 [])) ≡ Refused 9 1
-unfolding computing file
-refused-9-constant = refl
-
--- 3 before 4, and 6 before 9.
-order-3-4 : verdict (file (header 2 16 9 0 0 0 0 0) []) ≡ Refused 3 0
-unfolding computing file
-order-3-4 = refl
-
-order-6-9 : verdict (file (header 2 0 0 0 1 1 0 0) (rec 0 9 0 0 0 0 0 0 [])) ≡ Refused 6 0
-unfolding computing file
-order-6-9 = refl
-
--- ---- Refusals 10 to 15; none alters a slice
-
-refused-10 : encoded (caseA 2) 107 ≡ encodeds.Refused 10 0
-unfolding computing caseA
-refused-10 = refl
-
-refused-10-slice : encodedInto (caseA 2) (1 ∷ 2 ∷ 3 ∷ []) ≡ 1 ∷ 2 ∷ 3 ∷ []
-unfolding computing caseA
-refused-10-slice = refl
-
-refused-11 : checked (caseA 2) (0 ∷ []) ≡ checkeds.Refused 11 0
-unfolding computing caseA
-refused-11 = refl
-
-refused-12 : replayed (caseA 2) (2 ∷ 1 ∷ []) 1 ≡ replayeds.Refused 12 0
-unfolding computing caseA
-refused-12 = refl
-
-refused-13 : replayed (caseA 2) (2 ∷ 1 ∷ 3 ∷ []) 1 ≡ replayeds.Refused 13 0
-unfolding computing caseA
-refused-13 = refl
-
--- "10 .. 12": 10 comes first.
-order-10-12 : replayed (caseA 2) (2 ∷ 1 ∷ []) 0 ≡ replayeds.Refused 10 0
-unfolding computing caseA
-order-10-12 = refl
-
--- "the place is the first failed constraint, from 1"
-refused-15 : decoded (caseA 2) (0 ∷ 0 ∷ 0 ∷ 1 ∷ 2 ∷ 1 ∷ 2 ∷ 1 ∷ 1 ∷ 5 ∷ 1 ∷ 5 ∷ []) 3 ≡ decodeds.Refused 15 13
-unfolding computing caseA
-refused-15 = refl
-
-refused-15-slice : decodedInto (caseA 2) (0 ∷ 0 ∷ 0 ∷ 1 ∷ 2 ∷ 1 ∷ 2 ∷ 1 ∷ 1 ∷ 5 ∷ 1 ∷ 5 ∷ []) (4 ∷ 5 ∷ 6 ∷ []) ≡ 4 ∷ 5 ∷ 6 ∷ []
-unfolding computing caseA
-refused-15-slice = refl

@@ -41,4 +41,5 @@ pub mod NoLines
 pub mod CaseA
 pub mod CaseBytes
 pub mod Examples
+pub mod Refusals
 pub mod Conventions
