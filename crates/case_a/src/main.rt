@@ -1,4 +1,4 @@
-// Document 01's case A on the code: P1 to P10, a line each. What they must be is in `stdout`.
+// Document 01's case A on the code: P1 to P10, a line or two each. What they must be is in `stdout`.
 use libc::STDOUT_FILENO;
 use model::Checked;
 use model::Decoded;
