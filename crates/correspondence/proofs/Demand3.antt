@@ -38,7 +38,7 @@ use Rattle.correspondence.proofs.Claims.{eventsOf, FinishesRun, size-of
 use Rattle.correspondence.proofs.Courses.{up-to-none}
 use Rattle.correspondence.proofs.Endings.{legal-of-finished, broken-of-steps, first-of-some, some-of-first}
 use Rattle.correspondence.proofs.RunEnds.{finished-run}
-use Rattle.correspondence.proofs.RunReplies.{takes-of-answered, answered-of-takes, legal-completes, run-of-violated, violated-of-run, run-of-clean, clean-of-run, run-of-cut-off, cut-off-of-run, values-of-cut-off, values-of-legal, takes-of-violating}
+use Rattle.correspondence.proofs.RunReplies.{takes-of-answered, answered-of-takes, legal-completes, run-of-violated, violated-of-run, run-of-clean, clean-of-run, run-of-cut-off, cut-off-of-run, run-of-14, refused-14-of-run, values-of-cut-off, values-of-legal, takes-of-violating}
 
 -- A result as long as the slice takes its place.
 written-whole : (result slice : List ℕ) → length result ≡ length slice → writtenOver result slice ≡ result
@@ -226,6 +226,10 @@ module _ (bytes : List ℕ) (small : AllBelow 256 bytes) (accepted : verdict byt
     cut-off-names-the-first = λ schedule room h k. (
       run-of-cut-off bytes accepted wf schedule room h k,
       (λ run. cut-off-of-run bytes accepted wf schedule room h k (run .0) (run .1 .0) (run .1 .1) (run .1 .2)),
+    );
+    refused-14-names-the-first = λ schedule room h k. (
+      run-of-14 bytes accepted wf schedule room h k,
+      (λ run. refused-14-of-run bytes accepted wf schedule room h k (run .0) (run .1) (run .2)),
     );
     legal-is-complete = legal-completes bytes accepted wf;
     values-at-the-end = values-of-legal bytes accepted wf;

@@ -1,17 +1,21 @@
 -- The replayer's replies and final values are those of the machine under "Runs": which schedules it takes, the record that each
 -- answer names, and the items that it leaves.
 -- Assumes nothing. Met again in Demand3.
-use mathlib.Core.Path.{_≡_, sym, ap, _∙_, subst}
+use mathlib.Core.Path.{_≡_, refl, sym, ap, _∙_, subst}
 use Prim.Native.Nat.{ℕ, _≤_}
+use mathlib.Core.Bool.{Bool, true, false}
 use mathlib.Core.List.{List}
 use native.Mathlib.Omega.{arith}
+use borrow.Author.Tests.{le-leb, eqb-true}
+use lib.Dec.{eqb}
 use lib.ListN.{length}
+use Rattle.model.specs.Lists.{unless}
 use Rattle.model.specs.CaseFile.{Case, caseOf}
 use Rattle.model.specs.Accept.{verdict}
 use Rattle.model.specs.Machine.{Outcome, refused14, cutOff, violated, clean}
-use Rattle.model.specs.Schedule.{givenIn, runOf}
-use Rattle.model.specs.Runs.{Step, courseOf, runSteps, lastItems, ends, strays, broken, Complete, Legal, Violates, InBlocks, Takes, FirstBroken, NoneBroken, NoneStrays, FirstEnding}
-use Rattle.model.specs.Answers.{answerOfRun, itemsAfter, replayed, replayedInto}
+use Rattle.model.specs.Schedule.{scheduleSize, blockLengths, givenIn, lengthsAddUp, runOf}
+use Rattle.model.specs.Runs.{Step, courseOf, runSteps, lastItems, ends, strays, broken, Complete, Legal, Violates, InBlocks, Takes, FirstBroken, NoneBroken, NoneStrays, FirstEnding, FirstStray}
+use Rattle.model.specs.Answers.{onCase, answerOfRun, itemsAfter, replayed, replayedInto}
 use Rattle.model.specs.declared.Verdict.the-variants.{Accepted}
 use Rattle.model.specs.declared.Replayed.{Replayed}
 use Rattle.model.specs.declared.Replayed.the-variants.{Violated, Clean, CutOff, Refused}
@@ -139,6 +143,48 @@ module _ (bytes : List ℕ) (accepted : verdict bytes ≡ Accepted) (wf : WellFo
         go (ended-violated s none legal first e) =
             let q : Violated (s .line .number) ≡ CutOff k = outcome-answers (CutOff k) tt reply _ e in
             absurd (let z : _≡_ {A = ℕ} 0 1 = cc in omega arith)
+
+    -- ---- Refusal 14.
+    reply-by-size : replayed bytes schedule room
+        ≡ unless (eqb (length schedule) (scheduleSize case)) (Refused 12 0)
+        (unless (lengthsAddUp case (blockLengths case schedule)) (Refused 13 0) (answerOfRun (runOf case schedule)))
+    unfolding replayed onCase
+    reply-by-size = rw (accepted, le-leb (itemRoom bytes) room h)
+
+    pub run-of-14 : (k : ℕ) → replayed bytes schedule room ≡ Refused 14 k
+        → (length schedule ≡ scheduleSize case) × (lengthsAddUp case (blockLengths case schedule) ≡ true) × FirstStray case schedule k
+    run-of-14 k reply =
+        go (eqb (length schedule) (scheduleSize case)) refl (lengthsAddUp case (blockLengths case schedule)) refl (run-ending case wf schedule)
+        (sym reply-by-size ∙ reply)
+      where
+        go : (sized : Bool) → eqb (length schedule) (scheduleSize case) ≡ sized → (sums : Bool) → lengthsAddUp case (blockLengths case schedule) ≡ sums
+            → RunEnding case wf schedule → unless sized (Refused 12 0) (unless sums (Refused 13 0) (answerOfRun (runOf case schedule))) ≡ Refused 14 k
+            → (length schedule ≡ scheduleSize case) × (lengthsAddUp case (blockLengths case schedule) ≡ true) × FirstStray case schedule k
+        go false p sums q ends-so e = let z : _≡_ {A = ℕ} 12 14 = cc in absurd (omega arith)
+        go true p false q ends-so e = let z : _≡_ {A = ℕ} 13 14 = cc in absurd (omega arith)
+        go true p true q (met-14 s first is) e =
+            let reply-14 : Refused 14 (s .line .number) ≡ Refused 14 k = sym (ap answerOfRun is) ∙ e in
+            (eqb-true (length schedule) (scheduleSize case) p, q, (s, first, (let z : s .line .number ≡ k = cc in z)))
+        go true p true q (cut-off s none first is) e =
+            let other : CutOff (s .line .number) ≡ Refused 14 k = sym (ap answerOfRun is) ∙ e in absurd (let z : _≡_ {A = ℕ} 0 1 = cc in omega arith)
+        go true p true q (ended-clean none legal unbroken is) e =
+            let other : Clean ≡ Refused 14 k = sym (ap answerOfRun is) ∙ e in absurd (let z : _≡_ {A = ℕ} 0 1 = cc in omega arith)
+        go true p true q (ended-violated s none legal first is) e =
+            let other : Violated (s .line .number) ≡ Refused 14 k = sym (ap answerOfRun is) ∙ e in absurd (let z : _≡_ {A = ℕ} 0 1 = cc in omega arith)
+
+    pub refused-14-of-run : (k : ℕ) → length schedule ≡ scheduleSize case → lengthsAddUp case (blockLengths case schedule) ≡ true
+        → FirstStray case schedule k → replayed bytes schedule room ≡ Refused 14 k
+    refused-14-of-run k sized sums found =
+        replayed-fits bytes schedule room (record { accepted = accepted; has-room = h; has-size = sized; adds-up = sums })
+        ∙ ap answerOfRun (go (run-ending case wf schedule))
+      where
+        go : RunEnding case wf schedule → runOf case schedule ≡ refused14 k
+        go (met-14 s first e) =
+            e ∙ ap (λ (x : Step). refused14 (x .line .number)) (first-is-one (strays case given) (runSteps case schedule) s (found .0) first (found .1))
+            ∙ ap refused14 (found .2)
+        go (cut-off s none first e) = absurd (none-has-no-first (strays case given) (runSteps case schedule) (found .0) none (found .1))
+        go (ended-clean none legal unbroken e) = absurd (none-has-no-first (strays case given) (runSteps case schedule) (found .0) none (found .1))
+        go (ended-violated s none legal first e) = absurd (none-has-no-first (strays case given) (runSteps case schedule) (found .0) none (found .1))
 
   -- The outcome at the first line that ends the run.
   outcome-of-cut-off : Takes case schedule → (s : Step) → FirstEnding case schedule s → runOf case schedule ≡ cutOff (s .line .number) (s .memory .items)

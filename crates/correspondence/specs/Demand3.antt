@@ -5,6 +5,7 @@
 use mathlib.Core.Path.{_≡_}
 use mathlib.Core.Logic.{_↔_}
 use Prim.Native.Nat.{ℕ, _≤_, _<_}
+use mathlib.Core.Bool.{true}
 use mathlib.Core.List.{List}
 use lib.ListN.{length, take}
 use Rattle.model.specs.Word.{wordSize, AllBelow}
@@ -13,8 +14,8 @@ use Rattle.model.specs.CaseFile.{caseOf, itemCount}
 use Rattle.model.specs.Accept.{verdict}
 use Rattle.model.specs.Assignment.{variables, assignmentOf}
 use Rattle.model.specs.Table.{Row, table, numbersOf}
-use Rattle.model.specs.Schedule.{scheduleSize, decode}
-use Rattle.model.specs.Runs.{Step, Complete, Legal, Violates, InBlocks, Takes, FirstBroken, NoneBroken, FirstEnding, lastItems}
+use Rattle.model.specs.Schedule.{scheduleSize, blockLengths, lengthsAddUp, decode}
+use Rattle.model.specs.Runs.{Step, Complete, Legal, Violates, InBlocks, Takes, FirstBroken, NoneBroken, FirstEnding, FirstStray, lastItems}
 use Rattle.model.specs.Answers.{encoded, encodedInto, checked, decoded, decodedInto, replayed, replayedInto}
 use Rattle.model.specs.declared.Verdict.the-variants.{Accepted}
 use Rattle.model.specs.declared.Encoded.the-variants as encodeds
@@ -112,6 +113,12 @@ pub record Demand3 (bytes : List ℕ) : Type 0 where
   pub cut-off-names-the-first : (schedule : List ℕ) (room : ℕ) → itemRoom bytes ≤ room → (k : ℕ) →
       (replayed bytes schedule room ≡ replayeds.CutOff k)
       ↔ (Takes (caseOf bytes) schedule × ((s : Step) × FirstEnding (caseOf bytes) schedule s × (s .line .number ≡ k)))
+  -- Refused with 14: neither 12 nor 13 meets the schedule, and the record is that of the first input that strays, which the run
+  -- meets before any line ends it.
+  pub refused-14-names-the-first : (schedule : List ℕ) (room : ℕ) → itemRoom bytes ≤ room → (k : ℕ) →
+      (replayed bytes schedule room ≡ replayeds.Refused 14 k)
+      ↔ ((length schedule ≡ scheduleSize (caseOf bytes)) × (lengthsAddUp (caseOf bytes) (blockLengths (caseOf bytes) schedule) ≡ true)
+      × FirstStray (caseOf bytes) schedule k)
   -- A legal run of a schedule that is taken is complete.
   pub legal-is-complete : (schedule : List ℕ) → Takes (caseOf bytes) schedule → Legal (caseOf bytes) schedule → Complete (caseOf bytes) schedule
   -- The final values: "at the end of the run, or at the cut-off with the failed line not run".

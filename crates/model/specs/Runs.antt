@@ -122,6 +122,10 @@ FirstEnding case schedule s = First (ends case (givenIn case schedule)) (courseO
 abbrev pub NoneStrays : Case → List ℕ → Type 0
 NoneStrays case schedule = None (strays case (givenIn case schedule)) (runSteps case schedule)
 
+-- "14. The run meets an input line with a false guard and a value other than 0; the place is that record."
+abbrev pub FirstStray : Case → List ℕ → ℕ → Type 0
+FirstStray case schedule k = FirstAt (strays case (givenIn case schedule)) (runSteps case schedule) k
+
 -- "It violates when it is complete and legal and some guarded-in assert is zero"
 pub record Violates (case : Case) (schedule : List ℕ) : Type 0 where
   pub complete : Complete case schedule
