@@ -1,10 +1,10 @@
 //! Asking the library under test, with slices of the right size, and with
 //! marked slices that show what was touched.
 
-use crate::calls::{Calls, Checked, Decoded, Encoded, Refusal, Replayed, Verdict};
+use crate::calls::{Calls, Checked, Decoded, Encoded, Listed, Refusal, Replayed, Verdict};
 use crate::draft::Draft;
 use crate::report::{Outcome, Tally};
-use crate::table::MOST_NUMBERS;
+use crate::table::{MOST_LISTING_BYTES, MOST_NUMBERS};
 
 /// Numbers to put in a slice before a call: different from place to place, and
 /// none that a call has a reason to write there.
@@ -12,6 +12,12 @@ pub fn marks(length: usize) -> Vec<u16> {
     (0..length)
         .map(|place| 0xa5c3 ^ (place as u16).wrapping_mul(0x9e37))
         .collect()
+}
+
+/// Such marks for a slice of bytes; none of them stands in a text of ASCII.
+pub fn byte_marks(length: usize) -> Vec<u8> {
+    let marks = marks(length).into_iter();
+    marks.map(|mark| mark as u8 | 0x80).collect()
 }
 
 /// The reply to a schedule, and the items' values.
@@ -39,8 +45,18 @@ pub fn check(calls: &dyn Calls, draft: &Draft, assignment: &[u16]) -> Checked {
     calls.check(&draft.bytes(), assignment)
 }
 
-/// Demands that each of the five calls meets one refusal, and that none of
-/// them touches what it was lent.
+/// The listing of any file, with room for every one.
+pub fn listing(calls: &dyn Calls, case: &[u8]) -> Result<String, String> {
+    let mut text = byte_marks(MOST_LISTING_BYTES);
+    match calls.listing(case, &mut text) {
+        Listed::Text { bytes } => text.truncate(usize::from(bytes)),
+        refused => return Err(format!("{case:?} was not listed: {refused:?}")),
+    }
+    String::from_utf8(text).map_err(|_| format!("the listing of {case:?} is no text"))
+}
+
+/// Demands that the listing of a case is one refusal, that each of the other
+/// five calls meets it, and that none of these touches what it was lent.
 pub fn refused_by_all(
     calls: &dyn Calls,
     case: &[u8],
@@ -49,6 +65,8 @@ pub fn refused_by_all(
 ) -> Outcome {
     let about = || format!("case {case:?}");
     tally.same(calls.accept(case), Verdict::from(refusal), about)?;
+    let line = format!("{} {}\n", refusal.number, refusal.place);
+    tally.same(listing(calls, case)?, line, about)?;
     for room in [0, MOST_NUMBERS] {
         let (mut table, mut schedule, mut items) = (marks(room), marks(room), marks(room));
         tally.same(

@@ -1,4 +1,4 @@
-//! The five calls of the library and their replies.
+//! The six calls of the library and their replies.
 //!
 //! Both the second implementation and the proved library stand behind the
 //! trait `Calls`, so that each test can be run on either of them.
@@ -58,12 +58,25 @@ pub enum Replayed {
     },
 }
 
+#[derive(Clone, Copy, Debug, PartialEq, Eq)]
+pub enum Listed {
+    /// How many bytes were written.
+    Text {
+        bytes: u16,
+    },
+    Refused {
+        number: u16,
+        place: u16,
+    },
+}
+
 pub trait Calls {
     fn accept(&self, case: &[u8]) -> Verdict;
     fn encode(&self, case: &[u8], table: &mut [u16]) -> Encoded;
     fn check(&self, case: &[u8], assignment: &[u16]) -> Checked;
     fn decode(&self, case: &[u8], assignment: &[u16], schedule: &mut [u16]) -> Decoded;
     fn replay(&self, case: &[u8], schedule: &[u16], items: &mut [u16]) -> Replayed;
+    fn listing(&self, case: &[u8], text: &mut [u8]) -> Listed;
 }
 
 /// Every reply can be made from a refusal.
@@ -77,7 +90,7 @@ macro_rules! replies_that_can_refuse {
     )* };
 }
 
-replies_that_can_refuse!(Verdict, Encoded, Checked, Decoded, Replayed);
+replies_that_can_refuse!(Verdict, Encoded, Checked, Decoded, Replayed, Listed);
 
 impl Verdict {
     pub fn refusal(self) -> Option<Refusal> {

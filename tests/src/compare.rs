@@ -1,12 +1,12 @@
 //! The library under test beside the second implementation: the same calls
 //! with the same slices must give the same replies and leave the same numbers
-//! in every slice.
+//! or bytes in every slice.
 //!
 //! Each comparison takes a number of rounds, so that it can be run at length
 //! on the library and in short on each deliberate mistake.
 
-use crate::ask::marks;
-use crate::calls::{Calls, Checked, Decoded, Encoded, Replayed, Verdict};
+use crate::ask::{byte_marks, listing, marks};
+use crate::calls::{Calls, Checked, Decoded, Encoded, Listed, Replayed, Verdict};
 use crate::damage::{damaged, random_bytes, scratched};
 use crate::draft::Draft;
 use crate::generate::{accepted, Shape, ANY, BUSY, FULL, LONG, SMALL, SMALL_WITH_INPUTS};
@@ -25,16 +25,7 @@ pub const SHAPES: [Shape; 6] = [SMALL, SMALL_WITH_INPUTS, ANY, LONG, BUSY, FULL]
 /// Verdicts on accepted, damaged and random files.
 pub fn verdicts(calls: &dyn Calls, count: u64, tally: &mut Tally) -> Outcome {
     rounds(1_000_000, count, |random, draft| {
-        let number = random.between(1, 9);
-        let later = (number < 9).then(|| random.between(number + 1, 9));
-        let files = [
-            draft.bytes(),
-            damaged(random, number, None).bytes,
-            damaged(random, number, later).bytes,
-            random_bytes(random),
-            scratched(random, draft),
-        ];
-        files
+        files(random, draft)
             .iter()
             .try_for_each(|file| same_verdict(calls, file, tally))
     })
@@ -86,6 +77,21 @@ pub fn replays(calls: &dyn Calls, count: u64, tally: &mut Tally) -> Outcome {
     })
 }
 
+/// Listings of accepted, damaged and random files, with too little room, one
+/// byte too little, just enough, and some to spare.
+pub fn listings(calls: &dyn Calls, count: u64, tally: &mut Tally) -> Outcome {
+    rounds(7_000_000, count, |random, draft| {
+        for file in files(random, draft) {
+            let needed = listing(&second::RIGHT, &file)?.len();
+            let (short, spare) = (random.below(needed), 1 + random.below(100));
+            for room in [short, needed - 1, needed, needed + spare] {
+                same_listing(calls, &file, room, tally)?;
+            }
+        }
+        Ok(())
+    })
+}
+
 /// Every length of every slice from 0 to one more than needed, on small cases.
 pub fn lengths(calls: &dyn Calls, count: u64, tally: &mut Tally) -> Outcome {
     for seed in 6_000_000..6_000_000 + count {
@@ -106,6 +112,19 @@ fn rounds(base: u64, count: u64, mut round: impl FnMut(&mut Random, &Draft) -> O
         round(&mut random, &draft).map_err(|message| format!("seed {seed}: {message}"))?;
     }
     Ok(())
+}
+
+/// An accepted file, two damaged ones, a random one and a scratched one.
+fn files(random: &mut Random, draft: &Draft) -> [Vec<u8>; 5] {
+    let number = random.between(1, 9);
+    let later = (number < 9).then(|| random.between(number + 1, 9));
+    [
+        draft.bytes(),
+        damaged(random, number, None).bytes,
+        damaged(random, number, later).bytes,
+        random_bytes(random),
+        scratched(random, draft),
+    ]
 }
 
 fn same_verdict(calls: &dyn Calls, case: &[u8], tally: &mut Tally) -> Outcome {
@@ -196,6 +215,20 @@ fn same_replay(
     tally.same_numbers(&got, &wanted, || format!("items, room for {room}"))
 }
 
+fn same_listing(calls: &dyn Calls, case: &[u8], room: usize, tally: &mut Tally) -> Outcome {
+    let (mut got, mut wanted) = (byte_marks(room), byte_marks(room));
+    let reply = calls.listing(case, &mut got);
+    let wanted_reply = second::listing(case, &mut wanted);
+    match (wanted_reply, second::accept(case)) {
+        (Listed::Refused { number, .. }, _) => tally.saw(format!("refused {number}")),
+        (_, Verdict::Accepted) => tally.saw("listed"),
+        (_, Verdict::Refused { number, .. }) => tally.saw(format!("refusal {number} listed")),
+    }
+    let about = || format!("listing with room for {room} of {case:?}");
+    tally.same(reply, wanted_reply, about)?;
+    tally.same_numbers(&got, &wanted, about)
+}
+
 fn every_length(
     calls: &dyn Calls,
     random: &mut Random,
@@ -222,6 +255,17 @@ fn every_length(
         for length in 0..=longest.len() {
             same_replay(calls, &case, &longest[..length], room, tally)?;
         }
+    }
+    let number = random.between(1, 9);
+    let refused = damaged(random, number, None).bytes;
+    every_length_of_text(calls, &refused, tally)?;
+    every_length_of_text(calls, &case, tally)
+}
+
+fn every_length_of_text(calls: &dyn Calls, case: &[u8], tally: &mut Tally) -> Outcome {
+    let needed = listing(&second::RIGHT, case)?.len();
+    for room in 0..=needed + 1 {
+        same_listing(calls, case, room, tally)?;
     }
     Ok(())
 }

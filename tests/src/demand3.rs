@@ -1,6 +1,6 @@
-//! Demand 3 on one case, by trying everything: the violating schedules are
-//! exactly those decoded from the assignments that meet the table, each from
-//! one assignment.
+//! Demand 3 on one case, by trying everything, inputs with some values: the
+//! violating schedules are exactly those decoded from the assignments that meet
+//! the table, each from one assignment.
 
 use std::collections::BTreeSet;
 

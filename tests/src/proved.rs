@@ -1,6 +1,6 @@
 //! The proved library, through its safe wrapper in `bindings/rust`.
 
-use crate::calls::{Calls, Checked, Decoded, Encoded, Replayed, Verdict};
+use crate::calls::{Calls, Checked, Decoded, Encoded, Listed, Replayed, Verdict};
 
 pub struct Proved;
 
@@ -46,6 +46,13 @@ impl Calls for Proved {
             menduvo::Replayed::Clean => Replayed::Clean,
             menduvo::Replayed::CutOff(record) => Replayed::CutOff(record),
             menduvo::Replayed::Refused { number, place } => Replayed::Refused { number, place },
+        }
+    }
+
+    fn listing(&self, case: &[u8], text: &mut [u8]) -> Listed {
+        match menduvo::listing(case, text) {
+            menduvo::Listed::Text { bytes } => Listed::Text { bytes },
+            menduvo::Listed::Refused { number, place } => Listed::Refused { number, place },
         }
     }
 }

@@ -35,10 +35,10 @@ impl Tally {
     }
 
     /// Demands that two slices are the same, and names the first difference.
-    pub fn same_numbers(
+    pub fn same_numbers<T: PartialEq + Debug>(
         &mut self,
-        got: &[u16],
-        wanted: &[u16],
+        got: &[T],
+        wanted: &[T],
         what: impl FnOnce() -> String,
     ) -> Outcome {
         self.comparisons += 1;

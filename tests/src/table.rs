@@ -8,6 +8,10 @@ pub type Row = [u16; 6];
 /// More numbers than any table has: 1,205 constraints is the most.
 pub const MOST_NUMBERS: usize = 6 * 1_205;
 
+/// More bytes than any listing has: a number takes at most five digits and the
+/// blank or line end after it, and the two counts stand before the table.
+pub const MOST_LISTING_BYTES: usize = 6 * (MOST_NUMBERS + 2);
+
 pub struct Table {
     pub rows: Vec<Row>,
     pub variables: usize,
@@ -57,8 +61,8 @@ impl Table {
         Ok(copies)
     }
 
-    /// What the listing program prints for it: "the count of constraints and
-    /// of variables, then one constraint a line".
+    /// What the listing must be for it: "the count of constraints and of
+    /// variables, then one constraint a line".
     pub fn listing(&self) -> String {
         let mut text = format!("{} {}\n", self.rows.len(), self.variables);
         for row in &self.rows {
@@ -67,15 +71,6 @@ impl Table {
             text.push('\n');
         }
         text
-    }
-}
-
-/// What the listing program prints for any file; "For a refused case it prints
-/// the number and place on one line."
-pub fn listing_of(calls: &dyn Calls, case: &[u8]) -> Result<String, String> {
-    match calls.accept(case).refusal() {
-        Some(refusal) => Ok(format!("{} {}\n", refusal.number, refusal.place)),
-        None => Ok(table_of(calls, case)?.listing()),
     }
 }
 

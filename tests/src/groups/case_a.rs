@@ -1,6 +1,6 @@
-//! Case A and the table P1 to P10 of document 01.
+//! Case A, its listing, and the table P1 to P10 of document 01.
 
-use crate::ask::{check, decode, replay};
+use crate::ask::{check, decode, listing, replay};
 use crate::calls::{Calls, Checked, Refusal, Replayed, Verdict};
 use crate::determined::Determined;
 use crate::draft::Draft;
@@ -8,15 +8,22 @@ use crate::enumerate::block_lengths;
 use crate::report::{Outcome, Report, Tally};
 use crate::samples::{case_a, CASE_A_LISTING};
 use crate::search::block_numbers;
-use crate::table::{listing_of, table_of};
+use crate::table::table_of;
 
 const P1_ASSIGNMENT: [u16; 12] = [0, 0, 0, 1, 2, 5, 2, 0, 1, 5, 1, 5];
 const P2_ASSIGNMENT: [u16; 12] = [2, 5, 2, 6, 2, 6, 2, 0, 1, 5, 0, 5];
 
 pub fn run(calls: &dyn Calls, report: &mut Report) {
     report.check("listing", |tally| {
-        let text = listing_of(calls, &case_a().bytes())?;
+        let text = listing(calls, &case_a().bytes())?;
         tally.same(text.as_str(), CASE_A_LISTING, || "the listing".into())
+    });
+    report.check("table", |tally| {
+        let text = table_of(calls, &case_a().bytes())?.listing();
+        tally.same(text.as_str(), CASE_A_LISTING, || "the table".into())
+    });
+    report.check("listing of a refused case", |tally| {
+        refused_listings(calls, tally)
     });
     // Name, schedule, reply, and the global at the end.
     let replays = [
@@ -53,6 +60,18 @@ pub fn run(calls: &dyn Calls, report: &mut Report) {
     report.check("a changed number fails", |tally| {
         changed_number_fails(calls, tally)
     });
+}
+
+/// "For a refused case it prints the number and place on one line."
+fn refused_listings(calls: &dyn Calls, tally: &mut Tally) -> Outcome {
+    let too_many_switches = case_a_with_switches(16);
+    let mut no_such_kind = case_a();
+    no_such_kind.records[3].kind = 9;
+    for (draft, line) in [(too_many_switches, "3 0\n"), (no_such_kind, "9 4\n")] {
+        let text = listing(calls, &draft.bytes())?;
+        tally.same(text.as_str(), line, || draft.to_string())?;
+    }
+    Ok(())
 }
 
 fn passes(calls: &dyn Calls, numbers: &[u16], schedule: [u16; 3], tally: &mut Tally) -> Outcome {
@@ -126,6 +145,8 @@ fn nothing_meets(calls: &dyn Calls, tally: &mut Tally) -> Outcome {
     let table = table_of(calls, &draft.bytes())?;
     tally.same(table.rows, vec![[7, 0, 0, 0, 0, 0]], || "the table".into())?;
     tally.same(table.variables, 0, || "variables".into())?;
+    let text = listing(calls, &draft.bytes())?;
+    tally.same(text.as_str(), "1 0\n7 0 0 0 0 0\n", || "the listing".into())?;
     // The only assignment has no numbers.
     tally.same(check(calls, &draft, &[]), Checked::Fails(1), || {
         "the checker".into()

@@ -1,4 +1,5 @@
-//! Demand 3 by trying everything on small cases.
+//! Demand 3 by trying every schedule of small cases, inputs with some values,
+//! and some schedules of large ones.
 
 use crate::calls::Calls;
 use crate::demand3::{compare, seen_alike};

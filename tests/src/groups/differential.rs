@@ -2,7 +2,7 @@
 //! demands that every reply was met often.
 
 use crate::calls::Calls;
-use crate::compare::{checks, decodings, lengths, replays, tables, verdicts, Comparison};
+use crate::compare::{checks, decodings, lengths, listings, replays, tables, verdicts, Comparison};
 use crate::report::Report;
 
 /// How often each reply must have been met at least.
@@ -45,7 +45,21 @@ const REPLAYS: [&str; 7] = [
     "refused 14",
 ];
 
-const COMPARISONS: [(&str, Comparison, u64, &[&str]); 6] = [
+const LISTINGS: [&str; 11] = [
+    "listed",
+    "refusal 1 listed",
+    "refusal 2 listed",
+    "refusal 3 listed",
+    "refusal 4 listed",
+    "refusal 5 listed",
+    "refusal 6 listed",
+    "refusal 7 listed",
+    "refusal 8 listed",
+    "refusal 9 listed",
+    "refused 10",
+];
+
+const COMPARISONS: [(&str, Comparison, u64, &[&str]); 7] = [
     ("verdicts", verdicts, 20_000, &VERDICTS),
     (
         "tables",
@@ -56,11 +70,12 @@ const COMPARISONS: [(&str, Comparison, u64, &[&str]); 6] = [
     ("checks", checks, 4_000, &CHECKS),
     ("decodings", decodings, 4_000, &DECODINGS),
     ("replays", replays, 20_000, &REPLAYS),
+    ("listings", listings, 2_000, &LISTINGS),
     (
         "every length of every slice",
         lengths,
         200,
-        &["encoded", "refused 10", "decoded"],
+        &["encoded", "refused 10", "decoded", "listed"],
     ),
 ];
 

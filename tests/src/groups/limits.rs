@@ -1,6 +1,6 @@
 //! Both sides of every limit.
 
-use crate::ask::{refused_by_all, replay};
+use crate::ask::{listing, refused_by_all, replay};
 use crate::calls::{Calls, Checked, Refusal, Replayed, Verdict};
 use crate::draft::Draft;
 use crate::enumerate::block_lengths;
@@ -165,6 +165,8 @@ fn largest_case(calls: &dyn Calls, tally: &mut Tally) -> Outcome {
     let table = table_of(calls, &draft.bytes())?;
     tally.same(table.rows.len(), 1_205, || "constraints".into())?;
     tally.same(table.variables, 692, || "variables".into())?;
+    let text = listing(calls, &draft.bytes())?;
+    tally.same(text, table.listing(), || "the listing".into())?;
     let schedule = [16; 16];
     let numbers = fill(&draft, &schedule);
     let checked = calls.check(&draft.bytes(), &numbers);

@@ -1,7 +1,9 @@
-//! The listing program beside the second encoder.
+//! The listing program beside the second implementation, and beside the library
+//! under test.
 
 use std::env;
 
+use crate::ask::listing;
 use crate::calls::Calls;
 use crate::damage::{damaged, random_bytes, scratched};
 use crate::draft::Draft;
@@ -11,15 +13,13 @@ use crate::random::Random;
 use crate::report::{Outcome, Report, Tally};
 use crate::samples::{case_a, guarded_counter, CASE_A_LISTING};
 use crate::second;
-use crate::table::listing_of;
 
 /// The environment variable that names the listing program.
 pub const PROGRAM: &str = "MENDUVO_LISTING";
 
 const ROUNDS: u64 = 100;
 
-/// Nothing here calls the library itself.
-pub fn run(_: &dyn Calls, report: &mut Report) {
+pub fn run(calls: &dyn Calls, report: &mut Report) {
     report.check("case A", |tally| {
         let printed = print(&case_a().bytes())?;
         tally.same(printed.as_str(), CASE_A_LISTING, || "the listing".into())
@@ -33,37 +33,46 @@ pub fn run(_: &dyn Calls, report: &mut Report) {
         ];
         files
             .iter()
-            .try_for_each(|file| same_listing(file, tally))?;
-        same_listing(&vec![0; 32 + 16 * 257], tally)
+            .try_for_each(|file| same_listing(calls, file, tally))?;
+        same_listing(calls, &vec![0; 32 + 16 * 257], tally)
     });
     report.check("random accepted files", |tally| {
-        rounds(tally, |random| accepted(random, ANY).bytes())?;
-        rounds(tally, |random| accepted(random, SMALL_WITH_INPUTS).bytes())
+        rounds(calls, tally, |random| accepted(random, ANY).bytes())?;
+        rounds(calls, tally, |random| {
+            accepted(random, SMALL_WITH_INPUTS).bytes()
+        })
     });
     report.check("random refused files", |tally| {
-        rounds(tally, |random| {
+        rounds(calls, tally, |random| {
             let number = random.between(1, 9);
             damaged(random, number, None).bytes
         })?;
-        rounds(tally, |random| {
+        rounds(calls, tally, |random| {
             let draft = accepted(random, SMALL_WITH_INPUTS);
             scratched(random, &draft)
         })?;
-        rounds(tally, random_bytes)
+        rounds(calls, tally, random_bytes)
     });
 }
 
-fn rounds(tally: &mut Tally, mut file: impl FnMut(&mut Random) -> Vec<u8>) -> Outcome {
+fn rounds(
+    calls: &dyn Calls,
+    tally: &mut Tally,
+    mut file: impl FnMut(&mut Random) -> Vec<u8>,
+) -> Outcome {
     for seed in 60_000_000..60_000_000 + ROUNDS {
         let file = file(&mut Random::from_seed(seed));
-        same_listing(&file, tally).map_err(|message| format!("seed {seed}: {message}"))?;
+        same_listing(calls, &file, tally).map_err(|message| format!("seed {seed}: {message}"))?;
     }
     Ok(())
 }
 
-fn same_listing(file: &[u8], tally: &mut Tally) -> Outcome {
-    let wanted = listing_of(&second::RIGHT, file)?;
-    tally.same(print(file)?, wanted, || format!("listing of {file:?}"))
+fn same_listing(calls: &dyn Calls, file: &[u8], tally: &mut Tally) -> Outcome {
+    let printed = print(file)?;
+    let wanted = listing(&second::RIGHT, file)?;
+    tally.same(&printed, &wanted, || format!("listing of {file:?}"))?;
+    let called = listing(calls, file)?;
+    tally.same(&printed, &called, || format!("beside the call: {file:?}"))
 }
 
 /// What the listing program prints when it is given the file.

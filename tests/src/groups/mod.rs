@@ -1,5 +1,7 @@
-//! The groups of tests. Each is run on the library under test: the proved one
-//! with the feature `proved`, else the second implementation itself.
+//! The groups of tests. Each is given the library under test: the proved one
+//! with the feature `proved`, else the second implementation itself. `mutants`
+//! leaves it aside and takes the second implementation with mistakes; `listing`
+//! holds it and the second implementation to what a program prints.
 
 mod case_a;
 mod checks;
@@ -57,7 +59,7 @@ pub fn all() -> Vec<Group> {
             generator::run,
         ),
         group("slices", "what calls leave in slices", slices::run),
-        group("demand-3", "demand 3 by trying everything", demand_3::run),
+        group("demand-3", "demand 3 by trying schedules", demand_3::run),
         group("solvers", "z3 and cvc5 beside replay", solvers::run),
         group("mutants", "deliberate mistakes are found", mutants::run),
     ];

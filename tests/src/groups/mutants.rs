@@ -2,7 +2,7 @@
 //! every comparison named for it; the right one must pass them all.
 
 use crate::calls::Calls;
-use crate::compare::{checks, decodings, lengths, replays, tables, verdicts, Comparison};
+use crate::compare::{checks, decodings, lengths, listings, replays, tables, verdicts, Comparison};
 use crate::demand3::compare;
 use crate::generate::{BUSY, BUSY_WITH_INPUTS, SMALL};
 use crate::report::{outcome_of, Outcome, Report, Tally};
@@ -11,7 +11,7 @@ use crate::second::{Second, Wrong, RIGHT};
 /// Rounds for each comparison: few, since a mistake should be found soon.
 const ROUNDS: u64 = 150;
 
-const MISTAKES: [(Wrong, &[Comparison]); 15] = [
+const MISTAKES: [(Wrong, &[Comparison]); 17] = [
     (Wrong::StrayNextUnseen, &[verdicts]),
     (Wrong::DropsA6, &[tables, demand_3]),
     (Wrong::FivesLast, &[tables]),
@@ -26,15 +26,21 @@ const MISTAKES: [(Wrong, &[Comparison]); 15] = [
     (Wrong::LengthsWrap, &[replays]),
     (Wrong::LengthBeforeRoom, &[decodings, lengths]),
     (Wrong::WritesThoughRefused, &[replays, lengths]),
-    (Wrong::ClearsTheTail, &[tables, decodings, replays, lengths]),
+    (
+        Wrong::ClearsTheTail,
+        &[tables, decodings, replays, listings, lengths],
+    ),
+    (Wrong::PlaceBeforeNumber, &[listings, lengths]),
+    (Wrong::WritesThoughShort, &[listings, lengths]),
 ];
 
-const ALL: [Comparison; 9] = [
+const ALL: [Comparison; 10] = [
     verdicts,
     tables,
     checks,
     decodings,
     replays,
+    listings,
     lengths,
     demand_3,
     demand_3_small,

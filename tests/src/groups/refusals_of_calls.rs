@@ -1,11 +1,11 @@
 //! Refusals 10 to 15 with their places, and the order between them.
 
-use crate::ask::{marks, replay, reply};
-use crate::calls::{Calls, Checked, Decoded, Encoded, Replayed};
+use crate::ask::{byte_marks, marks, replay, reply};
+use crate::calls::{Calls, Checked, Decoded, Encoded, Listed, Replayed};
 use crate::draft::Draft;
 use crate::line::*;
 use crate::report::{Outcome, Report, Tally};
-use crate::samples::case_a;
+use crate::samples::{case_a, CASE_A_LISTING};
 
 /// P6: meets case A's table.
 const GOOD: [u16; 12] = [0, 0, 0, 1, 2, 5, 2, 0, 1, 5, 1, 5];
@@ -16,6 +16,7 @@ pub fn run(calls: &dyn Calls, report: &mut Report) {
     report.check("10: encoding", |tally| short_table(calls, tally));
     report.check("10: decoding", |tally| short_schedule(calls, tally));
     report.check("10: replaying", |tally| short_items(calls, tally));
+    report.check("10: listing", |tally| short_text(calls, tally));
     report.check("11: checking and decoding", |tally| {
         wrong_assignment(calls, tally)
     });
@@ -106,6 +107,34 @@ fn short_items(calls: &dyn Calls, tally: &mut Tally) -> Outcome {
     let bare = Draft::new(2, 0).with_thread(0, &[assert(local(3))]);
     let reply = calls.replay(&bare.bytes(), &[1], &mut []);
     tally.same(reply, Replayed::Violated(1), || "no items".into())
+}
+
+/// Case A's listing has 6 bytes for the counts and 12 for each constraint. Of a
+/// refused case the text is four bytes here, and 10 is the only refusal.
+fn short_text(calls: &dyn Calls, tally: &mut Tally) -> Outcome {
+    let files = [
+        (case_a().bytes(), CASE_A_LISTING, 222),
+        (vec![], "1 0\n", 4),
+    ];
+    for (case, text, bytes) in files {
+        for room in 0..=bytes + 1 {
+            let mut slice = byte_marks(usize::from(room));
+            let mut wanted = slice.clone();
+            let wanted_reply = if room < bytes {
+                Listed::Refused {
+                    number: 10,
+                    place: 0,
+                }
+            } else {
+                wanted[..text.len()].copy_from_slice(text.as_bytes());
+                Listed::Text { bytes }
+            };
+            let reply = calls.listing(&case, &mut slice);
+            tally.same(reply, wanted_reply, || format!("room for {room}"))?;
+            tally.same_numbers(&slice, &wanted, || format!("room for {room}"))?;
+        }
+    }
+    Ok(())
 }
 
 fn wrong_assignment(calls: &dyn Calls, tally: &mut Tally) -> Outcome {

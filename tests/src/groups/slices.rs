@@ -1,13 +1,18 @@
 //! What calls leave in the slices they were lent.
 
-use crate::ask::marks;
-use crate::calls::{Calls, Decoded, Encoded, Replayed};
+use std::fmt::Debug;
+use std::ops::Not;
+
+use crate::ask::{byte_marks, marks};
+use crate::calls::{Calls, Decoded, Encoded, Listed, Replayed};
+use crate::damage::damaged;
 use crate::demand3::small_case;
 use crate::draft::Draft;
 use crate::fill::fill;
 use crate::generate::SMALL_WITH_INPUTS;
 use crate::random::Random;
 use crate::report::{Outcome, Report, Tally};
+use crate::table::table_of;
 use crate::vary::schedule;
 
 const CASES: u64 = 120;
@@ -22,6 +27,21 @@ pub fn run(calls: &dyn Calls, report: &mut Report) {
     report.check("replaying", |tally| {
         each_case(|draft, random| replaying(calls, draft, random, tally))
     });
+    report.check("listing an accepted case", |tally| {
+        each_case(|draft, _| {
+            let case = draft.bytes();
+            let text = table_of(calls, &case)?.listing();
+            listing(calls, &case, &text, tally)
+        })
+    });
+    report.check("listing a refused case", |tally| {
+        each_case(|_, random| {
+            let number = random.between(1, 9);
+            let damaged = damaged(random, number, None);
+            let line = format!("{number} {}\n", damaged.refusal.place);
+            listing(calls, &damaged.bytes, &line, tally)
+        })
+    });
 }
 
 fn each_case(mut body: impl FnMut(&Draft, &mut Random) -> Outcome) -> Outcome {
@@ -33,22 +53,22 @@ fn each_case(mut body: impl FnMut(&Draft, &mut Random) -> Outcome) -> Outcome {
     Ok(())
 }
 
-/// Lends a slice twice, with different numbers in it. What was written must be
-/// the same both times, so that every number of the result was written; what
-/// stands beyond must be as before. The call says how long its result is. Gives
-/// the result.
-fn written(
-    room: usize,
-    call: impl Fn(&mut [u16]) -> usize,
+/// Lends a slice twice, with the marks in it and with the marks inverted. What
+/// was written must be the same both times, so that every number of the result
+/// was written; what stands beyond must be as before. The call says how long its
+/// result is. Gives the result.
+fn written<T: Copy + PartialEq + Not<Output = T>>(
+    marks: Vec<T>,
+    call: impl Fn(&mut [T]) -> usize,
     tally: &mut Tally,
-) -> Result<Vec<u16>, String> {
-    let inverted = |slice: Vec<u16>| slice.into_iter().map(|mark| !mark).collect::<Vec<u16>>();
-    let (mut first, mut second) = (marks(room), inverted(marks(room)));
+) -> Result<Vec<T>, String> {
+    let room = marks.len();
+    let inverted: Vec<T> = marks.iter().map(|&mark| !mark).collect();
+    let (mut first, mut second) = (marks.clone(), inverted.clone());
     let lengths = (call(&mut first), call(&mut second));
     tally.same(lengths.0, lengths.1, || format!("lengths, room for {room}"))?;
     let length = lengths.0;
-    let kept = first[length..] == marks(room)[length..]
-        && second[length..] == inverted(marks(room))[length..];
+    let kept = first[length..] == marks[length..] && second[length..] == inverted[length..];
     tally.holds(kept, || format!("room for {room}: more was touched"))?;
     let same = first[..length] == second[..length];
     tally.holds(same, || format!("room for {room}: not all was written"))?;
@@ -63,11 +83,22 @@ fn encoding(calls: &dyn Calls, draft: &Draft, tally: &mut Tally) -> Outcome {
         Encoded::Table { constraints, .. } => 6 * usize::from(constraints),
         Encoded::Refused { .. } => 0,
     };
-    let table = written(needed, call, tally)?;
+    let table = written(marks(needed), call, tally)?;
     tally.same(table.len(), needed, || "numbers in the table".into())?;
-    for room in 0..=needed + 1 {
-        let result = written(room, call, tally)?;
-        let wanted = if room < needed { &[][..] } else { &table[..] };
+    all_or_nothing(&table, marks, call, tally)
+}
+
+/// Demands that a call writes the whole result where there is room for it, and
+/// nothing where there is less.
+fn all_or_nothing<T: Copy + Debug + PartialEq + Not<Output = T>>(
+    whole: &[T],
+    marks: fn(usize) -> Vec<T>,
+    call: impl Fn(&mut [T]) -> usize,
+    tally: &mut Tally,
+) -> Outcome {
+    for room in 0..=whole.len() + 1 {
+        let result = written(marks(room), &call, tally)?;
+        let wanted = if room < whole.len() { &[] } else { whole };
         tally.same(result.as_slice(), wanted, || format!("room for {room}"))?;
     }
     Ok(())
@@ -86,7 +117,7 @@ fn decoding(calls: &dyn Calls, draft: &Draft, random: &mut Random, tally: &mut T
             Decoded::Refused { .. } => 0,
         };
         for room in 0..=draft.schedule_numbers() + 1 {
-            written(room, call, tally)?;
+            written(marks(room), call, tally)?;
         }
     }
     Ok(())
@@ -104,8 +135,16 @@ fn replaying(calls: &dyn Calls, draft: &Draft, random: &mut Random, tally: &mut 
             _ => draft.items(),
         };
         for room in 0..=draft.items() + 1 {
-            written(room, call, tally)?;
+            written(marks(room), call, tally)?;
         }
     }
     Ok(())
+}
+
+fn listing(calls: &dyn Calls, case: &[u8], text: &str, tally: &mut Tally) -> Outcome {
+    let call = |slice: &mut [u8]| match calls.listing(case, slice) {
+        Listed::Text { bytes } => usize::from(bytes),
+        Listed::Refused { .. } => 0,
+    };
+    all_or_nothing(text.as_bytes(), byte_marks, call, tally)
 }

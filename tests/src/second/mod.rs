@@ -1,17 +1,18 @@
-//! The second implementation: accept, encode, check, decode and replay,
-//! written from document 01 alone and kept as plain as can be.
+//! The second implementation: accept, encode, check, decode, replay and
+//! listing, written from document 01 alone and kept as plain as can be.
 
 mod case;
 mod check;
 mod decode;
 mod encode;
+mod listing;
 mod read;
 mod replay;
 mod wrong;
 
 pub use wrong::Wrong;
 
-use crate::calls::{Calls, Checked, Decoded, Encoded, Refusal, Replayed, Verdict};
+use crate::calls::{Calls, Checked, Decoded, Encoded, Listed, Refusal, Replayed, Verdict};
 use case::Case;
 use check::Assigned;
 use read::{read, refusal};
@@ -47,6 +48,10 @@ pub fn replay(case: &[u8], schedule: &[u16], items: &mut [u16]) -> Replayed {
     RIGHT.replay(case, schedule, items)
 }
 
+pub fn listing(case: &[u8], text: &mut [u8]) -> Listed {
+    RIGHT.listing(case, text)
+}
+
 impl Calls for Second {
     fn accept(&self, case: &[u8]) -> Verdict {
         read(case, self.wrong).map_or_else(Verdict::from, |_| Verdict::Accepted)
@@ -69,6 +74,10 @@ impl Calls for Second {
     fn replay(&self, case: &[u8], schedule: &[u16], items: &mut [u16]) -> Replayed {
         self.try_replay(case, schedule, items)
             .unwrap_or_else(Replayed::from)
+    }
+
+    fn listing(&self, case: &[u8], text: &mut [u8]) -> Listed {
+        self.try_listing(case, text).unwrap_or_else(Listed::from)
     }
 }
 
@@ -155,21 +164,38 @@ impl Second {
         }
     }
 
+    /// A refused case is no refusal of this call: its line is the text.
+    fn try_listing(&self, bytes: &[u8], output: &mut [u8]) -> Result<Listed, Refusal> {
+        let text = match read(bytes, self.wrong) {
+            Ok(case) => listing::of_table(&encode::rows(&case), case.variables()),
+            Err(refusal) => listing::of_refusal(refusal, self.wrong),
+        };
+        let text = text.as_bytes();
+        if self.wrong == Wrong::WritesThoughShort && output.len() + 1 == text.len() {
+            self.write(&text[..output.len()], output);
+        }
+        room_for(text.len(), output)?;
+        self.write(text, output);
+        Ok(Listed::Text {
+            bytes: text.len() as u16,
+        })
+    }
+
     /// "An output slice is written from its start; numbers beyond the result
     /// keep their values."
-    fn write(&self, result: &[u16], output: &mut [u16]) {
+    fn write<T: Copy + Default>(&self, result: &[T], output: &mut [T]) {
         let (start, tail) = output.split_at_mut(result.len());
         start.copy_from_slice(result);
         if self.wrong == Wrong::ClearsTheTail {
-            tail.fill(0);
+            tail.fill(T::default());
         }
     }
 }
 
 /// "10. An output slice is shorter than what would be written", measured
 /// against what would be written if nothing else refused.
-fn room_for(numbers: usize, output: &[u16]) -> Result<(), Refusal> {
-    if output.len() < numbers {
+fn room_for<T>(needed: usize, output: &[T]) -> Result<(), Refusal> {
+    if output.len() < needed {
         return Err(refusal(10));
     }
     Ok(())

@@ -36,4 +36,9 @@ pub enum Wrong {
     WritesThoughRefused,
     /// Numbers beyond the result are set to 0.
     ClearsTheTail,
+    /// The listing of a refused case has the place before the number.
+    PlaceBeforeNumber,
+    /// A listing that is one byte too long for its slice is refused, and still
+    /// written as far as it goes.
+    WritesThoughShort,
 }
