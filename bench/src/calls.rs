@@ -1,13 +1,13 @@
-//! The five calls on a sample, proved and in plain Rust: first that they agree, then how long they take.
+//! The six calls on a sample, proved and in plain Rust: that they agree, how long they take, and one of them by itself.
 
 use std::hint::black_box;
 
 use crate::measure::{compare, Times};
 use crate::plain;
 use crate::sample::Sample;
-use menduvo::{Checked, Decoded, Encoded, Replayed, Verdict};
+use menduvo::{Checked, Decoded, Encoded, Listed, Replayed, Verdict};
 
-pub const NAMES: [&str; 5] = ["accept", "encode", "check", "decode", "replay"];
+pub const NAMES: [&str; 6] = ["accept", "encode", "check", "decode", "replay", "listing"];
 
 /// The slices that calls write to, each as long as any case needs.
 #[derive(Clone, PartialEq)]
@@ -15,6 +15,7 @@ pub struct Buffers {
     table: Vec<u16>,
     schedule: Vec<u16>,
     items: Vec<u16>,
+    text: Vec<u8>,
 }
 
 impl Buffers {
@@ -24,12 +25,13 @@ impl Buffers {
             table: vec![0xA5A5; menduvo::MOST_TABLE_NUMBERS],
             schedule: vec![0xA5A5; menduvo::MOST_SCHEDULE_NUMBERS],
             items: vec![0xA5A5; menduvo::MOST_ITEMS],
+            text: vec![0xA5; menduvo::MOST_LISTING_BYTES],
         }
     }
 }
 
 /// All answers for a sample.
-type Answers = (Verdict, Encoded, Checked, Decoded, Replayed);
+type Answers = (Verdict, Encoded, Checked, Decoded, Replayed, Listed);
 
 /// That both give the same answers and leave the same in the buffers, and the answers that the sample was made for.
 pub fn agree(sample: &Sample) -> Result<(), String> {
@@ -42,6 +44,7 @@ pub fn agree(sample: &Sample) -> Result<(), String> {
         menduvo::check(case, assignment),
         menduvo::decode(case, assignment, &mut b.schedule),
         menduvo::replay(case, schedule, &mut b.items),
+        menduvo::listing(case, &mut b.text),
     );
     let b = &mut plain_buffers;
     let plain: Answers = (
@@ -50,6 +53,7 @@ pub fn agree(sample: &Sample) -> Result<(), String> {
         plain::check(case, assignment),
         plain::decode(case, assignment, &mut b.schedule),
         plain::replay(case, schedule, &mut b.items),
+        plain::listing(case, &mut b.text),
     );
     if proved != plain {
         return Err(format!("{name}: the library answers {proved:?}, plain Rust {plain:?}"));
@@ -57,7 +61,7 @@ pub fn agree(sample: &Sample) -> Result<(), String> {
     if proved_buffers != plain_buffers {
         return Err(format!("{name}: the library and plain Rust leave different buffers"));
     }
-    let (_, _, checked, _, replayed) = proved;
+    let (_, _, checked, _, replayed, _) = proved;
     let decoded = &proved_buffers.schedule[..schedule.len()];
     if checked != Checked::Meets || decoded != schedule || !matches!(replayed, Replayed::Violated(_)) {
         return Err(format!("{name}: not the answers that it was made for: {proved:?}"));
@@ -65,8 +69,8 @@ pub fn agree(sample: &Sample) -> Result<(), String> {
     Ok(())
 }
 
-/// The times of the five calls, in the order of their names. Both write to the same buffers.
-pub fn times(sample: &Sample, buffers: &mut Buffers) -> [Times; 5] {
+/// The times of the six calls, in the order of their names. Both write to the same buffers.
+pub fn times(sample: &Sample, buffers: &mut Buffers) -> [Times; 6] {
     let Sample { case, assignment, schedule, .. } = sample;
     [
         compare(buffers, |_| menduvo::accept(black_box(case)), |_| plain::accept(black_box(case))),
@@ -90,5 +94,35 @@ pub fn times(sample: &Sample, buffers: &mut Buffers) -> [Times; 5] {
             |b| menduvo::replay(black_box(case), black_box(schedule), black_box(&mut b.items)),
             |b| plain::replay(black_box(case), black_box(schedule), black_box(&mut b.items)),
         ),
+        compare(
+            buffers,
+            |b| menduvo::listing(black_box(case), black_box(&mut b.text)),
+            |b| plain::listing(black_box(case), black_box(&mut b.text)),
+        ),
     ]
+}
+
+/// The call of this name and side, if there is one.
+pub fn call(name: &str, side: &str) -> Option<fn(&Sample, &mut Buffers)> {
+    let call: fn(&Sample, &mut Buffers) = match (name, side) {
+        ("accept", "proved") => |s, _| done(menduvo::accept(&s.case)),
+        ("accept", "plain") => |s, _| done(plain::accept(&s.case)),
+        ("encode", "proved") => |s, b| done(menduvo::encode(&s.case, &mut b.table)),
+        ("encode", "plain") => |s, b| done(plain::encode(&s.case, &mut b.table)),
+        ("check", "proved") => |s, _| done(menduvo::check(&s.case, &s.assignment)),
+        ("check", "plain") => |s, _| done(plain::check(&s.case, &s.assignment)),
+        ("decode", "proved") => |s, b| done(menduvo::decode(&s.case, &s.assignment, &mut b.schedule)),
+        ("decode", "plain") => |s, b| done(plain::decode(&s.case, &s.assignment, &mut b.schedule)),
+        ("replay", "proved") => |s, b| done(menduvo::replay(&s.case, &s.schedule, &mut b.items)),
+        ("replay", "plain") => |s, b| done(plain::replay(&s.case, &s.schedule, &mut b.items)),
+        ("listing", "proved") => |s, b| done(menduvo::listing(&s.case, &mut b.text)),
+        ("listing", "plain") => |s, b| done(plain::listing(&s.case, &mut b.text)),
+        _ => return None,
+    };
+    Some(call)
+}
+
+/// Nothing is done with an answer, but it must not be left out.
+fn done<Answer>(answer: Answer) {
+    black_box(answer);
 }

@@ -1,5 +1,8 @@
 //! How fast the proved calls are, beside the same calls in plain Rust built for release: nanoseconds for one call, and ratios.
-//! Nothing passes or fails by its speed. The program fails only where the two give different answers.
+//! Nothing passes or fails by its speed. The program fails where the two give different answers.
+//!
+//! With the arguments CALL SIDE TIMES it makes just this call, so many times on the largest case, and prints nothing: that is
+//! for `bench/instructions`. Other arguments are an error.
 #![forbid(unsafe_code)]
 
 mod calls;
@@ -9,13 +12,22 @@ mod plain;
 mod report;
 mod sample;
 
+use std::hint::black_box;
 use std::process::ExitCode;
 
 use calls::Buffers;
 use sample::{Sample, Shape, LARGEST, MIDDLE};
 
+const USAGE: &str = "usage: menduvo-bench [CALL SIDE TIMES], where SIDE is proved or plain";
+
 fn main() -> ExitCode {
-    match run() {
+    let arguments: Vec<String> = std::env::args().skip(1).collect();
+    let result = match &arguments[..] {
+        [] => measure_all(),
+        [name, side, times] => repeat(name, side, times),
+        _ => Err(USAGE.to_string()),
+    };
+    match result {
         Ok(()) => ExitCode::SUCCESS,
         Err(message) => {
             eprintln!("menduvo-bench: {message}");
@@ -24,7 +36,18 @@ fn main() -> ExitCode {
     }
 }
 
-fn run() -> Result<(), String> {
+/// Makes one call so many times on the largest case.
+fn repeat(name: &str, side: &str, times: &str) -> Result<(), String> {
+    let call = calls::call(name, side).ok_or(USAGE)?;
+    let times: u32 = times.parse().map_err(|_| USAGE)?;
+    let (sample, mut buffers) = (Sample::made(LARGEST), Buffers::new());
+    for _ in 0..times {
+        call(black_box(&sample), black_box(&mut buffers));
+    }
+    Ok(())
+}
+
+fn measure_all() -> Result<(), String> {
     let sizes = [Sample::small(), Sample::made(MIDDLE), Sample::made(LARGEST)];
     let lines: [&[usize]; 4] = [&[8; 4], &[16; 4], &[32; 4], &[64; 4]];
     let by_records = lines.map(|lines| Sample::made(Shape { lines, ..LARGEST }));

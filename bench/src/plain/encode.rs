@@ -14,7 +14,11 @@ type Copies = [u16; NO_NAME + 1];
 pub fn write_table(case: &Case, table: &mut [u16]) {
     let (rows, _) = table.as_chunks_mut::<6>();
     let mut rows = rows.iter_mut();
-    let mut put = |row: [u16; 6]| *rows.next().expect("there is room for every constraint") = row;
+    put_rows(case, |row| *rows.next().expect("there is room for every constraint") = row);
+}
+
+/// Gives `put` the constraints, in the order of the table.
+pub fn put_rows(case: &Case, mut put: impl FnMut([u16; 6])) {
     for thread in 0..case.threads {
         for (line, record) in case.chain(thread) {
             put([3, line, case.threads as u16, thread as u16, 0, 0]);

@@ -1,4 +1,4 @@
-//! The five calls in plain Rust, for speed: what the proved library is measured against. Fixed-size arrays, ordinary checked
+//! The six calls in plain Rust, for speed: what the proved library is measured against. Fixed-size arrays, ordinary checked
 //! indexing, no unsafe code, no heap.
 //!
 //! The calls do what document 01 asks of them, each by itself: checks 1 to 9 come first in every one, and the decoder checks its
@@ -8,11 +8,12 @@ mod case;
 mod check;
 mod decode;
 mod encode;
+mod listing;
 pub mod record;
 mod replay;
 
 use case::{refuse_if, Case, Refusal};
-use menduvo::{Checked, Decoded, Encoded, Replayed, Verdict};
+use menduvo::{Checked, Decoded, Encoded, Listed, Replayed, Verdict};
 use replay::Stop;
 
 // A call of the library is never inlined, so none of these is.
@@ -43,6 +44,11 @@ pub fn decode(case: &[u8], assignment: &[u16], schedule: &mut [u16]) -> Decoded 
 #[inline(never)]
 pub fn replay(case: &[u8], schedule: &[u16], items: &mut [u16]) -> Replayed {
     replayed(case, schedule, items).unwrap_or_else(|Refusal { number, place }| Replayed::Refused { number, place })
+}
+
+#[inline(never)]
+pub fn listing(case: &[u8], text: &mut [u8]) -> Listed {
+    listed(case, text).unwrap_or_else(|Refusal { number, place }| Listed::Refused { number, place })
 }
 
 fn encoded(case: &[u8], table: &mut [u16]) -> Result<Encoded, Refusal> {
@@ -87,4 +93,10 @@ fn replayed(case: &[u8], schedule: &[u16], items: &mut [u16]) -> Result<Replayed
         (_, Some(line)) => Replayed::Violated(line),
         _ => Replayed::Clean,
     })
+}
+
+fn listed(case: &[u8], text: &mut [u8]) -> Result<Listed, Refusal> {
+    let case = Case::accept(case);
+    refuse_if(!listing::fits(&case, text.len()), 10)?;
+    Ok(Listed::Text { bytes: listing::write_text(&case, text) as u16 })
 }
