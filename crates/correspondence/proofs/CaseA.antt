@@ -1,5 +1,5 @@
 -- Case A of document 01, from its bytes: its listing, as numbers and as text, and P1 to P10 as one table, over what the calls answer.
--- Assumes nothing. Its bytes are met again in Examples and Refusals.
+-- Assumes nothing. Its bytes are met again in Examples, Refusals and Conventions.
 use mathlib.Core.Path.{_≡_, refl, sym, ap₂}
 use mathlib.Core.Logic.{_↔_}
 use Prim.Native.Nat.{ℕ, zero, suc, _+_, _≤_, _<_}

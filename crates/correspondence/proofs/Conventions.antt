@@ -1,17 +1,22 @@
 -- Conventions of document 01, as worked examples: the columns of a constraint, the numbers of variables, the order of input
--- values, the bytes of a field, which assert a reply names. A consistent renaming, such as two columns exchanged both where a
--- row is made and where it is read, keeps the main theorem; it does not keep these, computed from bytes over what the calls
--- answer.
+-- values, the bytes of a field, which assert a reply names; and the numbers that C gets. A consistent renaming, such as two columns
+-- exchanged both where a row is made and where it is read, keeps the main theorem; it does not keep these, computed from bytes over
+-- what the calls answer.
 -- Assumes nothing. No proof uses them: they hold the definitions beside the document.
 use mathlib.Core.Path.{_≡_, refl}
 use Prim.Native.Nat.{ℕ}
 use mathlib.Core.List.{List, [], _∷_}
 use lib.ListN.{replicate}
-use Rattle.model.specs.Answers.{encoded, encodedInto, checked, decodedInto, replayed, replayedInto}
+use Rattle.model.specs.Accept.{verdict}
+use Rattle.model.specs.Answers.{encoded, encodedInto, checked, decoded, decodedInto, replayed, replayedInto}
+use Rattle.model.specs.Answers.{verdictNumbers, encodedNumbers, checkedNumbers, decodedNumbers, replayedNumbers}
+use Rattle.model.specs.Listing.{listed, listedNumbers}
+use Rattle.model.specs.declared.Numbers.{Numbers}
 use Rattle.model.specs.declared.Encoded.the-variants.{Table}
 use Rattle.model.specs.declared.Checked.the-variants.{Meets, Fails}
 use Rattle.model.specs.declared.Replayed.the-variants.{Violated, CutOff}
 use Rattle.correspondence.proofs.Computing.{computing}
+use Rattle.correspondence.proofs.CaseA.{caseA}
 use Rattle.correspondence.proofs.CaseBytes.{header, rec, file}
 
 -- ---- Columns and numbers: a table that has every column in use
@@ -252,3 +257,50 @@ cut-off-after-assert = refl
 items-at-cut-off : replayedInto cutAfterAssert (6 ∷ 1 ∷ []) (90 ∷ 91 ∷ 92 ∷ 93 ∷ 94 ∷ []) ≡ 5 ∷ 6 ∷ 1 ∷ 93 ∷ 94 ∷ []
 unfolding computing cutAfterAssert
 items-at-cut-off = refl
+
+-- ---- The numbers that C gets
+
+-- The refusal and its place, and which answer it is with the values that it carries: on case A, and on cases from above.
+numbers : ℕ → ℕ → ℕ → ℕ → ℕ → Numbers
+numbers refusal place answer first second = record { refusal = refusal; place = place; answer = answer; first = first; second = second }
+
+accepted-numbers : verdictNumbers (verdict (caseA 2)) ≡ numbers 0 0 1 0 0
+unfolding computing caseA numbers
+accepted-numbers = refl
+
+-- Refusal 9 at record 2, whose kind is 9.
+refused-numbers : verdictNumbers (verdict (file (header 2 0 0 0 1 0 0 0) (rec 2 1 0 0 0 0 0 0 (rec 0 9 0 0 0 0 0 0 [])))) ≡ numbers 9 2 0 0 0
+unfolding computing file numbers
+refused-numbers = refl
+
+encoded-numbers : encodedNumbers (encoded (caseA 2) 108) ≡ numbers 0 0 1 18 12
+unfolding computing caseA numbers
+encoded-numbers = refl
+
+meets-numbers : checkedNumbers (checked columns (assigned 14 1 25 0)) ≡ numbers 0 0 1 0 0
+unfolding computing columns assigned numbers
+meets-numbers = refl
+
+fails-numbers : checkedNumbers (checked columns (assigned 14 0 25 0)) ≡ numbers 0 0 2 44 0
+unfolding computing columns assigned numbers
+fails-numbers = refl
+
+decoded-numbers : decodedNumbers (decoded columns (assigned 14 1 25 0) 5) ≡ numbers 0 0 1 4 0
+unfolding computing columns assigned numbers
+decoded-numbers = refl
+
+violated-numbers : replayedNumbers (replayed (caseA 2) (2 ∷ 1 ∷ 2 ∷ []) 1) ≡ numbers 0 0 1 4 0
+unfolding computing caseA numbers
+violated-numbers = refl
+
+clean-numbers : replayedNumbers (replayed (caseA 2) (4 ∷ 1 ∷ 0 ∷ []) 1) ≡ numbers 0 0 2 0 0
+unfolding computing caseA numbers
+clean-numbers = refl
+
+cut-off-numbers : replayedNumbers (replayed cutAfterAssert (6 ∷ 1 ∷ []) 5) ≡ numbers 0 0 3 3 0
+unfolding computing cutAfterAssert numbers
+cut-off-numbers = refl
+
+listed-numbers : listedNumbers (listed (caseA 2) 222) ≡ numbers 0 0 1 222 0
+unfolding computing caseA numbers
+listed-numbers = refl

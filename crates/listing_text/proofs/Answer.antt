@@ -1,16 +1,19 @@
--- The text of the encoder's answer, by its cases. Met in the proof of `write_text`.
+-- The text of the encoder's answer, by its cases, and how long it is. Met in the proofs of `write_text` and `fits`.
 -- Assumes nothing.
-use mathlib.Core.Path.{_≡_}
-use Prim.Native.Nat.{ℕ, _+_, _*_, _≤_}
+use mathlib.Core.Path.{_≡_, sym}
+use Prim.Native.Nat.{ℕ, zero, suc, _+_, _*_, _≤_}
+use mathlib.Core.Bool.{true}
 use mathlib.Core.List.{List, [], _∷_}
 use native.Mathlib.Omega.{arith}
-use lib.ListN.{length}
+use borrow.Author.Tests.{le-leb}
+use lib.Dec.{leb}
+use lib.ListN.{length, length-append}
 use Rattle.model.specs.Limits.{mostTableNumbers, mostListingBytes}
 use Rattle.model.specs.Listing.{numbersLine}
 use Rattle.model.specs.declared.Encoded.{Encoded}
 use Rattle.model.specs.declared.Encoded.the-variants.{Table, Refused}
 use Rattle.laws.specs.Written.{numbersAt}
-use Rattle.listing_text.specs.Text.{sixLines, rowsOf, textOf}
+use Rattle.listing_text.specs.Text.{sixAt, sixLines, rowsOf, textOf}
 use Rattle.listing_text.proofs.Numbers.{Put, put-then}
 use Rattle.listing_text.proofs.Rows.{line-size}
 
@@ -35,3 +38,25 @@ pub refusal-text :
     size ≡ length (numbersLine (number ∷ (place ∷ []))) → (x ≡ numbersAt d 0 (textOf answer xs)) × (size ≡ length (textOf answer xs))
 unfolding textOf
 refusal-text answer number place e d xs x size ex es = rw e (ex, es)
+
+-- No text is longer than the longest.
+lines-size : (xs : List ℕ) (from many : ℕ) → length (sixLines xs from many) ≤ 36 * many
+unfolding sixLines
+lines-size xs from zero = omega arith
+lines-size xs from (suc many) =
+    omega (arith, length-append (numbersLine (sixAt xs from)) (sixLines xs (from + 6) many), line-size (sixAt xs from), lines-size xs (from + 6) many)
+
+text-size : (answer : Encoded) (xs : List ℕ) → 6 * rowsOf answer ≤ length xs → length xs ≤ mostTableNumbers → length (textOf answer xs) ≤ mostListingBytes
+unfolding textOf
+text-size (Table constraints variables) xs h few =
+    omega (
+      arith,
+      length-append (numbersLine (constraints ∷ (variables ∷ []))) (sixLines xs 0 constraints),
+      line-size (constraints ∷ (variables ∷ [])),
+      lines-size xs 0 constraints,
+    )
+text-size (Refused number place) xs h few = omega (arith, line-size (number ∷ (place ∷ [])))
+
+pub largest-room-fits : (answer : Encoded) (xs : List ℕ) (room : ℕ) → (6 * rowsOf answer ≤ length xs) × (length xs ≤ mostTableNumbers) → mostListingBytes ≤ room
+    → true ≡ leb (length (textOf answer xs)) room
+largest-room-fits answer xs room (h, few) large = sym (le-leb (length (textOf answer xs)) room (omega (arith, text-size answer xs h few)))

@@ -2,10 +2,12 @@
 -- Assumes nothing. Met in the proof of `listing_text`, and where a program lends a text that is never too short.
 use mathlib.Core.Path.{_≡_, refl, sym, ap, _∙_}
 use Prim.Native.Nat.{ℕ, zero, suc, _+_, _*_, _≤_, _<_}
+use mathlib.Core.Bool.{Bool, true, false}
 use mathlib.Core.List.{List, [], _∷_, _++_}
 use native.Mathlib.Omega.{arith}
 use native.Mathlib.Nat.{suc-add}
-use borrow.Author.Tests.{le-leb, lt-leb}
+use borrow.Author.Tests.{le-leb, lt-leb, leb-true, leb-false}
+use lib.Dec.{leb}
 use lib.ListN.{length, drop, length-append}
 use Rattle.model.specs.Limits.{mostTableNumbers, mostListingBytes}
 use Rattle.model.specs.Lists.{writtenOver}
@@ -139,20 +141,23 @@ module _ (bytes : List ℕ) (room : ℕ) where
   pub never-refused : mostListingBytes ≤ room → listed bytes room ≡ Text (length (listingText bytes))
   never-refused h = answer-long (omega (arith, text-fits bytes))
 
-module _ (bytes slice : List ℕ) (size : ℕ) (es : size ≡ length (listingText bytes)) where
-  pub too-short : length slice < size → (Refused 10 0 ≡ listed bytes (length slice)) × (slice ≡ listedInto bytes slice)
+-- from whether the text fits
+module _ (bytes slice text : List ℕ) (same : text ≡ listingText bytes) (fits : Bool) (told : fits ≡ leb (length text) (length slice)) where
+  pub too-short : fits ≡ false → (Refused 10 0 ≡ listed bytes (length slice)) × (slice ≡ listedInto bytes slice)
   unfolding listedInto
-  too-short h =
-      let answer = sym (answer-short bytes (length slice) (omega arith)) in
+  too-short no-room =
+      let answer = sym (answer-short bytes (length slice) (omega (arith, leb-false (length text) (length slice) (sym told ∙ no-room), ap length same))) in
       (answer, ap (λ (q : Listed). afterListed q (listingText bytes) slice) answer)
 
   pub long-enough :
-      (x : List ℕ) → size ≤ length slice → x ≡ numbersAt slice 0 (listingText bytes) → (Text size ≡ listed bytes (length slice)) × (x ≡ listedInto bytes slice)
+      fits ≡ true → (x : List ℕ) (size : ℕ) → x ≡ numbersAt slice 0 text → size ≡ length text → (Text size ≡ listed bytes (length slice)) × (x ≡ listedInto bytes slice)
   unfolding listedInto
-  long-enough x h ex =
-      let answer = sym (answer-long bytes (length slice) (omega arith)) in (
-        ap Text es ∙ answer,
-        ex ∙ numbers-from-start slice (listingText bytes) (omega arith) ∙ ap (λ (q : Listed). afterListed q (listingText bytes) slice) answer,
+  long-enough has-room x size ex es =
+      let room : length (listingText bytes) ≤ length slice = omega (arith, leb-true (length text) (length slice) (sym told ∙ has-room), ap length same) in
+      let answer = sym (answer-long bytes (length slice) room) in (
+        ap Text (es ∙ ap length same) ∙ answer,
+        ex ∙ ap (numbersAt slice 0) same ∙ numbers-from-start slice (listingText bytes) (omega arith)
+            ∙ ap (λ (q : Listed). afterListed q (listingText bytes) slice) answer,
       )
 
 -- for a caller whose text every listing fits

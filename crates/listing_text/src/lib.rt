@@ -1,8 +1,9 @@
-// The listing of a case, as text in a lent slice. One writer serves twice: into no bytes at all, which measures the text, and
-// then into the slice, so that a slice that is too short stays as it is.
+// The listing of a case, as text in a lent slice. Where it might not fit, one writer serves twice: into no bytes at all, which
+// measures the text, and then into the slice, so that a slice that is too short stays as it is.
 ghost use mathlib.Core.Path.{_≡_};
 ghost use Prim.Native.Nat.{_+_, _*_, _<_, _≤_};
 ghost use mathlib.Core.List.{[], _∷_};
+ghost use lib.Dec.{leb};
 ghost use lib.ListN.{length};
 ghost use Rattle.model.specs.Limits.{mostTableNumbers, mostListingBytes};
 ghost use Rattle.model.specs.Listing.{digit, decimal, numbersLine, listed, listedInto};
@@ -26,16 +27,27 @@ pub fn listing_text(case: &[u8], text: &mut [u8]) -> Listed
 {
     let mut table = [0u16; MOST_NUMBERS];
     let answer = encoder::encode(case, &mut table);
-    let mut nothing = [0u8; 0];
-    let bytes = write_text(&mut nothing, answer, &table);
-    if text.len() < bytes {
-        return Listed::Refused {
-            number: 10,
-            place: 0,
-        };
+    let room = text.len();
+    if fits(room, answer, &table) {
+        let bytes = write_text(text, answer, &table);
+        return Listed::Text { bytes };
     }
-    write_text(text, answer, &table);
-    Listed::Text { bytes }
+    Listed::Refused {
+        number: 10,
+        place: 0,
+    }
+}
+
+// Whether the text of what the encoder answered has at most so many bytes. It is not measured where every text has.
+fn fits(room: usize, answer: Encoded, table: &[u16]) -> bool
+    requires { ⌜ (6 * rowsOf answer ≤ length (now table)) × (length (now table) ≤ mostTableNumbers) ⌝ }
+    ensures { λ r. ⌜ r ≡ leb (length (textOf answer (now (table .entry)))) room ⌝ }
+{
+    if MOST_BYTES <= room {
+        return true;
+    }
+    let mut nothing = [0u8; 0];
+    write_text(&mut nothing, answer, table) <= room
 }
 
 // The text of what the encoder answered, from the start as far as the slice goes; how many bytes the text has.
