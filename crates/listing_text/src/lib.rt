@@ -125,12 +125,18 @@ fn put_line(text: &mut [u8], start: usize, numbers: &[u16]) -> usize
     put_number(text, at, numbers[last], b'\n')
 }
 
-// A number and the byte that ends it.
+// A number and the byte that ends it. Most numbers of a table have one digit.
 fn put_number(text: &mut [u8], at: usize, n: u16, end: u8) -> usize
     requires { ⌜ at + 6 ≤ mostListingBytes ⌝ }
     ensures { λ r. ⌜ now (text .exit) ≡ numbersAt (now (text .entry)) at (ended n end) ⌝ }
     ensures { λ r. ⌜ r ≡ at + length (ended n end) ⌝ }
 {
+    if n < 10 {
+        put_byte(text, at, digit_of(n));
+        let next = at + 1;
+        put_byte(text, next, end);
+        return next + 1;
+    }
     let place = put_digits(text, at, n);
     put_byte(text, place, end);
     place + 1
