@@ -85,7 +85,7 @@ abbrev pub FirstAt : (Step → Bool) → List Step → ℕ → Type 0
 FirstAt test steps k = (s : Step) × First test steps s × (s .line .number ≡ k)
 
 -- "The run of a schedule is what this machine does.": the steps that its blocks have, those before the first that ends the run,
--- and the items where the blocks end. Of a schedule that meets refusal 14 nothing is said by them but that (NoneStrays).
+-- and the items where the blocks end. An input that refusal 14 meets does not end these steps; a schedule that has one is not taken.
 abbrev pub courseOf : Case → List ℕ → List Step
 courseOf case schedule = course case (givenIn case schedule) 0 (blockLengths case schedule) (start case)
 
