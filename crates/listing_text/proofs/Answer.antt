@@ -1,4 +1,5 @@
--- The text of the encoder's answer, by its cases, and how long it is. Met in the proofs of `write_text` and `fits`.
+-- The text of the encoder's answer, by its cases, and how long it is. Met in the proofs of `write_text` and `fits`, and in
+-- Bridge.
 -- Assumes nothing.
 use mathlib.Core.Path.{_≡_, sym}
 use Prim.Native.Nat.{ℕ, zero, suc, _+_, _*_, _≤_}
@@ -40,7 +41,7 @@ unfolding textOf
 refusal-text answer number place e d xs x size ex es = rw e (ex, es)
 
 -- No text is longer than the longest.
-lines-size : (xs : List ℕ) (from many : ℕ) → length (sixLines xs from many) ≤ 36 * many
+pub lines-size : (xs : List ℕ) (from many : ℕ) → length (sixLines xs from many) ≤ 36 * many
 unfolding sixLines
 lines-size xs from zero = omega arith
 lines-size xs from (suc many) =

@@ -33,6 +33,7 @@ use Rattle.laws.proofs.Sizes.{table-rows, table-numbers}
 use Rattle.encoder.proofs.Answer.{refused-answer, written-fits}
 use Rattle.listing_text.specs.Text.{sixAt, sixLines, rowsOf, textOf}
 use Rattle.listing_text.proofs.Rows.{line-size}
+use Rattle.listing_text.proofs.Answer.{lines-size}
 
 -- The numbers of a table, six at a time, are its rows.
 six-lines-shift : (x : ℕ) (xs : List ℕ) (from many : ℕ) → sixLines (x ∷ xs) (suc from) many ≡ sixLines xs from many
@@ -53,15 +54,7 @@ rows-listed (w ∷ ws) rest =
     )
 
 rows-size : (rows : List Row) → length (rowLines rows) ≤ 36 * length rows
-unfolding rowLines
-rows-size [] = omega arith
-rows-size (w ∷ ws) =
-    omega (
-      arith,
-      length-append (rowLine w) (rowLines ws),
-      line-size (w .kind ∷ (w .one ∷ (w .two ∷ (w .three ∷ (w .four ∷ (w .five ∷ [])))))),
-      rows-size ws,
-    )
+rows-size rows = rw (← rows-listed rows []) (lines-size (numbersOf rows ++ []) 0 (length rows))
 
 -- The listing by the verdict.
 module _ (bytes : List ℕ) where

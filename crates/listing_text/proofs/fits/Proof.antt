@@ -1,6 +1,5 @@
 -- `fits` measures the text where some text would not fit. Assumes nothing.
 use borrow.Author.Needs.{needs}
-use mathlib.Core.Path.{ap}
 use Rattle.listing_text.proofs.Answer.{largest-room-fits}
 use Rattle.listing_text.proofs.fits.Statement.{statement}
 use Rattle.listing_text.proofs.fits.Tie as tie

@@ -1,8 +1,6 @@
 -- `menduvo::menduvo_listing` meets its contract.
 -- Assumes nothing.
 use borrow.Author.Needs.{needs}
-use mathlib.Core.Path.{ap}
-use Rattle.model.specs.Listing.{listedNumbers}
 use Rattle.listing_text.proofs.Bridge.{length-told}
 use Rattle.menduvo.proofs.menduvo_listing.Statement.{statement}
 use Rattle.menduvo.proofs.menduvo_listing.Tie as tie
