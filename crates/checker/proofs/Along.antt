@@ -14,10 +14,9 @@ use Rattle.model.specs.Assignment.{Assignment}
 use Rattle.model.specs.Copies.{latest, valueBefore, readLocal, readItem, readName, readAfter, readsAfter}
 use Rattle.model.specs.Machine.{look}
 use Rattle.laws.proofs.Views.{EqView, same, diff, eq-view, LtView, below, above, lt-view}
-use Rattle.correspondence.specs.Meaning.{AllLines, Positive}
-use Rattle.correspondence.proofs.Order.{RunBefore, run-before-weakened}
-use Rattle.correspondence.proofs.Walk.{readItem-at-start}
-use Rattle.correspondence.proofs.Copies.{readName-own-block, readAfter-target, readAfter-other}
+use Rattle.laws.specs.Order.{AllLines, Positive}
+use Rattle.laws.proofs.Walk.{RunBefore, run-before-weakened, readItem-at-start}
+use Rattle.laws.proofs.Copies.{readName-own-block, readAfter-target, readAfter-other}
 use Rattle.line.specs.LineReads.{memory}
 use Rattle.line.proofs.Memories.{look-name, look-item-name, look-no-name}
 

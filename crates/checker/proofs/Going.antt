@@ -21,9 +21,9 @@ use Rattle.laws.specs.Accepted.{Accepted, linesFrom}
 use Rattle.laws.proofs.Chains.{threads-are}
 use Rattle.laws.proofs.Lines.{numbers-once}
 use Rattle.laws.proofs.Views.{EqView, same, diff, eq-view, LtView, below, above, lt-view}
-use Rattle.correspondence.specs.Meaning.{AllLines, Ordered}
-use Rattle.correspondence.proofs.LineFound.{line-found}
-use Rattle.correspondence.proofs.Copies.{latest-target, latest-other}
+use Rattle.laws.specs.Order.{AllLines, Ordered}
+use Rattle.laws.proofs.LineFound.{line-found}
+use Rattle.laws.proofs.Copies.{latest-target, latest-other}
 use Rattle.case_file.specs.declared.Record.{Record}
 use Rattle.case_file.specs.Records.{recordOf, asLine}
 use Rattle.line.specs.LineReads.{readsAt}

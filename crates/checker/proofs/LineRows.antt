@@ -13,7 +13,7 @@ use Rattle.model.specs.Assignment.{Assignment}
 use Rattle.model.specs.Copies.{copyOf, readsAfter}
 use Rattle.model.specs.Table.{row, valueRow, demandRows}
 use Rattle.model.specs.Holds.{readsWith, demandMet, holds, firstFailing}
-use Rattle.correspondence.proofs.ValueRows.{copy-reads, value-row-holds, lockReads, lock-guard}
+use Rattle.laws.proofs.RowReads.{copy-reads, value-row-holds, lockReads, lock-guard}
 use Rattle.checker.specs.Walked.{lineFailing}
 
 module _ (case : Case) (few : localCount + itemCount case ≤ noName) (α : Assignment) (earlier : List Line) (l : Line) (found : lineAt case (l .number) ≡ l) where

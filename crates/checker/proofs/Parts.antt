@@ -15,9 +15,9 @@ use Rattle.model.specs.Holds.{someThreadBreaks, holds, firstFailing}
 use Rattle.model.specs.Answers.{failedIn}
 use Rattle.laws.specs.Accepted.{Accepted}
 use Rattle.laws.proofs.Chains.{thread-count, threads-are}
-use Rattle.correspondence.specs.Meaning.{Ordered}
-use Rattle.correspondence.proofs.FirstFailing.{none-fails}
-use Rattle.correspondence.proofs.OrderRows.{order-of-all-rows}
+use Rattle.laws.specs.Order.{Ordered}
+use Rattle.laws.proofs.AllHold.{none-fails}
+use Rattle.laws.proofs.OrderRows.{order-of-all-rows}
 use Rattle.encoder.specs.Rows.{threadLines}
 use Rattle.encoder.proofs.Blocks.{few-blocks}
 use Rattle.checker.specs.Walked.{Sought}

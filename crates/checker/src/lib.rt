@@ -15,7 +15,7 @@ ghost use Rattle.model.specs.Table.{row, orderRows, allOrderRows, valueRows, al
 ghost use Rattle.model.specs.Holds.{demandMet, firstFailing};
 ghost use Rattle.model.specs.Answers.{failedIn, checked};
 ghost use Rattle.laws.specs.Accepted.{Accepted};
-ghost use Rattle.correspondence.specs.Meaning.{Ordered};
+ghost use Rattle.laws.specs.Order.{Ordered};
 ghost use Rattle.case_file.specs.Records.{asLine};
 ghost use Rattle.line.specs.LineReads.{memory, readsAt};
 ghost use Rattle.encoder.specs.Rows.{followRow, threadLines};

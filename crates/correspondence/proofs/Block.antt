@@ -16,7 +16,8 @@ use Rattle.model.specs.Line.{Reads, readsOf, targetName, guardTrue, expression,
 use Rattle.model.specs.Machine.{Memory, look, readsIn, stepped}
 use Rattle.model.specs.Assignment.{Assignment}
 use Rattle.model.specs.Copies.{readAfter, readsAfter}
-use Rattle.correspondence.specs.Meaning.{WellFormed, AllLines, Positive, Demanded, LineMet, LinesMet, InputGiven, InputsGiven}
+use Rattle.laws.specs.Order.{AllLines, Positive}
+use Rattle.correspondence.specs.Meaning.{WellFormed, Demanded, LineMet, LinesMet, InputGiven, InputsGiven}
 use Rattle.model.specs.Runs.{memoryAfter}
 use Rattle.correspondence.proofs.Step.{MemoryFits, step-fits, Corresponds, step-keeps-correspondence}
 use Rattle.correspondence.proofs.Order.{NextIn, runMore}

@@ -16,10 +16,12 @@ use Rattle.laws.proofs.Views.{EqView, same, diff, eq-view}
 use Rattle.model.specs.CaseFile.{Line, Case, linesOf}
 use Rattle.model.specs.Assignment.{Assignment}
 use Rattle.model.specs.Schedule.{linesInBlock}
-use Rattle.correspondence.specs.Meaning.{AllThreads, WellFormed, Ordered, Counted}
+use Rattle.laws.specs.Order.{AllThreads, Ordered}
+use Rattle.correspondence.specs.Meaning.{WellFormed, Counted}
 use Rattle.correspondence.specs.Agreement.{MayBeLeft}
-use Rattle.correspondence.proofs.AllLines.{all-threads, each-thread}
-use Rattle.correspondence.proofs.Order.{runMore, runMore-and-rest, RunBefore, NextIn, run-before-weakened, run-before-has-none, run-before-after-block, linesInBlock-of-reverse, ordered-weakened, ordered-past-other-thread, ordered-end-is-left, left-is-ordered, counted-block-is-next, next-is-ordered, next-is-counted}
+use Rattle.laws.proofs.AllLines.{all-threads, each-thread}
+use Rattle.laws.proofs.Walk.{RunBefore, run-before-weakened}
+use Rattle.correspondence.proofs.Order.{runMore, runMore-and-rest, NextIn, run-before-has-none, run-before-after-block, linesInBlock-of-reverse, ordered-weakened, ordered-past-other-thread, ordered-end-is-left, left-is-ordered, counted-block-is-next, next-is-ordered, next-is-counted}
 
 -- A function changed at one number.
 unfoldable pub changed : {A : Type 0} → (ℕ → A) → ℕ → A → ℕ → A

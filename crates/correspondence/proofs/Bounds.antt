@@ -19,11 +19,12 @@ use Rattle.model.specs.Assignment.{Assignment, assignmentOf}
 use Rattle.model.specs.Copies.{readsAfter}
 use Rattle.model.specs.Machine.{Memory, State, look, putLocal, putItem, readsIn, stepped, start, restIn, memoryIn}
 use Rattle.model.specs.Schedule.{allInputLines, valueGiven, linesInBlock, countedLengths, decodedValues, allDecodedValues, decode}
-use Rattle.correspondence.specs.Meaning.{AllLines, WellFormed}
+use Rattle.laws.specs.Order.{AllLines}
+use Rattle.correspondence.specs.Meaning.{WellFormed}
 use Rattle.model.specs.Runs.{memoryAfter, endMemory, nextState}
 use Rattle.correspondence.specs.Trace.{Event, blockEvents, leftEvents, allLeftEvents, events, snapshots}
 use Rattle.correspondence.specs.Fill.{blockIn, valueIn, traced, recordNumbers, blockNumbers, numbersOfAssignment, tracedRun}
-use Rattle.correspondence.proofs.AllLines.{all-dropped}
+use Rattle.laws.proofs.AllLines.{all-dropped}
 use Rattle.correspondence.proofs.Blocks.{turn}
 
 -- A number of 16 bits; lists of such numbers; lists by number whose every list is such a one.
@@ -68,7 +69,8 @@ below-apply op x y hx hy =
     (either IsWord (eqb op 2) _ _ (mod-lt (x + (wordSize - y)) (omega arith))
     (either IsWord (eqb op 3) _ _ (and-lt 16 x y hx hy)
     (either IsWord (eqb op 4) _ _ (or-lt 16 x y hx hy)
-    (either IsWord (eqb op 5) _ _ (below-bit (eqb x y)) (below-bit (ltb x y)))))))
+    (either IsWord (eqb op 5) _ _ (below-bit (eqb x y))
+    (either IsWord (eqb op 6) _ _ (below-bit (ltb x y)) (omega arith)))))))
 
 record SmallReads (reads : Reads) : Type 0 where
   a : reads .a < wordSize

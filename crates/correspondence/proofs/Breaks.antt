@@ -13,12 +13,13 @@ use Rattle.model.specs.Machine.{Memory, State, look, readsIn, stepped, restIn, 
 use Rattle.model.specs.Assignment.{Assignment}
 use Rattle.model.specs.Copies.{readsAfter}
 use Rattle.model.specs.Runs.{nextState}
-use Rattle.correspondence.specs.Meaning.{WellFormed, AllLines, Positive, breaksIn, sumBelow}
+use Rattle.laws.specs.Order.{AllLines, Positive}
+use Rattle.correspondence.specs.Meaning.{WellFormed, breaksIn, sumBelow}
 use Rattle.correspondence.specs.Trace.{Event, blockEvents, leftEvents, allLeftEvents, events}
 use Rattle.correspondence.specs.Agreement.{brokenIn, MayBeLeft}
 use Rattle.correspondence.proofs.Sums.{sumBelow-zero, sumBelow-differs-at}
 use Rattle.correspondence.proofs.Step.{MemoryFits, step-fits, Corresponds, step-keeps-correspondence}
-use Rattle.correspondence.proofs.AllLines.{each-thread}
+use Rattle.laws.proofs.AllLines.{each-thread}
 use Rattle.correspondence.proofs.Order.{runMore, NextIn}
 use Rattle.correspondence.proofs.Block.{BlockRuns, same-readers}
 use Rattle.correspondence.proofs.Blocks.{changed-same, changed-other, restsAfter, earlierAfter, BlocksNext, turn, own-rest-after, other-rest-after}

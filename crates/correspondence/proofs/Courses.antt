@@ -192,13 +192,13 @@ module _ (case : Case) (given : ℕ → ℕ) where
 
   -- The machine's answer is made along the steps.
   pub run-goes : (i : ℕ) (lens : List ℕ) (s : State) (note : ℕ)
-      → runBlocks case given i lens s note ≡ goes (course case given i lens s) note (λ note'. ending note' (lastState case given i lens s .items))
+      → runBlocks case given i lens s note ≡ goes (course case given i lens s) note (λ note'. ending note' (lastState case given i lens s))
   unfolding runBlocks
   run-goes i [] s note = refl
   run-goes i (len ∷ lens) s note =
       let here = blockSteps case given i len (restIn case i s) (memoryIn case i s) in
       let later = course case given (suc i) lens (nextState case given i len s) in
-      let end : ℕ → Outcome = λ note'. ending note' (lastState case given i (len ∷ lens) s .items) in
+      let end : ℕ → Outcome = λ note'. ending note' (lastState case given i (len ∷ lens) s) in
       block-goes i len (restIn case i s) (memoryIn case i s) note (λ m note'. runBlocks case given (suc i) lens (afterBlock case i len s m) note')
       ∙ along-same (strays case given) (ends case given) (broken case given) here note
       (λ note'. runBlocks case given (suc i) lens (nextState case given i len s) note') (λ note'. goes later note' end)

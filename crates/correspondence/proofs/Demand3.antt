@@ -25,13 +25,15 @@ use Rattle.laws.proofs.Accepted.{accepted-of}
 use Rattle.laws.proofs.Below.{all-below-drop}
 use Rattle.correspondence.specs.Meaning.{WellFormed}
 use Rattle.correspondence.specs.Fill.{fill}
-use Rattle.correspondence.specs.ReadBack.{rowsOf, AllHold}
+use Rattle.laws.specs.AllHold.{AllHold}
+use Rattle.correspondence.specs.ReadBack.{rowsOf}
 use Rattle.correspondence.specs.Agreement.{brokenIn}
 use Rattle.correspondence.specs.Demand3.{tableRoom, scheduleRoom, itemRoom, writtenRows, Yes, DecodedAs, counted, AnsweredViolated, ViolatingRun, Demand3, ForEveryAcceptedCase}
 use Rattle.correspondence.proofs.WellFormed.{well-formed}
 use Rattle.correspondence.proofs.Replies.{PassesCheck, passes-of-meets, meets-of-passes, encoded-with-room, encoded-short, encoded-into, decoded-with-room, decoded-short, decoded-into, replayed-short}
 use Rattle.correspondence.proofs.Rows.{meets-of-table, table-of-meets}
-use Rattle.correspondence.proofs.FirstFailing.{none-fails, all-hold-none-fails, checker-names-the-first, fails-of-first, rows-of-numbers}
+use Rattle.laws.proofs.AllHold.{none-fails, all-hold-none-fails}
+use Rattle.correspondence.proofs.FirstFailing.{checker-names-the-first, fails-of-first, rows-of-numbers}
 use Rattle.correspondence.proofs.Numbers.{length-of-assignment}
 use Rattle.correspondence.proofs.Bounds.{filled-below, decoded-below}
 use Rattle.correspondence.proofs.Claims.{eventsOf, FinishesRun, size-of-decode, run-of-meets, meets-of-run, decode-of-fill, fill-of-decode, adds-up, lengths-add-up}

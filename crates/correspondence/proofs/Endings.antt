@@ -15,10 +15,11 @@ use Rattle.model.specs.Machine.{Memory, State, stepped, restIn, memoryIn}
 use Rattle.model.specs.Schedule.{stepsOf}
 use Rattle.model.specs.Runs.{Step, blockSteps, nextState, course, ends, strays, broken, None, First}
 use Rattle.laws.proofs.Views.{EqView, same, diff, eq-view}
-use Rattle.correspondence.specs.Meaning.{AllLines, WellFormed}
+use Rattle.laws.specs.Order.{AllLines}
+use Rattle.correspondence.specs.Meaning.{WellFormed}
 use Rattle.correspondence.specs.Trace.{eventOf, blockEvents, events}
 use Rattle.correspondence.specs.Agreement.{brokenIn, FinishesBlock, MayBeLeft, Finishes}
-use Rattle.correspondence.proofs.AllLines.{all-threads, each-thread}
+use Rattle.laws.proofs.AllLines.{all-threads, each-thread}
 use Rattle.correspondence.proofs.Blocks.{turn, rests-kept, own-rest-after, other-rest-after}
 use Rattle.correspondence.proofs.Breaks.{brokenIn-append, all-left-breaks-nothing}
 use Rattle.correspondence.proofs.Courses.{none-append, none-before, none-after, first-here, first-later}

@@ -22,24 +22,10 @@ use Rattle.model.specs.declared.Verdict.the-variants.{Accepted}
 use Rattle.model.specs.declared.Verdict.the-variants as verdicts
 use Rattle.model.specs.declared.Checked.the-variants.{Meets, Fails}
 use Rattle.model.specs.declared.Checked.the-variants as checkeds
-use Rattle.correspondence.specs.ReadBack.{rowsOf, AllHold, FirstFails}
+use Rattle.laws.specs.AllHold.{AllHold}
+use Rattle.correspondence.specs.ReadBack.{rowsOf, FirstFails}
 
 module _ (case : Case) (α : Assignment) where
-  pub none-fails : (k : ℕ) (rows : List Row) → firstFailing case α k rows ≡ 0 → 0 < k → AllHold case α rows
-  unfolding firstFailing
-  none-fails k [] e h = tt
-  none-fails k (w ∷ ws) e h = go (holds case α w) refl e (λ e'. none-fails (suc k) ws e' (omega arith))
-    where
-      go : (q : Bool) → holds case α w ≡ q → cond q (firstFailing case α (suc k) ws) k ≡ 0
-          → (firstFailing case α (suc k) ws ≡ 0 → AllHold case α ws) → AllHold case α (w ∷ ws)
-      go true r e' ih = (r, ih e')
-      go false r e' ih = absurd (omega (arith, h, e'))
-
-  pub all-hold-none-fails : (k : ℕ) (rows : List Row) → AllHold case α rows → firstFailing case α k rows ≡ 0
-  unfolding firstFailing
-  all-hold-none-fails k [] h = refl
-  all-hold-none-fails k (w ∷ ws) h = rw (h .0) (all-hold-none-fails (suc k) ws (h .1))
-
   fails-later : (k : ℕ) (w : Row) (ws : List Row) (j : ℕ) → holds case α w ≡ true → FirstFails case α (suc k) ws j → FirstFails case α k (w ∷ ws) j
   fails-later k w ws j r f = record {
     before = w ∷ f .before;

@@ -18,10 +18,10 @@ use Rattle.model.specs.Machine.{Memory, look, putLocal, putItem, stepped}
 use Rattle.laws.specs.Accepted.{Accepted}
 use Rattle.laws.proofs.Views.{EqView, same, diff, eq-view, LtView, below, above, lt-view, LeView, within, beyond, le-view, and-true, and-false}
 use Rattle.laws.proofs.Rules.{records-obey}
-use Rattle.correspondence.specs.Meaning.{AllLines}
+use Rattle.laws.specs.Order.{AllLines}
 use Rattle.correspondence.specs.KindByKind.{localIn, globalIn, localGets, globalGets, guardHolds, operandIn, expressionIn, doneByKind, stepByKind, endsByKind, notedByKind, refusedByKind, DoneAsSaid}
 use Rattle.correspondence.proofs.WellFormed.{all-lines-by}
-use Rattle.correspondence.proofs.Copies.{item-of-name}
+use Rattle.laws.proofs.Copies.{item-of-name}
 use Rattle.correspondence.proofs.Step.{put, length-putItem}
 
 look-local : (m : Memory) (x : ℕ) → x < localCount → look m (localName x) ≡ localIn m x

@@ -1,11 +1,7 @@
 -- Lines, copies, sums, rows: small laws that several of the others use
-pub mod AllLines
-pub mod Copies
 pub mod Sums
-pub mod AllHold
 -- One thread, one line, one block
 pub mod Order
-pub mod Walk
 pub mod Step
 pub mod Block
 -- All blocks of a run
@@ -22,8 +18,6 @@ pub mod Numbers
 pub mod Inputs
 pub mod Bounds
 -- The rows of the table
-pub mod LineFound
-pub mod OrderRows
 pub mod ValueRows
 pub mod Rows
 pub mod FirstFailing

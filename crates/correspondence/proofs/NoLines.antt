@@ -10,7 +10,7 @@ use Rattle.model.specs.Lists.{writtenOver}
 use Rattle.model.specs.CaseFile.{Case, records, threadCount, switchCount, firstRecord, chains, caseOf}
 use Rattle.model.specs.Accept.{verdict}
 use Rattle.model.specs.Assignment.{Assignment, variables, assignmentOf}
-use Rattle.model.specs.Table.{orderRows, valueRows, allOrderRows, allValueRows, blockRows, goalRow, table, numbersOf}
+use Rattle.model.specs.Table.{orderRows, valueRows, allOrderRows, allValueRows, blockRows, runRows, goalRow, table, numbersOf}
 use Rattle.model.specs.Holds.{someBreaks, someThreadBreaks, holds, firstFailing}
 use Rattle.model.specs.Answers.{encoded, encodedInto, checked}
 use Rattle.model.specs.declared.Verdict.the-variants.{Accepted}
@@ -58,7 +58,7 @@ module _ (bytes : List ℕ) (accepted : verdict bytes ≡ Accepted) (none : reco
   threads-empty = chains-empty 0 (threadCount bytes) (omega arith)
 
   one-row : table (caseOf bytes) ≡ goalRow ∷ []
-  unfolding table blockRows
+  unfolding table runRows blockRows
   one-row = rw (threads-empty, no-order-rows, no-value-rows, no-switch)
 
   six-numbers : numbersOf (table (caseOf bytes)) ≡ 7 ∷ 0 ∷ 0 ∷ 0 ∷ 0 ∷ 0 ∷ []

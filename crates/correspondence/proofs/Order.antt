@@ -13,7 +13,8 @@ use borrow.Author.Tests.{eq-eqb, ne-eqb}
 use Rattle.laws.proofs.Views.{EqView, same, diff, eq-view}
 use Rattle.model.specs.CaseFile.{Line, Case}
 use Rattle.model.specs.Schedule.{linesInBlock}
-use Rattle.correspondence.specs.Meaning.{AllLines, Ordered}
+use Rattle.laws.specs.Order.{AllLines, Ordered}
+use Rattle.laws.proofs.Walk.{RunBefore}
 use Rattle.correspondence.specs.Agreement.{MayBeLeft}
 
 -- The lines already run, latest first, after so many more of these.
@@ -28,29 +29,20 @@ runMore-and-rest (suc steps) [] earlier = refl
 runMore-and-rest (suc steps) (l ∷ ls) earlier = runMore-and-rest steps ls (l ∷ earlier)
 
 module _ (block : ℕ → ℕ) where
-  -- Lines already run, latest first: their block numbers are below `high` and do not rise.
-  abbrev pub RunBefore : ℕ → List Line → Type 0
-  RunBefore high [] = Unit
-  RunBefore high (l ∷ earlier) = (block (l .number) < high) × RunBefore (suc (block (l .number))) earlier
-
   -- There are so many next lines, and they are of block i.
   abbrev pub NextIn : ℕ → ℕ → List Line → Type 0
   NextIn i zero ls = Unit
   NextIn i (suc steps) [] = ⊥
   NextIn i (suc steps) (l ∷ ls) = (block (l .number) ≡ i) × NextIn i steps ls
 
-  pub run-before-weakened : (high higher : ℕ) (earlier : List Line) → high ≤ higher → RunBefore high earlier → RunBefore higher earlier
-  run-before-weakened high higher [] h before = tt
-  run-before-weakened high higher (l ∷ earlier) h before = (omega arith, before .1)
-
-  pub run-before-has-none : (high i : ℕ) (earlier : List Line) → high ≤ i → RunBefore high earlier → linesInBlock block i earlier ≡ 0
+  pub run-before-has-none : (high i : ℕ) (earlier : List Line) → high ≤ i → RunBefore block high earlier → linesInBlock block i earlier ≡ 0
   unfolding linesInBlock
   run-before-has-none high i [] h before = refl
   run-before-has-none high i (l ∷ earlier) h before =
       rw (ne-eqb (block (l .number)) i (λ e. omega arith)) (run-before-has-none (suc (block (l .number))) i earlier (omega arith) (before .1))
 
-  pub run-before-after-block : (i steps : ℕ) (ls earlier : List Line) → NextIn i steps ls → RunBefore (suc i) earlier
-      → RunBefore (suc i) (runMore steps ls earlier)
+  pub run-before-after-block : (i steps : ℕ) (ls earlier : List Line) → NextIn i steps ls → RunBefore block (suc i) earlier
+      → RunBefore block (suc i) (runMore steps ls earlier)
   run-before-after-block i zero ls earlier next before = before
   run-before-after-block i (suc steps) [] earlier next before = before
   run-before-after-block i (suc steps) (l ∷ ls) earlier next before =

@@ -17,16 +17,16 @@ use Rattle.model.specs.CaseFile.{Line, Case, linesOf, itemCount}
 use Rattle.model.specs.Line.{itemName, targetName, breaks}
 use Rattle.model.specs.Assignment.{Assignment}
 use Rattle.model.specs.Copies.{latest, readsAfter, walkBack}
-use Rattle.model.specs.Table.{row, itemRows, blockRows, allOrderRows, allValueRows, goalRow, table}
+use Rattle.model.specs.Table.{row, itemRows, blockRows, allOrderRows, allValueRows, runRows, goalRow, table}
 use Rattle.model.specs.Holds.{fromRecord, someBreaks, someThreadBreaks, holds7, holds}
 use Rattle.correspondence.specs.Meaning.{WellFormed, BlockMet, Meets, breaksIn, breakCount}
-use Rattle.correspondence.specs.ReadBack.{AllHold}
+use Rattle.laws.specs.AllHold.{AllHold}
 use Rattle.correspondence.proofs.Sums.{SomeBelow, some-of-sum, sum-of-some}
-use Rattle.correspondence.proofs.Copies.{latest-target, latest-other}
-use Rattle.correspondence.proofs.Walk.{walkBack-past-other-target}
-use Rattle.correspondence.proofs.AllHold.{all-hold-append, all-hold-split}
-use Rattle.correspondence.proofs.LineFound.{line-found}
-use Rattle.correspondence.proofs.OrderRows.{order-of-all-rows, all-rows-of-order}
+use Rattle.laws.proofs.Copies.{latest-target, latest-other}
+use Rattle.laws.proofs.Walk.{walkBack-past-other-target}
+use Rattle.laws.proofs.AllHold.{all-hold-append, all-hold-split}
+use Rattle.laws.proofs.LineFound.{line-found}
+use Rattle.laws.proofs.OrderRows.{order-of-all-rows, all-rows-of-order}
 use Rattle.correspondence.proofs.ValueRows.{lines-of-all-rows, all-rows-of-lines}
 
 count-of-or : (q p : Bool) (x : ℕ) → (p ≡ true → 0 < x) → (q || p) ≡ true → 0 < bit q + x
@@ -149,27 +149,30 @@ module _ (case : Case) (wf : WellFormed case) (α : Assignment) where
       let one = some-of-sum (λ t. breaksIn case α [] (linesOf case t)) (case .T) h in
       thread-breaks-of-count case α (case .threads) (one .0) (one .2)
 
+  pub meets-of-rows : AllHold case α (runRows case) → Meets case α
+  unfolding runRows
+  meets-of-rows h =
+      let after = all-hold-split case α (allOrderRows case 0 (case .threads)) _ h in
+      let later = all-hold-split case α (allValueRows case (case .threads)) (blockRows case 0 (case .n)) (after .1) in
+      record {
+        order = λ t few. rw (zero-add t) at (order-of-all-rows case α 0 (case .threads) (after .0) t (omega (arith, wf .thread-count)));
+        lines = λ t few. lines-of-all-rows case (wf .few-items) α (case .threads) (line-found case (wf .once)) (later .0) t;
+        blocks = λ i few g some. blocks-of-rows case α 0 (case .n) (later .1) i (omega arith) (omega arith) g some;
+      }
+
+  pub rows-of-meets : Meets case α → AllHold case α (runRows case)
+  unfolding runRows
+  rows-of-meets m =
+      all-hold-append case α (allOrderRows case 0 (case .threads)) _
+      (all-rows-of-order case α 0 (case .threads) (λ t few. rw (zero-add t) (m .order t (omega (arith, wf .thread-count)))))
+      (all-hold-append case α (allValueRows case (case .threads)) (blockRows case 0 (case .n))
+      (all-rows-of-lines case (wf .few-items) α (case .threads) (line-found case (wf .once)) (λ t few. m .lines t (omega (arith, wf .thread-count))))
+      (rows-of-blocks case α 0 (case .n) (λ i few g some. m .blocks i (omega arith) g some)))
+
   pub meets-of-table : AllHold case α (table case) → Meets case α × (0 < breakCount case α)
   unfolding table holds
-  meets-of-table h =
-      let after = all-hold-split case α (allOrderRows case 0 (case .threads)) _ h in
-      let later = all-hold-split case α (allValueRows case (case .threads)) _ (after .1) in
-      let last = all-hold-split case α (blockRows case 0 (case .n)) (goalRow ∷ []) (later .1) in (
-        record {
-          order = λ t few. rw (zero-add t) at (order-of-all-rows case α 0 (case .threads) (after .0) t (omega (arith, wf .thread-count)));
-          lines = λ t few. lines-of-all-rows case (wf .few-items) α (case .threads) (line-found case (wf .once)) (later .0) t;
-          blocks = λ i few g some. blocks-of-rows case α 0 (case .n) (last .0) i (omega arith) (omega arith) g some;
-        },
-        count-of-goal (last .1 .0),
-      )
+  meets-of-table h = let parts = all-hold-split case α (runRows case) (goalRow ∷ []) h in (meets-of-rows (parts .0), count-of-goal (parts .1 .0))
 
   pub table-of-meets : Meets case α → 0 < breakCount case α → AllHold case α (table case)
   unfolding table holds
-  table-of-meets m h =
-      all-hold-append case α (allOrderRows case 0 (case .threads)) _
-      (all-rows-of-order case α 0 (case .threads) (λ t few. rw (zero-add t) (m .order t (omega (arith, wf .thread-count)))))
-      (all-hold-append case α (allValueRows case (case .threads)) _
-      (all-rows-of-lines case (wf .few-items) α (case .threads) (line-found case (wf .once)) (λ t few. m .lines t (omega (arith, wf .thread-count))))
-      (all-hold-append case α (blockRows case 0 (case .n)) (goalRow ∷ [])
-      (rows-of-blocks case α 0 (case .n) (λ i few g some. m .blocks i (omega arith) g some))
-      (goal-of-count h, tt)))
+  table-of-meets m h = all-hold-append case α (runRows case) (goalRow ∷ []) (rows-of-meets m) (goal-of-count h, tt)

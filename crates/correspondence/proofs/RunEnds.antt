@@ -12,12 +12,13 @@ use borrow.Author.Tests.{ne-eqb, eq-eqb}
 use Rattle.model.specs.CaseFile.{Line, Case, linesOf}
 use Rattle.model.specs.Machine.{Memory, State, Outcome, refused14, cutOff, violated, clean, stepped, start, restIn, memoryIn, ending, run}
 use Rattle.model.specs.Schedule.{blockLengths, givenIn, stepsOf, lengthsAddUp, runOf}
-use Rattle.model.specs.Runs.{Step, blockSteps, nextState, course, lastState, ends, strays, broken, upToFirst, First, courseOf, runSteps, lastItems, linesRun, Complete, Legal, FirstEnding, NoneStrays, NoneBroken}
+use Rattle.model.specs.Runs.{Step, blockSteps, nextState, course, lastState, ends, strays, broken, upToFirst, First, courseOf, runSteps, linesRun, Complete, Legal, FirstEnding, NoneStrays, NoneBroken}
 use Rattle.laws.proofs.Views.{EqView, same, diff, eq-view}
 use Rattle.laws.proofs.Ranges.{all-from-of}
-use Rattle.correspondence.specs.Meaning.{WellFormed, AllLines, Positive}
+use Rattle.laws.specs.Order.{AllLines, Positive}
+use Rattle.correspondence.specs.Meaning.{WellFormed}
 use Rattle.correspondence.specs.Agreement.{MayBeLeft, Finishes}
-use Rattle.correspondence.proofs.AllLines.{each-thread, all-dropped}
+use Rattle.laws.proofs.AllLines.{each-thread, all-dropped}
 use Rattle.correspondence.proofs.Blocks.{rests-kept, own-rest-after, other-rest-after}
 use Rattle.correspondence.proofs.Endings.{none-of-left, finished-of-legal}
 use Rattle.correspondence.proofs.Courses.{Numbered, numbered-append, along, Notes, quiet, loud, notes, Fate, met, cut, through, fate, stray-goes-on, run-goes, up-to-none}
@@ -145,17 +146,20 @@ module _ (case : Case) (wf : WellFormed case) (schedule : List ℕ) where
   abbrev given : ℕ → ℕ
   given = givenIn case schedule
 
+  abbrev last : State
+  last = lastState case given 0 (blockLengths case schedule) (start case)
+
   abbrev end : ℕ → Outcome
-  end note = ending note (lastItems case schedule)
+  end note = ending note last
 
   -- How the run ends, and what the machine answers then.
   pub data RunEnding : Type 0 where
     met-14 : (s : Step) → First (strays case given) (runSteps case schedule) s → runOf case schedule ≡ refused14 (s .line .number) → RunEnding
     cut-off : (s : Step) → NoneStrays case schedule → FirstEnding case schedule s
         → runOf case schedule ≡ cutOff (s .line .number) (s .memory .items) → RunEnding
-    ended-clean : NoneStrays case schedule → Legal case schedule → NoneBroken case schedule → runOf case schedule ≡ clean (lastItems case schedule) → RunEnding
+    ended-clean : NoneStrays case schedule → Legal case schedule → NoneBroken case schedule → runOf case schedule ≡ clean last → RunEnding
     ended-violated : (s : Step) → NoneStrays case schedule → Legal case schedule → First (broken case given) (runSteps case schedule) s
-        → runOf case schedule ≡ violated (s .line .number) (lastItems case schedule) → RunEnding
+        → runOf case schedule ≡ violated (s .line .number) last → RunEnding
 
   pub run-ending : RunEnding
   unfolding runOf run

@@ -17,7 +17,7 @@ use Rattle.model.specs.Machine.{Memory, look, putLocal, putItem, readsIn, stepp
 use Rattle.model.specs.Assignment.{Assignment}
 use Rattle.model.specs.Copies.{readAfter}
 use Rattle.correspondence.specs.Meaning.{WellFormed}
-use Rattle.correspondence.proofs.Copies.{readName-no-name, readName-own-block, readAfter-target, readAfter-other}
+use Rattle.laws.proofs.Copies.{readName-no-name, readName-own-block, readAfter-target, readAfter-other}
 
 -- A memory where a name gets a value.
 abbrev pub put : Bool → ℕ → ℕ → Memory → Memory

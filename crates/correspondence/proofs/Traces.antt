@@ -14,7 +14,8 @@ use Rattle.model.specs.CaseFile.{Line, Case, itemCount, sumOfLines, sumOfThread
 use Rattle.model.specs.Machine.{Memory, State, stepped, restIn, memoryIn}
 use Rattle.model.specs.Assignment.{Assignment}
 use Rattle.model.specs.Runs.{nextState}
-use Rattle.correspondence.specs.Meaning.{AllLines, AllThreads, WellFormed}
+use Rattle.laws.specs.Order.{AllLines, AllThreads}
+use Rattle.correspondence.specs.Meaning.{WellFormed}
 use Rattle.correspondence.specs.Trace.{Event, blockEvents, leftEvents, allLeftEvents, events, snapshots}
 use Rattle.correspondence.specs.Agreement.{sumOfEvents, FinishesBlock, Finishes, MayBeLeft, Agrees, AgreesItems}
 use Rattle.correspondence.specs.Fill.{blockIn, valueIn, traced}

@@ -17,50 +17,21 @@ use Rattle.model.specs.Assignment.{Assignment}
 use Rattle.model.specs.Copies.{copyOf, readName, readAfter, readsAfter}
 use Rattle.model.specs.Table.{valueRow, demandRows, valueRows, allValueRows}
 use Rattle.model.specs.Holds.{readsWith, demandMet, holds}
-use Rattle.correspondence.specs.Meaning.{AllLines, Demanded, LinesMet}
-use Rattle.correspondence.specs.ReadBack.{AllHold}
-use Rattle.correspondence.proofs.Copies.{readName-no-name}
+use Rattle.laws.specs.Order.{AllLines}
+use Rattle.correspondence.specs.Meaning.{Demanded, LinesMet}
+use Rattle.laws.specs.AllHold.{AllHold}
+use Rattle.laws.proofs.RowReads.{copy-reads, value-row-holds, lockReads, lock-guard}
 use Rattle.correspondence.proofs.Block.{zero-where-true, not-nonzero-where-true}
-use Rattle.correspondence.proofs.AllHold.{all-hold-append, all-hold-split}
-
-guard-same : (l : Line) (r r' : Reads) → r .guard ≡ r' .guard → guardTrue l r ≡ guardTrue l r'
-unfolding guardTrue
-guard-same l r r' e = ap (λ (x : ℕ). cond (eqb (l .guard) 0) true (cond (ltb (l .guard) 17) (nonzero x) (eqb x 0))) e
+use Rattle.laws.proofs.AllHold.{all-hold-append, all-hold-split}
 
 module _ (case : Case) (few : localCount + itemCount case ≤ noName) (α : Assignment) where
-  -- the copy that the table has for a name reads as the name
-  pub copy-reads : (i : ℕ) (earlier : List Line) (name : ℕ) → readName case α i name (copyOf (case .G) name earlier) ≡ readAfter case α i earlier name
-  unfolding copyOf readAfter
-  copy-reads i earlier name = go (eq-view name noName)
-    where
-      go : EqView name noName → readName case α i name (copyOf (case .G) name earlier) ≡ readAfter case α i earlier name
-      go (same e q) = rw e (readName-no-name case α i noName _ few ∙ sym (readName-no-name case α i noName _ few))
-      go (diff e q) = rw q
-
-  row-reads : (earlier : List Line) (l : Line)
-      → readsOf (case .G) (λ name. readName case α (α .block (l .number)) name (copyOf (case .G) name earlier)) l (α .value (l .number))
-      ≡ readsAfter case α earlier l
-  row-reads earlier l = ap (λ (f : ℕ → ℕ). readsOf (case .G) f l (α .value (l .number))) (fun-ext (copy-reads (α .block (l .number)) earlier))
-
-  pub value-row-holds : (earlier : List Line) (l : Line) → lineAt case (l .number) ≡ l
-      → holds case α (valueRow case earlier l) ≡ eqb (α .value (l .number)) (valueOf l (readsAfter case α earlier l))
-  unfolding holds
-  value-row-holds earlier l found = rw found (ap (λ (reads : Reads). eqb (α .value (l .number)) (valueOf l reads)) (row-reads earlier l))
-
   value-of-row : (earlier : List Line) (l : Line) → lineAt case (l .number) ≡ l → holds case α (valueRow case earlier l) ≡ true
       → α .value (l .number) ≡ valueOf l (readsAfter case α earlier l)
-  value-of-row earlier l found h = eqb-true _ _ (sym (value-row-holds earlier l found) ∙ h)
+  value-of-row earlier l found h = eqb-true _ _ (sym (value-row-holds case few α earlier l found) ∙ h)
 
   row-of-value : (earlier : List Line) (l : Line) → lineAt case (l .number) ≡ l → α .value (l .number) ≡ valueOf l (readsAfter case α earlier l)
       → holds case α (valueRow case earlier l) ≡ true
-  row-of-value earlier l found h = value-row-holds earlier l found ∙ eq-eqb _ _ h
-
-  -- what constraint 5 reads of a lock
-  abbrev pub lockReads : List Line → Line → Reads
-  lockReads earlier l = readsWith case α l (copyOf (case .G) (guardName l) earlier) 0 0 (copyOf (case .G) (targetName (case .G) l) earlier)
-
-  pub lock-guard : (earlier : List Line) (l : Line) → guardTrue l (lockReads earlier l) ≡ guardTrue l (readsAfter case α earlier l)
-  lock-guard earlier l = guard-same l (lockReads earlier l) (readsAfter case α earlier l) (copy-reads (α .block (l .number)) earlier (guardName l))
+  row-of-value earlier l found h = value-row-holds case few α earlier l found ∙ eq-eqb _ _ h
 
   demand-of-rows : (kind : Kind) (earlier : List Line) (l : Line) → l .kind ≡ kind → lineAt case (l .number) ≡ l
       → AllHold case α (demandRows kind case earlier l)
@@ -73,10 +44,10 @@ module _ (case : Case) (few : localCount + itemCount case ≤ noName) (α : Assi
   demand-of-rows assert earlier l e found h = tt
   demand-of-rows assume earlier l e found h = eqb-true (α .value (l .number)) 1
       (subst (λ (kind : Kind). demandMet kind l (readsWith case α l 0 0 0 0) (α .value (l .number)) ≡ true) e (rw found at (h .0)))
-  demand-of-rows lock earlier l e found h = λ on. sym (copy-reads (α .block (l .number)) earlier (targetName (case .G) l))
-      ∙ zero-where-true (guardTrue l (lockReads earlier l)) (lockReads earlier l .target)
-      (not-true _ (subst (λ (kind : Kind). demandMet kind l (lockReads earlier l) (α .value (l .number)) ≡ true) e (rw found at (h .0))))
-      (lock-guard earlier l ∙ on)
+  demand-of-rows lock earlier l e found h = λ on. sym (copy-reads case few α (α .block (l .number)) earlier (targetName (case .G) l))
+      ∙ zero-where-true (guardTrue l (lockReads case few α earlier l)) (lockReads case few α earlier l .target)
+      (not-true _ (subst (λ (kind : Kind). demandMet kind l (lockReads case few α earlier l) (α .value (l .number)) ≡ true) e (rw found at (h .0))))
+      (lock-guard case few α earlier l ∙ on)
   demand-of-rows unlock earlier l e found h = tt
 
   rows-of-demand : (kind : Kind) (earlier : List Line) (l : Line) → l .kind ≡ kind → lineAt case (l .number) ≡ l
@@ -93,9 +64,9 @@ module _ (case : Case) (few : localCount + itemCount case ≤ noName) (α : Assi
     tt,
   )
   rows-of-demand lock earlier l e found h = (
-    rw found (subst (λ (kind : Kind). demandMet kind l (lockReads earlier l) (α .value (l .number)) ≡ true) (sym e)
-        (ap not (not-nonzero-where-true (guardTrue l (lockReads earlier l)) (lockReads earlier l .target)
-        (λ on. copy-reads (α .block (l .number)) earlier (targetName (case .G) l) ∙ h (sym (lock-guard earlier l) ∙ on))))),
+    rw found (subst (λ (kind : Kind). demandMet kind l (lockReads case few α earlier l) (α .value (l .number)) ≡ true) (sym e)
+        (ap not (not-nonzero-where-true (guardTrue l (lockReads case few α earlier l)) (lockReads case few α earlier l .target)
+        (λ on. copy-reads case few α (α .block (l .number)) earlier (targetName (case .G) l) ∙ h (sym (lock-guard case few α earlier l) ∙ on))))),
     tt,
   )
   rows-of-demand unlock earlier l e found h = tt

@@ -15,14 +15,15 @@ use Rattle.model.specs.Line.{itemName}
 use Rattle.model.specs.Machine.{Memory, State, look, restIn, memoryIn}
 use Rattle.model.specs.Assignment.{Assignment}
 use Rattle.model.specs.Copies.{latest, valueBefore, readLocal, readItem, readName, readAfter, walkBack}
-use Rattle.correspondence.specs.Meaning.{WellFormed, AllLines, Positive, Ordered, BlockMet}
+use Rattle.laws.specs.Order.{AllLines, Positive, Ordered}
+use Rattle.correspondence.specs.Meaning.{WellFormed, BlockMet}
 use Rattle.model.specs.Runs.{endMemory, nextState}
 use Rattle.correspondence.specs.Agreement.{MayBeLeft, Snapshot}
-use Rattle.correspondence.proofs.Copies.{item-of-name}
+use Rattle.laws.proofs.Copies.{item-of-name}
 use Rattle.correspondence.proofs.Step.{MemoryFits, Corresponds}
-use Rattle.correspondence.proofs.AllLines.{each-thread, all-earlier-and-rest}
-use Rattle.correspondence.proofs.Order.{runMore, RunBefore, NextIn}
-use Rattle.correspondence.proofs.Walk.{walkBack-past-later-blocks, walkBack-is-reading-latest, readItem-at-start}
+use Rattle.laws.proofs.AllLines.{each-thread, all-earlier-and-rest}
+use Rattle.correspondence.proofs.Order.{runMore, NextIn}
+use Rattle.laws.proofs.Walk.{RunBefore, walkBack-past-later-blocks, walkBack-is-reading-latest, readItem-at-start}
 use Rattle.correspondence.proofs.Block.{BlockRuns, LinesDecoded, steps-fit, block-keeps-correspondence, decoded-block-runs, block-that-runs-is-decoded}
 use Rattle.correspondence.proofs.Blocks.{each-after-change, of-changed-thread, of-other-thread, Place, place-after-block, restsAfter, earlierAfter, BlocksNext, Places, turn, turn-in, rests-kept, places-after-block, ordered-after-block, order-of-blocks}
 

@@ -12,7 +12,8 @@ use Rattle.laws.proofs.Below.{below-at, all-below-append, all-below-replicate, 
 use Rattle.laws.proofs.Ranges.{length-numbersFrom}
 use Rattle.laws.proofs.Chains.{thread-count}
 use Rattle.laws.proofs.Lines.{numbers-within, numbers-once, thread-lines-by}
-use Rattle.correspondence.specs.Meaning.{AllLines, Positive, WellFormed}
+use Rattle.laws.specs.Order.{AllLines, Positive}
+use Rattle.correspondence.specs.Meaning.{WellFormed}
 
 pub field-below : (bytes : List ℕ) → AllBelow 256 bytes → (j : ℕ) → field bytes j < wordSize
 unfolding field

@@ -11,7 +11,7 @@ use Rattle.model.specs.Line.{stops, strayInput}
 use Rattle.model.specs.Assignment.{Assignment}
 use Rattle.model.specs.Machine.{Memory, State, readsIn, stepped, restIn, memoryIn}
 use Rattle.model.specs.Runs.{nextState}
-use Rattle.correspondence.specs.Meaning.{AllThreads}
+use Rattle.laws.specs.Order.{AllThreads}
 use Rattle.correspondence.specs.Trace.{Event}
 
 -- How many events break an assertion; a weight of each line added up over the events.

@@ -23,7 +23,8 @@ use Rattle.model.specs.declared.Checked.the-variants.{Meets, Fails}
 use Rattle.model.specs.declared.Decoded.the-variants as decodeds
 use Rattle.model.specs.declared.Replayed.{Replayed}
 use Rattle.model.specs.declared.Replayed.the-variants as replayeds
-use Rattle.correspondence.specs.ReadBack.{rowsOf, AllHold, FirstFails}
+use Rattle.laws.specs.AllHold.{AllHold}
+use Rattle.correspondence.specs.ReadBack.{rowsOf, FirstFails}
 use Rattle.correspondence.specs.Fill.{fill}
 
 -- How many numbers the slices lent to the encoder, the decoder and the replayer must hold.

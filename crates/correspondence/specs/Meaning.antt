@@ -1,5 +1,5 @@
--- What the constraints say of an assignment, as propositions by topic: order of block numbers, values and demands of lines,
--- block values. That the rows of the table say just this is proofs/Rows.antt.
+-- What the constraints say of an assignment, as propositions by topic: values and demands of lines, block values; the order of
+-- block numbers is laws' Order. That the rows of the table say just this is proofs/Rows.antt.
 -- Assumes nothing.
 use mathlib.Core.Path.{_≡_}
 use Prim.Native.Nat.{ℕ, zero, suc, _+_, _%_, _≤_, _<_}
@@ -13,19 +13,7 @@ use Rattle.model.specs.Line.{noName, Reads, guardTrue, valueOf, breaks, isInput
 use Rattle.model.specs.Assignment.{Assignment}
 use Rattle.model.specs.Copies.{readsAfter, walkBack}
 use Rattle.model.specs.Schedule.{linesInBlock}
-
--- What holds of every line of a thread, and of every line of every thread.
-abbrev pub AllLines : (Line → Type 0) → List Line → Type 0
-AllLines P [] = Unit
-AllLines P (l ∷ ls) = P l × AllLines P ls
-
-abbrev pub AllThreads : (Line → Type 0) → List (List Line) → Type 0
-AllThreads P [] = Unit
-AllThreads P (ls ∷ threads) = AllLines P ls × AllThreads P threads
-
--- Record numbers count from 1.
-abbrev pub Positive : Line → Type 0
-Positive l = 0 < l .number
+use Rattle.laws.specs.Order.{AllLines, Positive, Ordered}
 
 -- What the theorem needs of a case. That an accepted case has it is proofs/WellFormed.antt.
 pub record WellFormed (case : Case) : Type 0 where
@@ -40,17 +28,6 @@ pub record WellFormed (case : Case) : Type 0 where
   pub within : (k : ℕ) → 0 < sumOfThreads (hasNumber k) (case .threads) → (0 < k) × (k ≤ case .R)
   pub small-constants : (t : ℕ) → AllLines (λ l. l .c < wordSize) (linesOf case t)
   pub small-initial : AllBelow wordSize (case .initial)
-
--- Constraints 1, 2 and 3 at one line: its block number x is at least that of the line before, at most n, and the thread's.
-pub record InOrder (case : Case) (t low x : ℕ) : Type 0 where
-  pub from : low ≤ x
-  pub upto : x ≤ case .n
-  pub mine : x % case .T ≡ t
-
--- Along a thread's lines, whose block numbers start from `low`.
-abbrev pub Ordered : Case → (ℕ → ℕ) → ℕ → ℕ → List Line → Type 0
-Ordered case block t low [] = Unit
-Ordered case block t low (l ∷ ls) = InOrder case t low (block (l .number)) × Ordered case block t (block (l .number)) ls
 
 -- Constraint 5: an assume's value is 1; a lock whose guard is true reads 0.
 abbrev pub Demanded : Kind → Line → Reads → ℕ → Type 0

@@ -3,13 +3,14 @@
 -- Assumes nothing.
 use mathlib.Core.Path.{_≡_}
 use Prim.Native.Nat.{ℕ, _+_}
-use mathlib.Core.Bool.{true, false}
+use mathlib.Core.Bool.{false}
 use mathlib.Core.List.{List, [], _∷_, _++_}
 use lib.ListN.{length}
 use Rattle.model.specs.CaseFile.{Case}
 use Rattle.model.specs.Assignment.{Assignment}
 use Rattle.model.specs.Table.{Row, row}
 use Rattle.model.specs.Holds.{holds}
+use Rattle.laws.specs.AllHold.{AllHold}
 
 -- "A constraint is six 16-bit numbers": fewer than six left over are no row.
 unfoldable pub rowsOf : List ℕ → List Row
@@ -20,11 +21,6 @@ rowsOf (kind ∷ (one ∷ (two ∷ []))) = []
 rowsOf (kind ∷ (one ∷ (two ∷ (three ∷ [])))) = []
 rowsOf (kind ∷ (one ∷ (two ∷ (three ∷ (four ∷ []))))) = []
 rowsOf (kind ∷ (one ∷ (two ∷ (three ∷ (four ∷ (five ∷ rest)))))) = row kind one two three four five ∷ rowsOf rest
-
--- Every row holds of the assignment.
-abbrev pub AllHold : Case → Assignment → List Row → Type 0
-AllHold case α [] = Unit
-AllHold case α (w ∷ ws) = (holds case α w ≡ true) × AllHold case α ws
 
 -- Row j, counted from k, fails, and all rows before it hold.
 pub record FirstFails (case : Case) (α : Assignment) (k : ℕ) (rows : List Row) (j : ℕ) : Type 0 where

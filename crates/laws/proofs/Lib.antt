@@ -15,3 +15,11 @@ pub mod Following
 pub mod RecordSums
 -- How large replies can be
 pub mod Sizes
+-- Lines, copies and rows
+pub mod AllLines
+pub mod LineFound
+pub mod Copies
+pub mod Walk
+pub mod AllHold
+pub mod OrderRows
+pub mod RowReads

@@ -16,7 +16,7 @@ use Rattle.model.specs.Limits.{mostCaseBytes, mostRecords, mostSwitches, mostIt
 use Rattle.model.specs.CaseFile.{Kind, compute, store, load, input, assert, assume, lock, unlock, Line, Case, records, threadCount, switchCount, chains, caseOf, linesOf, itemCount, sumOfLines, sumOfThreads}
 use Rattle.model.specs.Line.{isInput}
 use Rattle.model.specs.Assignment.{variables}
-use Rattle.model.specs.Table.{Row, orderRows, demandRows, valueRows, allOrderRows, allValueRows, itemRows, blockRows, goalRow, table, numbersOf}
+use Rattle.model.specs.Table.{Row, lineOrderRows, orderRows, demandRows, valueRows, allOrderRows, allValueRows, itemRows, blockRows, runRows, goalRow, table, numbersOf}
 use Rattle.model.specs.Machine.{Outcome, refused14, cutOff, violated, clean}
 use Rattle.model.specs.Schedule.{inputLines, allInputLines, scheduleSize, blockLengths, lengthsAddUp, runOf}
 use Rattle.model.specs.Accept.{sizeOk, threadsOk, switchesOk, itemsOk, absentOk, linksOk, reachedOk, lengthsOk, brokenRecord, verdict}
@@ -27,6 +27,7 @@ use Rattle.model.specs.declared.Encoded.the-variants as encodeds
 use Rattle.model.specs.declared.Decoded.the-variants as decodeds
 use Rattle.model.specs.declared.Replayed.the-variants as replayeds
 use Rattle.laws.specs.Accepted.{Accepted}
+use Rattle.laws.specs.RowCounts.{orderRowCount, valueRowCount}
 use Rattle.laws.specs.Sizes.{Sizes, LargestSizes, NeverTooShort}
 use Rattle.laws.proofs.Accepted.{accepted-of}
 use Rattle.laws.proofs.Counting.{sum-of-bits}
@@ -50,47 +51,71 @@ lines-are-few : (bytes : List ℕ) → Accepted bytes → lineCount (chains byte
 lines-are-few bytes ok =
     omega (arith, lines-add-up (λ k. 1) bytes ok (λ l. 1) (λ t k. refl), sum-of-bits (λ k. 1) 1 (records bytes) (λ k. le-refl 1))
 
--- The 3s, 1s and 2s: two a line.
-pub order-length : (case : Case) (t : ℕ) (ls : List Line) → length (orderRows case t ls) ≡ 2 * length ls
-unfolding orderRows
-order-length case t [] = refl
-order-length case t (l ∷ []) = refl
-order-length case t (l ∷ (l' ∷ ls)) = omega (arith, order-length case t (l' ∷ ls))
+-- The 3s, 1s and 2s: so many a line.
+pub line-order-length : (case : Case) (t : ℕ) (earlier : List Line) (l : Line) (ls : List Line) → length (lineOrderRows case t earlier l ls) ≡ orderRowCount
+unfolding lineOrderRows
+line-order-length case t earlier l ls = refl
 
-orders-length : (case : Case) (t : ℕ) (threads : List (List Line)) → length (allOrderRows case t threads) ≡ 2 * lineCount threads
+pub order-length : (case : Case) (t : ℕ) (earlier ls : List Line) → length (orderRows case t earlier ls) ≡ orderRowCount * length ls
+unfolding orderRows
+order-length case t earlier [] = refl
+order-length case t earlier (l ∷ ls) =
+    omega (
+      arith,
+      length-append (lineOrderRows case t earlier l ls) (orderRows case t (l ∷ earlier) ls),
+      line-order-length case t earlier l ls,
+      order-length case t (l ∷ earlier) ls,
+    )
+
+orders-length : (case : Case) (t : ℕ) (threads : List (List Line)) → length (allOrderRows case t threads) ≡ orderRowCount * lineCount threads
 unfolding allOrderRows
 orders-length case t [] = refl
 orders-length case t (ls ∷ threads) =
     omega (
       arith,
-      length-append (orderRows case t ls) (allOrderRows case (suc t) threads),
-      order-length case t ls,
+      length-append (orderRows case t [] ls) (allOrderRows case (suc t) threads),
+      order-length case t [] ls,
       lines-counted ls,
       orders-length case (suc t) threads,
     )
 
--- The 4s and 5s: at most two a line.
-demand-at-most-one : (kind : Kind) (case : Case) (earlier : List Line) (l : Line) → length (demandRows kind case earlier l) ≤ 1
-unfolding demandRows
-demand-at-most-one compute case earlier l = omega arith
-demand-at-most-one store case earlier l = omega arith
-demand-at-most-one load case earlier l = omega arith
-demand-at-most-one input case earlier l = omega arith
-demand-at-most-one assert case earlier l = omega arith
-demand-at-most-one assume case earlier l = omega arith
-demand-at-most-one lock case earlier l = omega arith
-demand-at-most-one unlock case earlier l = omega arith
+-- The 4s and 5s: so many a line, and at most two.
+pub line-value-length : (kind : Kind) (case : Case) (earlier : List Line) (l : Line) → suc (length (demandRows kind case earlier l)) ≡ valueRowCount kind
+unfolding demandRows valueRowCount
+line-value-length compute case earlier l = refl
+line-value-length store case earlier l = refl
+line-value-length load case earlier l = refl
+line-value-length input case earlier l = refl
+line-value-length assert case earlier l = refl
+line-value-length assume case earlier l = refl
+line-value-length lock case earlier l = refl
+line-value-length unlock case earlier l = refl
 
-value-at-most : (case : Case) (earlier ls : List Line) → length (valueRows case earlier ls) ≤ 2 * length ls
+pub value-count-at-most : (kind : Kind) → valueRowCount kind ≤ 2
+unfolding valueRowCount
+value-count-at-most compute = omega arith
+value-count-at-most store = omega arith
+value-count-at-most load = omega arith
+value-count-at-most input = omega arith
+value-count-at-most assert = omega arith
+value-count-at-most assume = omega arith
+value-count-at-most lock = omega arith
+value-count-at-most unlock = omega arith
+
+pub value-length : (case : Case) (earlier ls : List Line) → length (valueRows case earlier ls) ≡ sumOfLines (λ l. valueRowCount (l .kind)) ls
 unfolding valueRows
-value-at-most case earlier [] = omega arith
-value-at-most case earlier (l ∷ ls) =
+value-length case earlier [] = refl
+value-length case earlier (l ∷ ls) =
     omega (
       arith,
       length-append (demandRows (l .kind) case earlier l) (valueRows case (l ∷ earlier) ls),
-      demand-at-most-one (l .kind) case earlier l,
-      value-at-most case (l ∷ earlier) ls,
+      line-value-length (l .kind) case earlier l,
+      value-length case (l ∷ earlier) ls,
     )
+
+value-at-most : (ls : List Line) → sumOfLines (λ l. valueRowCount (l .kind)) ls ≤ 2 * length ls
+value-at-most [] = omega arith
+value-at-most (l ∷ ls) = omega (arith, value-count-at-most (l .kind), value-at-most ls)
 
 values-at-most : (case : Case) (threads : List (List Line)) → length (allValueRows case threads) ≤ 2 * lineCount threads
 unfolding allValueRows
@@ -99,7 +124,8 @@ values-at-most case (ls ∷ threads) =
     omega (
       arith,
       length-append (valueRows case [] ls) (allValueRows case threads),
-      value-at-most case [] ls,
+      value-length case [] ls,
+      value-at-most ls,
       lines-counted ls,
       values-at-most case threads,
     )
@@ -161,21 +187,23 @@ module _ (bytes : List ℕ) (ok : Accepted bytes) where
   pub value-rows : length (allValueRows (caseOf bytes) (caseOf bytes .threads)) ≤ 2 * mostRecords
   value-rows = omega (arith, values-at-most (caseOf bytes) (caseOf bytes .threads), lines-are-few bytes ok, ok .few-records)
 
-  pub table-rows : length (table (caseOf bytes)) ≤ mostConstraints
-  unfolding table
-  table-rows =
+  pub run-rows : length (runRows (caseOf bytes)) < mostConstraints
+  unfolding runRows
+  run-rows =
       let case = caseOf bytes in
-      let blocks = blockRows case 0 (switchCount bytes) in
       omega (
         arith,
-        length-append (allOrderRows case 0 (case .threads)) (allValueRows case (case .threads) ++ (blocks ++ (goalRow ∷ []))),
-        length-append (allValueRows case (case .threads)) (blocks ++ (goalRow ∷ [])),
-        length-append blocks (goalRow ∷ []),
+        length-append (allOrderRows case 0 (case .threads)) (allValueRows case (case .threads) ++ blockRows case 0 (switchCount bytes)),
+        length-append (allValueRows case (case .threads)) (blockRows case 0 (switchCount bytes)),
         order-rows,
         value-rows,
         blocks-length case 0 (switchCount bytes),
         block-values-are-few,
       )
+
+  pub table-rows : length (table (caseOf bytes)) ≤ mostConstraints
+  unfolding table
+  table-rows = omega (arith, length-append (runRows (caseOf bytes)) (goalRow ∷ []), run-rows)
 
   pub table-numbers : length (numbersOf (table (caseOf bytes))) ≤ mostTableNumbers
   table-numbers = omega (arith, six-a-row (table (caseOf bytes)), table-rows)
@@ -236,8 +264,8 @@ decoded-not-10 false none failed size = λ ten. omega arith
 run-not-10 : (outcome : Outcome) → replayedNumbers (answerOfRun outcome) .refusal ≢ 10
 run-not-10 (refused14 k) = λ ten. omega arith
 run-not-10 (cutOff k items) = λ ten. omega arith
-run-not-10 (violated k items) = λ ten. omega arith
-run-not-10 (clean items) = λ ten. omega arith
+run-not-10 (violated k s) = λ ten. omega arith
+run-not-10 (clean s) = λ ten. omega arith
 
 replayed-not-10 : (sized adds-up : Bool) (outcome : Outcome)
     → replayedNumbers (unless sized (replayeds.Refused 12 0) (unless adds-up (replayeds.Refused 13 0) (answerOfRun outcome))) .refusal ≢ 10

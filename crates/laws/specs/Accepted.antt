@@ -14,6 +14,10 @@ use Rattle.model.specs.Accept.{timesReached, ruleOk}
 abbrev pub linesFrom : List ℕ → ℕ → ℕ → List Line
 linesFrom bytes t k = chain bytes t (suc (records bytes)) k
 
+-- The lines of thread t.
+abbrev pub threadLines : List ℕ → ℕ → List Line
+threadLines bytes t = linesFrom bytes t (firstRecord bytes t)
+
 pub record Accepted (bytes : List ℕ) : Type 0 where
   pub size : length bytes ≡ headerBytes + recordBytes * records bytes
   pub few-records : records bytes ≤ mostRecords

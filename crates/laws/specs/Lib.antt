@@ -1,3 +1,6 @@
 pub mod Accepted
+pub mod Order
+pub mod AllHold
+pub mod RowCounts
 pub mod Written
 pub mod Sizes

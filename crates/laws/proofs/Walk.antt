@@ -7,15 +7,24 @@ use mathlib.Core.List.{List, [], _∷_, reverseAux}
 use native.Mathlib.Omega.{arith}
 use lib.Dec.{eqb}
 use borrow.Author.Tests.{eq-eqb, ne-eqb}
 use Rattle.laws.proofs.Views.{EqView, same, diff, eq-view, and-false}
 use Rattle.model.specs.Word.{nonzero}
 use Rattle.model.specs.CaseFile.{Line, Case}
 use Rattle.model.specs.Line.{itemName, targetName}
 use Rattle.model.specs.Assignment.{Assignment}
 use Rattle.model.specs.Copies.{latest, valueBefore, readItem, walkBack}
-use Rattle.correspondence.specs.Meaning.{AllLines, Positive, Ordered}
-use Rattle.correspondence.proofs.Copies.{latest-target, latest-other}
-use Rattle.correspondence.proofs.Order.{RunBefore, run-before-weakened}
+use Rattle.laws.specs.Order.{AllLines, Positive, Ordered}
+use Rattle.laws.proofs.Copies.{latest-target, latest-other}
+
+module _ (block : ℕ → ℕ) where
+  -- Lines already run, latest first: their block numbers are below `high` and do not rise.
+  abbrev pub RunBefore : ℕ → List Line → Type 0
+  RunBefore high [] = Unit
+  RunBefore high (l ∷ earlier) = (block (l .number) < high) × RunBefore (suc (block (l .number))) earlier
+
+  pub run-before-weakened : (high higher : ℕ) (earlier : List Line) → high ≤ higher → RunBefore high earlier → RunBefore higher earlier
+  run-before-weakened high higher [] h before = tt
+  run-before-weakened high higher (l ∷ earlier) h before = (omega arith, before .1)
 
 module _ (case : Case) (α : Assignment) where
   -- One line: it is passed over if it is of another block or has another target, else it is what is found.

@@ -7,10 +7,10 @@ use native.Mathlib.Omega.{arith}
 use lib.ListN.{getD}
 use borrow.Author.Tests.{eq-eqb}
 use Rattle.model.specs.CaseFile.{Line, Case, linesOf, sumOfLines, sumOfThreads, hasNumber, findLine, findThread, lineAt}
 use Rattle.laws.proofs.Counting.{own-number-counts, number-is-other}
 use Rattle.laws.proofs.Lines.{find-nothing}
-use Rattle.correspondence.specs.Meaning.{AllLines}
-use Rattle.correspondence.proofs.AllLines.{all-lines-map}
+use Rattle.laws.specs.Order.{AllLines}
+use Rattle.laws.proofs.AllLines.{all-lines-map}
 
 find-passes-one : (k : ℕ) (l : Line) (ls : List Line) (other : Line) → hasNumber k l ≡ 0 → findLine k (l ∷ ls) other ≡ findLine k ls other
 unfolding findLine

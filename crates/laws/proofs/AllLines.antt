@@ -5,7 +5,7 @@ use mathlib.Core.List.{List, [], _∷_, reverseAux}
 use native.Mathlib.Omega.{arith}
 use lib.ListN.{getD, length, drop}
 use Rattle.model.specs.CaseFile.{Line}
-use Rattle.correspondence.specs.Meaning.{AllLines, AllThreads}
+use Rattle.laws.specs.Order.{AllLines, AllThreads}
 
 pub all-lines-map : (P Q : Line → Type 0) (ls : List Line) → ((l : Line) → P l → Q l) → AllLines P ls → AllLines Q ls
 all-lines-map P Q [] f h = tt

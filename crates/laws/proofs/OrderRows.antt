@@ -9,35 +9,35 @@ use lib.ListN.{getD, length}
 use borrow.Author.Tests.{eqb-true, eq-eqb, leb-true, le-leb}
 use Rattle.model.specs.CaseFile.{Line, Case}
 use Rattle.model.specs.Assignment.{Assignment}
-use Rattle.model.specs.Table.{orderRows, allOrderRows}
+use Rattle.model.specs.Table.{followRow, lineOrderRows, orderRows, allOrderRows}
 use Rattle.model.specs.Holds.{holds}
-use Rattle.correspondence.specs.Meaning.{Ordered}
-use Rattle.correspondence.specs.ReadBack.{AllHold}
-use Rattle.correspondence.proofs.AllHold.{all-hold-append, all-hold-split}
+use Rattle.laws.specs.Order.{Ordered}
+use Rattle.laws.specs.AllHold.{AllHold}
+use Rattle.laws.proofs.AllHold.{all-hold-append, all-hold-split}
 
 module _ (case : Case) (α : Assignment) where
-  ordered-from : (t low : ℕ) (l : Line) (ls : List Line) → low ≤ α .block (l .number) → AllHold case α (orderRows case t (l ∷ ls))
-      → Ordered case (α .block) t low (l ∷ ls)
-  unfolding orderRows holds
-  ordered-from t low l [] from h =
+  ordered-from : (t low : ℕ) (earlier : List Line) (l : Line) (ls : List Line) → low ≤ α .block (l .number)
+      → AllHold case α (orderRows case t earlier (l ∷ ls)) → Ordered case (α .block) t low (l ∷ ls)
+  unfolding orderRows lineOrderRows followRow holds
+  ordered-from t low earlier l [] from h =
       (record { from = from; upto = leb-true (α .block (l .number)) (case .n) (h .1 .0); mine = eqb-true (α .block (l .number) % case .T) t (h .0) }, tt)
-  ordered-from t low l (l' ∷ ls) from h =
+  ordered-from t low earlier l (l' ∷ ls) from h =
       let next = leb-true (α .block (l .number)) (α .block (l' .number)) (h .1 .0) in
-      let rest = ordered-from t (α .block (l .number)) l' ls next (h .1 .1) in
+      let rest = ordered-from t (α .block (l .number)) (l ∷ earlier) l' ls next (h .1 .1) in
       (record { from = from; upto = le-trans next (rest .0 .upto); mine = eqb-true (α .block (l .number) % case .T) t (h .0) }, rest)
 
-  ordered-of-rows : (t : ℕ) (ls : List Line) → AllHold case α (orderRows case t ls) → Ordered case (α .block) t 0 ls
-  ordered-of-rows t [] h = tt
-  ordered-of-rows t (l ∷ ls) h = ordered-from t 0 l ls (omega arith) h
+  ordered-of-rows : (t : ℕ) (earlier ls : List Line) → AllHold case α (orderRows case t earlier ls) → Ordered case (α .block) t 0 ls
+  ordered-of-rows t earlier [] h = tt
+  ordered-of-rows t earlier (l ∷ ls) h = ordered-from t 0 earlier l ls (omega arith) h
 
-  rows-of-ordered : (t low : ℕ) (ls : List Line) → Ordered case (α .block) t low ls → AllHold case α (orderRows case t ls)
-  unfolding orderRows holds
-  rows-of-ordered t low [] o = tt
-  rows-of-ordered t low (l ∷ []) o =
+  rows-of-ordered : (t low : ℕ) (earlier ls : List Line) → Ordered case (α .block) t low ls → AllHold case α (orderRows case t earlier ls)
+  unfolding orderRows lineOrderRows followRow holds
+  rows-of-ordered t low earlier [] o = tt
+  rows-of-ordered t low earlier (l ∷ []) o =
       (eq-eqb (α .block (l .number) % case .T) t (o .0 .mine), (le-leb (α .block (l .number)) (case .n) (o .0 .upto), tt))
-  rows-of-ordered t low (l ∷ (l' ∷ ls)) o = (
+  rows-of-ordered t low earlier (l ∷ (l' ∷ ls)) o = (
     eq-eqb (α .block (l .number) % case .T) t (o .0 .mine),
-    (le-leb (α .block (l .number)) (α .block (l' .number)) (o .1 .0 .from), rows-of-ordered t (α .block (l .number)) (l' ∷ ls) (o .1)),
+    (le-leb (α .block (l .number)) (α .block (l' .number)) (o .1 .0 .from), rows-of-ordered t (α .block (l .number)) (l ∷ earlier) (l' ∷ ls) (o .1)),
   )
 
   pub order-of-all-rows : (first : ℕ) (threads : List (List Line)) → AllHold case α (allOrderRows case first threads)
@@ -45,9 +45,9 @@ module _ (case : Case) (α : Assignment) where
   unfolding allOrderRows
   order-of-all-rows first [] h t few = absurd (omega arith)
   order-of-all-rows first (ls ∷ threads) h zero few =
-      rw (add-zero first) (ordered-of-rows first ls (all-hold-split case α (orderRows case first ls) (allOrderRows case (suc first) threads) h .0))
+      rw (add-zero first) (ordered-of-rows first [] ls (all-hold-split case α (orderRows case first [] ls) (allOrderRows case (suc first) threads) h .0))
   order-of-all-rows first (ls ∷ threads) h (suc t) few =
-      let rest = all-hold-split case α (orderRows case first ls) (allOrderRows case (suc first) threads) h .1 in
+      let rest = all-hold-split case α (orderRows case first [] ls) (allOrderRows case (suc first) threads) h .1 in
       rw shift (order-of-all-rows (suc first) threads rest t (omega arith))
     where
       shift : first + suc t ≡ suc first + t
@@ -58,8 +58,8 @@ module _ (case : Case) (α : Assignment) where
       → AllHold case α (allOrderRows case first threads)
   unfolding allOrderRows
   all-rows-of-order first [] o = tt
-  all-rows-of-order first (ls ∷ threads) o = all-hold-append case α (orderRows case first ls) (allOrderRows case (suc first) threads)
-      (rows-of-ordered first 0 ls (rw (add-zero first) at (o 0 (omega arith))))
+  all-rows-of-order first (ls ∷ threads) o = all-hold-append case α (orderRows case first [] ls) (allOrderRows case (suc first) threads)
+      (rows-of-ordered first 0 [] ls (rw (add-zero first) at (o 0 (omega arith))))
       (all-rows-of-order (suc first) threads (λ t few. rw (shift t) (o (suc t) (omega arith))))
     where
       shift : (t : ℕ) → suc first + t ≡ first + suc t

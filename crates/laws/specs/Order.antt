@@ -1,0 +1,30 @@
+-- What holds of every line of a thread, and the order of a thread's block numbers: what constraints 1 to 3 say.
+-- Assumes nothing.
+use mathlib.Core.Path.{_≡_}
+use Prim.Native.Nat.{ℕ, _%_, _≤_, _<_}
+use mathlib.Core.List.{List, [], _∷_}
+use Rattle.model.specs.CaseFile.{Line, Case}
+
+-- What holds of every line of a thread, and of every line of every thread.
+abbrev pub AllLines : (Line → Type 0) → List Line → Type 0
+AllLines P [] = Unit
+AllLines P (l ∷ ls) = P l × AllLines P ls
+
+abbrev pub AllThreads : (Line → Type 0) → List (List Line) → Type 0
+AllThreads P [] = Unit
+AllThreads P (ls ∷ threads) = AllLines P ls × AllThreads P threads
+
+-- Record numbers count from 1.
+abbrev pub Positive : Line → Type 0
+Positive l = 0 < l .number
+
+-- Constraints 1, 2 and 3 at one line: its block number x is at least that of the line before, at most n, and the thread's.
+pub record InOrder (case : Case) (t low x : ℕ) : Type 0 where
+  pub from : low ≤ x
+  pub upto : x ≤ case .n
+  pub mine : x % case .T ≡ t
+
+-- Along a thread's lines, whose block numbers start from `low`.
+abbrev pub Ordered : Case → (ℕ → ℕ) → ℕ → ℕ → List Line → Type 0
+Ordered case block t low [] = Unit
+Ordered case block t low (l ∷ ls) = InOrder case t low (block (l .number)) × Ordered case block t (block (l .number)) ls
