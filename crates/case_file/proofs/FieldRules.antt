@@ -25,7 +25,7 @@ zero-is-below-1 x = go (eq-view x 0)
     go (diff n q) = rw q (sym (le-ltb x 1 (omega arith)))
 
 -- A kind's rule is that of its target and that of its operands. The number of a line plays no part.
-rule-in-two : (kind G M k : ℕ) (l : Record) → kind ≤ 8 → (leb 1 kind && kindRule (kindOf kind) G M (asLine l 0 k)) ≡ (ltb (l .target) (getD (targetLimits G M) kind 0) && operandRule (kindOf kind) G (asLine l 0 0))
+rule-in-two : (kind G M k : ℕ) (l : Record) → kind ≤ 8 → (leb 1 kind && kindRule (kindOf kind) G M (asLine l k)) ≡ (ltb (l .target) (getD (targetLimits G M) kind 0) && operandRule (kindOf kind) G (asLine l 0))
 unfolding kindOf kindRule operandRule
 rule-in-two zero G M k l h = rw (le-ltb (l .target) 0 (omega arith))
 rule-in-two (suc zero) G M k l h = refl
@@ -65,7 +65,7 @@ of-a-mutex kind G l some most = go (eq-view kind 7) (eq-view kind 8)
     go (diff n q) (diff m p) = absurd (omega arith)
 
 -- A record's kind, its guard, its target, then its operands.
-module _ (bytes : List ℕ) (k : ℕ) (l : Record) (el : l ≡ recordOf bytes k) where
+module _ (bytes : List ℕ) (k : ℕ) (l : Record) (el : l ≡ recordOf bytes 0 k) where
   pub kind-fails : 8 < l .kind → false ≡ ruleOk bytes k
   kind-fails h =
       let bad : leb (recordField bytes k 1) 8 ≡ false = over-leb (ap (λ (r : Record). r .kind) el) h in
@@ -77,15 +77,15 @@ module _ (bytes : List ℕ) (k : ℕ) (l : Record) (el : l ≡ recordOf bytes k)
       rw (bad, and-false (leb (recordField bytes k 1) 8), and-false (leb 1 (recordField bytes k 1)))
 
   module _ (G : ℕ) (limits : List ℕ) (eG : G ≡ globalCount bytes) (em : limits ≡ targetLimits G (mutexCount bytes)) (kind-ok : l .kind ≤ 8) (guard-ok : l .guard ≤ 32) where
-    two-are-left : ruleOk bytes k ≡ (ltb (l .target) (getD limits (l .kind) 0) && operandRule (kindOf (l .kind)) G (asLine l 0 0))
+    two-are-left : ruleOk bytes k ≡ (ltb (l .target) (getD limits (l .kind) 0) && operandRule (kindOf (l .kind)) G (asLine l 0))
     two-are-left =
         let kind-passed : leb (recordField bytes k 1) 8 ≡ true = under-leb (ap (λ (r : Record). r .kind) el) kind-ok in
         let guard-passed : leb (recordField bytes k 2) 32 ≡ true = under-leb (ap (λ (r : Record). r .guard) el) guard-ok in
         let all : limits ≡ targetLimits (globalCount bytes) (mutexCount bytes) = em ∙ ap (λ (g : ℕ). targetLimits g (mutexCount bytes)) eG in
-        rw (kind-passed, guard-passed, el, eG, all) (rule-in-two (recordField bytes k 1) (globalCount bytes) (mutexCount bytes) k (recordOf bytes k) (omega (arith, kind-ok, ap (λ (r : Record). r .kind) el)))
+        rw (kind-passed, guard-passed, el, eG, all) (rule-in-two (recordField bytes k 1) (globalCount bytes) (mutexCount bytes) k (recordOf bytes 0 k) (omega (arith, kind-ok, ap (λ (r : Record). r .kind) el)))
 
     pub target-fails : getD limits (l .kind) 0 ≤ l .target → false ≡ ruleOk bytes k
     target-fails h = sym (two-are-left ∙ rw (le-ltb _ _ h))
 
-    pub operands-decide : l .target < getD limits (l .kind) 0 → (r : Bool) → r ≡ operandRule (kindOf (l .kind)) G (asLine l 0 0) → r ≡ ruleOk bytes k
+    pub operands-decide : l .target < getD limits (l .kind) 0 → (r : Bool) → r ≡ operandRule (kindOf (l .kind)) G (asLine l 0) → r ≡ ruleOk bytes k
     operands-decide h r e = e ∙ sym (two-are-left ∙ rw (lt-ltb _ _ h))

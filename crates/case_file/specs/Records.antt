@@ -5,14 +5,14 @@ use mathlib.Core.Bool.{Bool, _&&_}
 use mathlib.Core.List.{List, [], _∷_}
 use lib.Dec.{ltb}
 use Rattle.model.specs.Limits.{localCount}
-use Rattle.model.specs.CaseFile.{Kind, compute, store, load, input, assert, assume, lock, unlock, Line, nextRecord, recordField, kindOf}
+use Rattle.model.specs.CaseFile.{Kind, compute, store, load, input, assert, assume, lock, unlock, Line, recordField, kindOf}
 use Rattle.model.specs.Accept.{expressionOk, onlyOperandA, noExpression}
 use Rattle.case_file.specs.declared.Record.{Record}
 
--- Record k of a case, from 1.
-abbrev pub recordOf : List ℕ → ℕ → Record
-recordOf bytes k = record {
-  next = nextRecord bytes k;
+-- Record k of a case, from 1, as a line of thread t.
+abbrev pub recordOf : List ℕ → ℕ → ℕ → Record
+recordOf bytes t k = record {
+  thread = t;
   kind = recordField bytes k 1;
   guard = recordField bytes k 2;
   target = recordField bytes k 3;
@@ -22,11 +22,11 @@ recordOf bytes k = record {
   c = recordField bytes k 7;
 }
 
--- A record with number k as a line of thread t.
-abbrev pub asLine : Record → ℕ → ℕ → Line
-asLine l t k = record {
+-- A record with number k as the line that it is.
+abbrev pub asLine : Record → ℕ → Line
+asLine l k = record {
   number = k;
-  thread = t;
+  thread = l .thread;
   kind = kindOf (l .kind);
   guard = l .guard;
   target = l .target;

@@ -9,16 +9,23 @@ ghost use Rattle.model.specs.Accept.{sizeOk, threadsOk, switchesOk, itemsOk, ab
 ghost use Rattle.case_file.specs.Passed.{Sized};
 use super::and;
 use super::field_at;
+use super::globals;
+use super::mutexes;
+use super::switches;
+use super::threads;
 
 // 1
 pub fn size_ok(case: &[u8]) -> bool
     ensures { λ r. ⌜ r ≡ sizeOk (now (case .entry)) ⌝ }
 {
     let n = case.len();
-    if n < 32 {
+    if n < model::HEADER_BYTES {
         return false;
     }
-    and((n - 32) % 16 == 0, (n - 32) / 16 <= model::MOST_RECORDS)
+    and(
+        (n - model::HEADER_BYTES) % model::RECORD_BYTES == 0,
+        (n - model::HEADER_BYTES) / model::RECORD_BYTES <= model::MOST_RECORDS,
+    )
 }
 
 // 2
@@ -26,7 +33,7 @@ pub fn threads_ok(case: &[u8]) -> bool
     requires { ⌜ Sized (now case) ⌝ }
     ensures { λ r. ⌜ r ≡ threadsOk (now (case .entry)) ⌝ }
 {
-    let threads = field_at(case, 0);
+    let threads = threads(case);
     and(
         model::LEAST_THREADS <= threads,
         threads <= model::MOST_THREADS,
@@ -38,7 +45,7 @@ pub fn switches_ok(case: &[u8]) -> bool
     requires { ⌜ Sized (now case) ⌝ }
     ensures { λ r. ⌜ r ≡ switchesOk (now (case .entry)) ⌝ }
 {
-    field_at(case, 1) <= model::MOST_SWITCHES
+    switches(case) <= model::MOST_SWITCHES
 }
 
 // 4
@@ -46,8 +53,8 @@ pub fn items_ok(case: &[u8]) -> bool
     requires { ⌜ Sized (now case) ⌝ }
     ensures { λ r. ⌜ r ≡ itemsOk (now (case .entry)) ⌝ }
 {
-    let globals = field_at(case, 2);
-    let mutexes = field_at(case, 3);
+    let globals = globals(case);
+    let mutexes = mutexes(case);
     and(
         globals <= model::MOST_GLOBALS,
         mutexes <= model::MOST_MUTEXES,
@@ -75,8 +82,8 @@ pub fn absent_ok(case: &[u8]) -> bool
     requires { ⌜ Sized (now case) ⌝ }
     ensures { λ r. ⌜ r ≡ absentOk (now (case .entry)) ⌝ }
 {
-    let threads = field_at(case, 0) as usize;
-    let globals = field_at(case, 2) as usize;
+    let threads = threads(case) as usize;
+    let globals = globals(case) as usize;
     let firsts = all_at_most(case, 4, threads, model::MOST_THREADS as usize, 0);
     let initials = all_at_most(case, 8, globals, model::MOST_GLOBALS as usize, 0);
     and(firsts, initials)

@@ -9,14 +9,11 @@ ghost use Rattle.model.specs.Accept.{linksOk, reachedOk, lengthsOk};
 ghost use Rattle.case_file.specs.Passed.{Sized, Linked, firstsIn, nextsIn, onceOk, firstFailing};
 ghost use Rattle.case_file.specs.Counts.{Marks, Followed};
 use super::and;
-use super::field_at;
 use super::first_of;
 use super::header::all_at_most;
 use super::next_of;
 use super::records;
-
-// A mark for each record number, 0 to the highest.
-const MARKS: usize = model::MOST_RECORDS + 1;
+use super::threads;
 
 // Whether each next number is a record's or 0.
 fn nexts_ok(case: &[u8]) -> bool
@@ -39,7 +36,7 @@ fn numbers_ok(case: &[u8]) -> bool
     requires { ⌜ Sized (now case) × (threadCount (now case) ≤ mostThreads) ⌝ }
     ensures { λ r. ⌜ r ≡ (firstsIn (now (case .entry)) (records (now (case .entry))) && nextsIn (now (case .entry)) (records (now (case .entry)))) ⌝ }
 {
-    let threads = field_at(case, 0) as usize;
+    let threads = threads(case) as usize;
     and(
         all_at_most(case, 4, 0, threads, records(case)),
         nexts_ok(case),
@@ -72,7 +69,7 @@ fn chains_refusal(case: &[u8], reached: &mut [u8]) -> u16
     requires { ⌜ now reached ≡ replicate (mostRecords + 1) 0 ⌝ }
     ensures { λ r. ⌜ r ≡ firstFailing (onceOk (now (case .entry))) (reachedOk (now (case .entry))) (lengthsOk (now (case .entry))) ⌝ }
 {
-    let threads = field_at(case, 0) as usize;
+    let threads = threads(case) as usize;
     let most = records(case);
     let mut lines = 0;
     let mut few = true;
@@ -98,7 +95,7 @@ pub fn links_refusal(case: &[u8]) -> u16
     ensures { λ r. ⌜ r ≡ firstFailing (linksOk (now (case .entry))) (reachedOk (now (case .entry))) (lengthsOk (now (case .entry))) ⌝ }
 {
     if numbers_ok(case) {
-        let mut reached = [0u8; MARKS];
+        let mut reached = [0u8; model::RECORD_PLACES];
         chains_refusal(case, &mut reached)
     } else {
         6

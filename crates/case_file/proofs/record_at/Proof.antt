@@ -8,50 +8,47 @@ mul-base c = search needs
 add-base : tie.Need-add-base
 add-base c = search needs
 
-field-at-requires : tie.Need-field-at-requires
-field-at-requires c κs = search needs
-
 add-field-at : tie.Need-add-field-at
 add-field-at c = search needs
 
-field-at-requires-2 : tie.Need-field-at-requires-2
-field-at-requires-2 c κs = search needs
+field-at-requires : tie.Need-field-at-requires
+field-at-requires c κs = search needs
 
 add-field-at-2 : tie.Need-add-field-at-2
 add-field-at-2 c = search needs
 
-field-at-requires-3 : tie.Need-field-at-requires-3
-field-at-requires-3 c κs = search needs
+field-at-requires-2 : tie.Need-field-at-requires-2
+field-at-requires-2 c κs = search needs
 
 add-field-at-3 : tie.Need-add-field-at-3
 add-field-at-3 c = search needs
 
-field-at-requires-4 : tie.Need-field-at-requires-4
-field-at-requires-4 c κs = search needs
+field-at-requires-3 : tie.Need-field-at-requires-3
+field-at-requires-3 c κs = search needs
 
 add-field-at-4 : tie.Need-add-field-at-4
 add-field-at-4 c = search needs
 
-field-at-requires-5 : tie.Need-field-at-requires-5
-field-at-requires-5 c κs = search needs
+field-at-requires-4 : tie.Need-field-at-requires-4
+field-at-requires-4 c κs = search needs
 
 add-field-at-5 : tie.Need-add-field-at-5
 add-field-at-5 c = search needs
 
-field-at-requires-6 : tie.Need-field-at-requires-6
-field-at-requires-6 c κs = search needs
+field-at-requires-5 : tie.Need-field-at-requires-5
+field-at-requires-5 c κs = search needs
 
 add-field-at-6 : tie.Need-add-field-at-6
 add-field-at-6 c = search needs
 
-field-at-requires-7 : tie.Need-field-at-requires-7
-field-at-requires-7 c κs = search needs
+field-at-requires-6 : tie.Need-field-at-requires-6
+field-at-requires-6 c κs = search needs
 
 add-field-at-7 : tie.Need-add-field-at-7
 add-field-at-7 c = search needs
 
-field-at-requires-8 : tie.Need-field-at-requires-8
-field-at-requires-8 c κs = search needs
+field-at-requires-7 : tie.Need-field-at-requires-7
+field-at-requires-7 c κs = search needs
 
 returns : tie.Need-returns
 returns c = cc
@@ -62,19 +59,18 @@ record-at-spec =
     (tie.spec
     mul-base
     add-base
-    field-at-requires
     add-field-at
-    field-at-requires-2
+    field-at-requires
     add-field-at-2
-    field-at-requires-3
+    field-at-requires-2
     add-field-at-3
-    field-at-requires-4
+    field-at-requires-3
     add-field-at-4
-    field-at-requires-5
+    field-at-requires-4
     add-field-at-5
-    field-at-requires-6
+    field-at-requires-5
     add-field-at-6
-    field-at-requires-7
+    field-at-requires-6
     add-field-at-7
-    field-at-requires-8
+    field-at-requires-7
     returns)

@@ -3,14 +3,14 @@ use borrow.Author.Needs.{needs}
 use Rattle.case_file.proofs.header.absent_ok.Statement.{statement}
 use Rattle.case_file.proofs.header.absent_ok.Tie as tie
 
-field-at-requires : tie.Need-field-at-requires
-field-at-requires c κs = search needs
+threads-requires : tie.Need-threads-requires
+threads-requires c κs = search needs
 
 cast-threads : tie.Need-cast-threads
 cast-threads c = search needs
 
-field-at-requires-2 : tie.Need-field-at-requires-2
-field-at-requires-2 c κs = search needs
+globals-requires : tie.Need-globals-requires
+globals-requires c κs = search needs
 
 cast-globals : tie.Need-cast-globals
 cast-globals c = search needs
@@ -37,9 +37,9 @@ pub absent-ok-spec : {M : Type 1} → statement M
 absent-ok-spec =
     tie.close
     (tie.spec
-    field-at-requires
+    threads-requires
     cast-threads
-    field-at-requires-2
+    globals-requires
     cast-globals
     cast-all-at-most
     all-at-most-requires

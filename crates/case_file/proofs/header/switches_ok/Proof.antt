@@ -2,11 +2,11 @@ use borrow.Author.Needs.{needs}
 use Rattle.case_file.proofs.header.switches_ok.Statement.{statement}
 use Rattle.case_file.proofs.header.switches_ok.Tie as tie
 
-field-at-requires : tie.Need-field-at-requires
-field-at-requires c κs = search needs
+switches-requires : tie.Need-switches-requires
+switches-requires c κs = search needs
 
 returns : tie.Need-returns
 returns c = cc
 
 pub switches-ok-spec : {M : Type 1} → statement M
-switches-ok-spec = tie.close (tie.spec field-at-requires returns)
+switches-ok-spec = tie.close (tie.spec switches-requires returns)

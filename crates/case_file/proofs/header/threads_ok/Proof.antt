@@ -2,8 +2,8 @@ use borrow.Author.Needs.{needs}
 use Rattle.case_file.proofs.header.threads_ok.Statement.{statement}
 use Rattle.case_file.proofs.header.threads_ok.Tie as tie
 
-field-at-requires : tie.Need-field-at-requires
-field-at-requires c κs = search needs
+threads-requires : tie.Need-threads-requires
+threads-requires c κs = search needs
 
 and-requires : tie.Need-and-requires
 and-requires c κs = search needs
@@ -12,4 +12,4 @@ returns : tie.Need-returns
 returns c = cc
 
 pub threads-ok-spec : {M : Type 1} → statement M
-threads-ok-spec = tie.close (tie.spec field-at-requires and-requires returns)
+threads-ok-spec = tie.close (tie.spec threads-requires and-requires returns)

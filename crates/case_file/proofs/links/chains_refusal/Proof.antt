@@ -13,8 +13,8 @@ Inv-loop case reached₀ threads most lines₀ few₀ t₀ reached lines few t =
 abbrev μ-loop : tie.MeasureT-loop
 μ-loop case reached₀ threads most lines₀ few₀ t₀ reached lines few t = threads - t
 
-field-at-requires : tie.Need-field-at-requires Inv-loop μ-loop
-field-at-requires c κs = search needs
+threads-requires : tie.Need-threads-requires Inv-loop μ-loop
+threads-requires c κs = search needs
 
 cast-threads : tie.Need-cast-threads Inv-loop μ-loop
 cast-threads c = search needs
@@ -23,7 +23,7 @@ records-requires : tie.Need-records-requires Inv-loop μ-loop
 records-requires c κs = search needs
 
 loop-holds : tie.Need-loop-holds Inv-loop μ-loop
-loop-holds c = (search needs, (c .before .field-at .ensures, (c .records .ensures, following-starts _ _ (c .before .before .before .before .pre .1))))
+loop-holds c = (search needs, (c .before .threads .ensures, (c .records .ensures, following-starts _ _ (c .before .before .before .before .pre .1))))
 
 first-of-requires : tie.Need-first-of-requires Inv-loop μ-loop
 first-of-requires c κs = search needs
@@ -50,7 +50,7 @@ loop-less : tie.Need-loop-less Inv-loop μ-loop
 loop-less c = search needs
 
 loop-again : tie.Need-loop-again Inv-loop μ-loop
-loop-again c = (search needs, (c .before .before .before .before .before .before .before .before .before .before .field-at .ensures, (c .before .before .before .before .before .before .before .before .before .records .ensures, follow-on _ _ _ _ _ (c .before .before .before .before .before .before .before .before .loop .inv .1 .1 .1) _ _ _ (search needs) (c .before .before .before .before .before .before .first-of .ensures) (c .before .before .before .before .follow .ensures) _ (search needs) (c .and .ensures))))
+loop-again c = (search needs, (c .before .before .before .before .before .before .before .before .before .before .threads .ensures, (c .before .before .before .before .before .before .before .before .before .records .ensures, follow-on _ _ _ _ _ (c .before .before .before .before .before .before .before .before .loop .inv .1 .1 .1) _ _ _ (search needs) (c .before .before .before .before .before .before .first-of .ensures) (c .before .before .before .before .follow .ensures) _ (search needs) (c .and .ensures))))
 
 same-length-2 : tie.Need-same-length-2 Inv-loop μ-loop
 same-length-2 c = search needs
@@ -76,7 +76,7 @@ chains-refusal-spec =
     (tie.spec
     Inv-loop
     μ-loop
-    field-at-requires
+    threads-requires
     cast-threads
     records-requires
     loop-holds

@@ -3,8 +3,8 @@ use borrow.Author.Needs.{needs}
 use Rattle.case_file.proofs.links.numbers_ok.Statement.{statement}
 use Rattle.case_file.proofs.links.numbers_ok.Tie as tie
 
-field-at-requires : tie.Need-field-at-requires
-field-at-requires c κs = search needs
+threads-requires : tie.Need-threads-requires
+threads-requires c κs = search needs
 
 cast-threads : tie.Need-cast-threads
 cast-threads c = search needs
@@ -28,7 +28,7 @@ pub numbers-ok-spec : {M : Type 1} → statement M
 numbers-ok-spec =
     tie.close
     (tie.spec
-    field-at-requires
+    threads-requires
     cast-threads
     records-requires
     all-at-most-requires

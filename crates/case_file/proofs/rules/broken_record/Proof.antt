@@ -18,11 +18,11 @@ abbrev μ-loop : tie.MeasureT-loop
 records-requires : tie.Need-records-requires Inv-loop μ-loop
 records-requires c κs = search needs
 
-field-at-requires : tie.Need-field-at-requires Inv-loop μ-loop
-field-at-requires c κs = search needs
+globals-requires : tie.Need-globals-requires Inv-loop μ-loop
+globals-requires c κs = search needs
 
-field-at-requires-2 : tie.Need-field-at-requires-2 Inv-loop μ-loop
-field-at-requires-2 c κs = search needs
+mutexes-requires : tie.Need-mutexes-requires Inv-loop μ-loop
+mutexes-requires c κs = search needs
 
 target-limits-requires : tie.Need-target-limits-requires Inv-loop μ-loop
 target-limits-requires c κs = search needs
@@ -37,7 +37,7 @@ slice-aggregate-rule-ok : tie.Need-slice-aggregate-rule-ok Inv-loop μ-loop
 slice-aggregate-rule-ok c = search needs
 
 rule-ok-requires : tie.Need-rule-ok-requires Inv-loop μ-loop
-rule-ok-requires c κs = (search needs, (c .before .before .before .before .before .field-at .ensures, (cc)))
+rule-ok-requires c κs = (search needs, (c .before .before .before .before .before .globals .ensures, (cc)))
 
 cast-result : tie.Need-cast-result Inv-loop μ-loop
 cast-result c = search needs
@@ -64,8 +64,8 @@ broken-record-spec =
     Inv-loop
     μ-loop
     records-requires
-    field-at-requires
-    field-at-requires-2
+    globals-requires
+    mutexes-requires
     target-limits-requires
     loop-holds
     add-loop
