@@ -42,13 +42,13 @@ apply-b κ op b c x value has = go (eq-view op 0)
     go (same e q) = apply-0 op x _ _ e
     go (diff e q) = ap (λ (name : ℕ). apply op x (operandValue b c (value name))) (sym (name-b κ op b has q))
 
-module _ (G count given : ℕ) (locals items : List ℕ) (l : Record) (t k : ℕ) (has : hasExpression (kindOf (l .kind)) ≡ true) where
+module _ (G count given : ℕ) (locals items : List ℕ) (l : Record) (k : ℕ) (has : hasExpression (kindOf (l .kind)) ≡ true) where
   abbrev value : ℕ → ℕ
   value name = look (memory locals items count) name
 
   pub expression-is : (x y r : ℕ) → x ≡ operandValue (l .a) (l .c) (value (localName (l .a)))
       → y ≡ operandValue (l .b) (l .c) (value (localName (l .b))) → r ≡ apply (l .op) x y
-      → r ≡ expression (asLine l t k) (readsAt G count given locals items (asLine l t k))
+      → r ≡ expression (asLine l k) (readsAt G count given locals items (asLine l k))
   unfolding expression
   expression-is x y r is-x is-y is-r =
       is-r

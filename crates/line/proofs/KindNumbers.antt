@@ -3,11 +3,12 @@
 use mathlib.Core.Path.{_≡_, refl}
 use mathlib.Core.Logic.{_≢_}
 use Prim.Native.Nat.{ℕ, _+_}
-use mathlib.Core.Bool.{false, cond}
+use mathlib.Core.Bool.{Bool, true, false, cond, not}
 use lib.Dec.{eqb}
+use borrow.Author.Tests.{ne-eqb, not-true, not-false}
 use Rattle.laws.proofs.Views.{EqView, same, diff, eq-view}
 use Rattle.model.specs.CaseFile.{Kind, compute, store, load, input, assert, assume, lock, unlock, Line, kindOf}
-use Rattle.model.specs.Line.{Reads, noName, itemName, nameOfA, hasExpression, nameOfTarget, guardedInValue, guardedOutValue, breaks, isInput}
+use Rattle.model.specs.Line.{Reads, noName, itemName, localName, nameOfA, hasExpression, nameOfB, nameOfTarget, guardedInValue, guardedOutValue, breaks, isInput}
 
 -- A kind of number k: one of 1 to 7, or an unlock, which every other number gives.
 pub data KindView (k : ℕ) : Kind → Type 0 where
@@ -103,6 +104,20 @@ expression-other k n = go (kindOf k) (kind-view k)
     go lock v = refl
     go unlock v = refl
 
+-- Operand b by whether the kind has an expression, and by the op.
+module _ (k op b : ℕ) (has : Bool) (is : has ≡ hasExpression (kindOf k)) where
+  pub b-of-none : not has ≡ true → noName ≡ nameOfB (kindOf k) op b
+  unfolding nameOfB
+  b-of-none none = rw (← is, not-true has none)
+
+  pub b-of-op-0 : not has ≡ false → op ≡ 0 → noName ≡ nameOfB (kindOf k) op b
+  unfolding nameOfB
+  b-of-op-0 some e = rw (← is, not-false has some, e)
+
+  pub b-of-other : not has ≡ false → op ≢ 0 → localName b ≡ nameOfB (kindOf k) op b
+  unfolding nameOfB
+  b-of-other some n = rw (← is, not-false has some, ne-eqb op 0 n)
+
 pub target-other : (k G target : ℕ) → Not6 k → itemName (G + target) ≡ nameOfTarget G (kindOf k) target
 unfolding nameOfTarget
 target-other k G target n = go (kindOf k) (kind-view k)
@@ -144,6 +159,10 @@ out-other k reads n = go (kindOf k) (kind-view k)
     go assume (is6 e) = absurd (n .1 e)
     go lock v = refl
     go unlock v = refl
+
+pub breaks-assert : (k : ℕ) (l : Line) (reads : Reads) (value : ℕ) → k ≡ 5 → eqb value 0 ≡ breaks (kindOf k) l reads value
+unfolding breaks
+breaks-assert k l reads value e = rw (kind-5 k e)
 
 pub breaks-other : (k : ℕ) (l : Line) (reads : Reads) (value : ℕ) → Unit {0} × k ≢ 5 → false ≡ breaks (kindOf k) l reads value
 unfolding breaks

@@ -1,16 +1,16 @@
--- Looking up names where the items of the case are the first of the code's array.
+-- Looking up names, and giving them values, where the items of the case are the first of the code's array.
 -- Assumes nothing.
 use mathlib.Core.Path.{_≡_, sym, ap, _∙_}
 use Prim.Native.Nat.{ℕ, _-_, _≤_, _<_}
-use mathlib.Core.Bool.{false}
+use mathlib.Core.Bool.{true, false}
 use mathlib.Core.List.{List}
 use native.Mathlib.Omega.{arith}
 use lib.Dec.{ltb}
-use lib.ListN.{getD, take, length-take, List·getD-eq-default}
-use lib.Seq.{getD-take}
+use lib.ListN.{getD, set, take, length-take, List·getD-eq-default}
+use lib.Seq.{getD-take, take-set-lt, set-out}
 use borrow.Author.Tests.{lt-ltb, le-ltb}
 use Rattle.model.specs.Line.{noName, itemName, localName}
-use Rattle.model.specs.Machine.{look}
+use Rattle.model.specs.Machine.{look, putItem}
 use Rattle.line.specs.LineReads.{memory}
 
 pub local-name : (x : ℕ) → x < 16 → localName x ≡ x
@@ -53,3 +53,17 @@ module _ (locals items : List ℕ) (count : ℕ) where
 
   pub look-no-name : (name : ℕ) → 16 ≤ name → count ≤ name - 16 → 0 ≡ look (memory locals items count) name
   look-no-name name h beyond = let e : itemName (name - 16) ≡ name = omega arith in look-no-item (name - 16) beyond ∙ ap (look (memory locals items count)) e
+
+-- What put_item does of a name: a local's, one of the case's items, or one beyond these.
+module _ (items : List ℕ) (count value name : ℕ) where
+  pub put-of-local : name < 16 → take count items ≡ putItem true name value (take count items)
+  unfolding putItem
+  put-of-local h = rw (lt-ltb name 16 h)
+
+  pub put-of-item : 16 ≤ name → name - 16 < count → take count (set items (name - 16) value) ≡ putItem true name value (take count items)
+  unfolding putItem
+  put-of-item h h' = rw (le-ltb name 16 h) (take-set-lt count items (name - 16) value h')
+
+  pub put-beyond : 16 ≤ name → count ≤ name - 16 → take count items ≡ putItem true name value (take count items)
+  unfolding putItem
+  put-beyond h h' = rw (le-ltb name 16 h) (sym (set-out (take count items) (name - 16) value (omega (arith, length-take count items))))

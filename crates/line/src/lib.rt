@@ -1,51 +1,57 @@
-// What one line names, reads and does. A record's thread and number make no difference to it: the contracts are for all.
+// What one line names, reads and does. A record knows its thread; its number makes no difference here, and the contracts are for all.
 ghost use mathlib.Core.Path.{_≡_};
 ghost use Prim.Native.Nat.{ℕ, _≤_};
 ghost use mathlib.Core.Bool.{true};
 ghost use mathlib.Core.List.{List};
+ghost use lib.ListN.{take};
 ghost use Rattle.model.specs.Word.{bit};
-ghost use Rattle.model.specs.CaseFile.{kindOf, Line};
-ghost use Rattle.model.specs.Line.{localName, itemName, guardName, operandA, hasExpression, operandB, targetName, Reads, guardTrue, operandValue, expression, guardedInValue, guardedOutValue, valueOf};
+ghost use Rattle.model.specs.Limits.{mostGlobals, mostItems};
+ghost use Rattle.model.specs.CaseFile.{kindOf};
+ghost use Rattle.model.specs.Line.{localName, itemName, guardName, operandA, hasExpression, operandB, targetName, guardTrue, operandValue, expression, guardedInValue, guardedOutValue, valueOf};
 ghost use Rattle.model.specs.Line as model;
-ghost use Rattle.model.specs.Machine.{look};
+ghost use Rattle.model.specs.Machine.{look, putLocal, putItem};
 ghost use Rattle.case_file.specs.Records.{asLine};
 ghost use Rattle.line.specs.LineReads.{memory, readsAt};
 use case_file::Record;
+use model::ITEMS;
+use model::LOCALS;
+use model::NAMES;
 use std::num::wrapping_add_u16;
 use std::num::wrapping_sub_u16;
 
-// A local's name; 28 is no name.
-fn local_name(x: u16) -> usize
+// A local's name. Locals have the first names, items the next, and NAMES is no name.
+pub fn local_name(x: u16) -> usize
     ensures { λ r. ⌜ r ≡ localName x ⌝ }
 {
-    if x < 16 { x as usize } else { 28 }
+    let name = x as usize;
+    if name < LOCALS { name } else { NAMES }
 }
 
 // The name of the local that the guard tests.
 pub fn guard_name(l: Record) -> usize
-    ensures { λ r. ⌜ ((t k : ℕ) → r ≡ guardName (asLine l t k)) ⌝ }
+    ensures { λ r. ⌜ ((k : ℕ) → r ≡ guardName (asLine l k)) ⌝ }
 {
     let guard = l.guard;
     match guard {
-        0 => 28,
+        0 => NAMES,
         1..=16 => local_name(guard - 1),
         17..=32 => local_name(guard - 17),
-        _ => 28,
+        _ => NAMES,
     }
 }
 
 // The name that operand a reads.
 pub fn operand_a(l: Record) -> usize
-    ensures { λ r. ⌜ ((t k : ℕ) → r ≡ operandA (asLine l t k)) ⌝ }
+    ensures { λ r. ⌜ ((k : ℕ) → r ≡ operandA (asLine l k)) ⌝ }
 {
     let kind = l.kind;
     match kind {
         1 => local_name(l.a),
         2 => local_name(l.a),
-        3 => 16 + l.a as usize,
+        3 => LOCALS + l.a as usize,
         5 => local_name(l.a),
         6 => local_name(l.a),
-        _ => 28,
+        _ => NAMES,
     }
 }
 
@@ -63,52 +69,55 @@ fn has_expression(kind: u16) -> bool
 
 // The name that operand b reads; op 0 has no operand b.
 pub fn operand_b(l: Record) -> usize
-    ensures { λ r. ⌜ ((t k : ℕ) → r ≡ operandB (asLine l t k)) ⌝ }
+    ensures { λ r. ⌜ ((k : ℕ) → r ≡ operandB (asLine l k)) ⌝ }
 {
-    if has_expression(l.kind) {
-        if l.op == 0 { 28 } else { local_name(l.b) }
-    } else {
-        28
+    if !has_expression(l.kind) {
+        return NAMES;
+    }
+    let op = l.op;
+    match op {
+        0 => NAMES,
+        _ => local_name(l.b),
     }
 }
 
 // The name of the target, in a case with so many globals.
 pub fn target_name(globals: usize, l: Record) -> usize
-    requires { ⌜ globals ≤ 65535 ⌝ }
-    ensures { λ r. ⌜ ((t k : ℕ) → r ≡ targetName globals (asLine l t k)) ⌝ }
+    requires { ⌜ globals ≤ mostGlobals ⌝ }
+    ensures { λ r. ⌜ ((k : ℕ) → r ≡ targetName globals (asLine l k)) ⌝ }
 {
     let kind = l.kind;
     let target = l.target;
     match kind {
         1 => local_name(target),
-        2 => 16 + target as usize,
+        2 => LOCALS + target as usize,
         3 => local_name(target),
         4 => local_name(target),
-        5 => 28,
-        6 => 28,
-        _ => 16 + (globals + target as usize),
+        5 => NAMES,
+        6 => NAMES,
+        _ => LOCALS + (globals + target as usize),
     }
 }
 
 // The value of local x; what is no local has 0.
-fn local_at(locals: &[u16; 16], x: u16) -> u16
-    ensures { λ r. ⌜ ((items : List ℕ) (count : ℕ) → count ≤ 12 → r ≡ look (memory (now (locals .entry)) items count) (localName x)) ⌝ }
+fn local_at(locals: &[u16; LOCALS], x: u16) -> u16
+    ensures { λ r. ⌜ ((items : List ℕ) (count : ℕ) → count ≤ mostItems → r ≡ look (memory (now (locals .entry)) items count) (localName x)) ⌝ }
 {
     let at = x as usize;
-    if at < 16 { locals[at] } else { 0 }
+    if at < LOCALS { locals[at] } else { 0 }
 }
 
 // The value of item g, in a case with so many items.
-pub fn item_at(items: &[u16; 12], count: usize, g: usize) -> u16
-    requires { ⌜ count ≤ 12 ⌝ }
+pub fn item_at(items: &[u16; ITEMS], count: usize, g: usize) -> u16
+    requires { ⌜ count ≤ mostItems ⌝ }
     ensures { λ r. ⌜ ((locals : List ℕ) → r ≡ look (memory locals (now (items .entry)) count) (itemName g)) ⌝ }
 {
     if g < count { items[g] } else { 0 }
 }
 
 // Whether the line is guarded in: of what it reads, only the guard's local matters.
-pub fn guarded(locals: &[u16; 16], l: Record) -> bool
-    ensures { λ r. ⌜ ((G count given : ℕ) (items : List ℕ) (t k : ℕ) → count ≤ 12 → r ≡ guardTrue (asLine l t k) (readsAt G count given (now (locals .entry)) items (asLine l t k))) ⌝ }
+pub fn guarded(locals: &[u16; LOCALS], l: Record) -> bool
+    ensures { λ r. ⌜ ((G count given : ℕ) (items : List ℕ) (k : ℕ) → count ≤ mostItems → r ≡ guardTrue (asLine l k) (readsAt G count given (now (locals .entry)) items (asLine l k))) ⌝ }
 {
     let guard = l.guard;
     match guard {
@@ -136,20 +145,25 @@ fn apply(op: u16, x: u16, y: u16) -> u16
         3 => x & y,
         4 => x | y,
         5 => bit_of(x == y),
-        _ => bit_of(x < y),
+        6 => bit_of(x < y),
+        _ => 0,
     }
 }
 
 // An operand's value: 16 is the constant.
-fn operand(locals: &[u16; 16], x: u16, c: u16) -> u16
-    ensures { λ r. ⌜ ((items : List ℕ) (count : ℕ) → count ≤ 12 → r ≡ operandValue x c (look (memory (now (locals .entry)) items count) (localName x))) ⌝ }
+fn operand(locals: &[u16; LOCALS], x: u16, c: u16) -> u16
+    ensures { λ r. ⌜ ((items : List ℕ) (count : ℕ) → count ≤ mostItems → r ≡ operandValue x c (look (memory (now (locals .entry)) items count) (localName x))) ⌝ }
 {
-    if x == 16 { c } else { local_at(locals, x) }
+    if x as usize == LOCALS {
+        c
+    } else {
+        local_at(locals, x)
+    }
 }
 
 // The value of the line's expression, of a kind that has one.
-pub fn expression_of(locals: &[u16; 16], l: Record) -> u16
-    ensures { λ r. ⌜ ((G count given : ℕ) (items : List ℕ) (t k : ℕ) → count ≤ 12 → hasExpression (kindOf (l .kind)) ≡ true → r ≡ expression (asLine l t k) (readsAt G count given (now (locals .entry)) items (asLine l t k))) ⌝ }
+pub fn expression_of(locals: &[u16; LOCALS], l: Record) -> u16
+    ensures { λ r. ⌜ ((G count given : ℕ) (items : List ℕ) (k : ℕ) → count ≤ mostItems → hasExpression (kindOf (l .kind)) ≡ true → r ≡ expression (asLine l k) (readsAt G count given (now (locals .entry)) items (asLine l k))) ⌝ }
 {
     let x = operand(locals, l.a, l.c);
     let y = operand(locals, l.b, l.c);
@@ -157,9 +171,15 @@ pub fn expression_of(locals: &[u16; 16], l: Record) -> u16
 }
 
 // The value of a line with a true guard.
-fn value_in(locals: &[u16; 16], items: &[u16; 12], count: usize, l: Record, given: u16) -> u16
-    requires { ⌜ count ≤ 12 ⌝ }
-    ensures { λ r. ⌜ ((G t k : ℕ) → r ≡ guardedInValue (kindOf (l .kind)) (asLine l t k) (readsAt G count given (now (locals .entry)) (now (items .entry)) (asLine l t k))) ⌝ }
+fn value_in(
+    locals: &[u16; LOCALS],
+    items: &[u16; ITEMS],
+    count: usize,
+    l: Record,
+    given: u16,
+) -> u16
+    requires { ⌜ count ≤ mostItems ⌝ }
+    ensures { λ r. ⌜ ((G k : ℕ) → r ≡ guardedInValue (kindOf (l .kind)) (asLine l k) (readsAt G count given (now (locals .entry)) (now (items .entry)) (asLine l k))) ⌝ }
 {
     let kind = l.kind;
     match kind {
@@ -175,9 +195,15 @@ fn value_in(locals: &[u16; 16], items: &[u16; 12], count: usize, l: Record, give
 }
 
 // The value of a line with a false guard: its target's, or 1.
-fn value_out(locals: &[u16; 16], items: &[u16; 12], globals: usize, count: usize, l: Record) -> u16
-    requires { ⌜ (globals ≤ 8) × (count ≤ 12) ⌝ }
-    ensures { λ r. ⌜ ((given t k : ℕ) → r ≡ guardedOutValue (kindOf (l .kind)) (readsAt globals count given (now (locals .entry)) (now (items .entry)) (asLine l t k))) ⌝ }
+fn value_out(
+    locals: &[u16; LOCALS],
+    items: &[u16; ITEMS],
+    globals: usize,
+    count: usize,
+    l: Record,
+) -> u16
+    requires { ⌜ (globals ≤ mostGlobals) × (count ≤ mostItems) ⌝ }
+    ensures { λ r. ⌜ ((given k : ℕ) → r ≡ guardedOutValue (kindOf (l .kind)) (readsAt globals count given (now (locals .entry)) (now (items .entry)) (asLine l k))) ⌝ }
 {
     let kind = l.kind;
     let target = l.target as usize;
@@ -194,15 +220,15 @@ fn value_out(locals: &[u16; 16], items: &[u16; 12], globals: usize, count: usize
 
 // The value of the line, where the locals and the items have these values.
 pub fn value(
-    locals: &[u16; 16],
-    items: &[u16; 12],
+    locals: &[u16; LOCALS],
+    items: &[u16; ITEMS],
     globals: usize,
     count: usize,
     l: Record,
     given: u16,
 ) -> u16
-    requires { ⌜ (globals ≤ 8) × (count ≤ 12) ⌝ }
-    ensures { λ r. ⌜ ((t k : ℕ) → r ≡ valueOf (asLine l t k) (readsAt globals count given (now (locals .entry)) (now (items .entry)) (asLine l t k))) ⌝ }
+    requires { ⌜ (globals ≤ mostGlobals) × (count ≤ mostItems) ⌝ }
+    ensures { λ r. ⌜ ((k : ℕ) → r ≡ valueOf (asLine l k) (readsAt globals count given (now (locals .entry)) (now (items .entry)) (asLine l k))) ⌝ }
 {
     if guarded(locals, l) {
         value_in(locals, items, count, l, given)
@@ -211,12 +237,43 @@ pub fn value(
     }
 }
 
-// Whether a line of a kind, with this value, breaks its assertion.
-pub fn breaks(kind: u16, value: u16) -> bool
-    ensures { λ r. ⌜ ((l : Line) (reads : Reads) → r ≡ model.breaks (kindOf kind) l reads value) ⌝ }
+// Whether the line, with this value, breaks an assertion.
+pub fn breaks(
+    locals: &[u16; LOCALS],
+    items: &[u16; ITEMS],
+    globals: usize,
+    count: usize,
+    l: Record,
+    value: u16,
+) -> bool
+    ensures { λ r. ⌜ ((given k : ℕ) → r ≡ model.breaks (kindOf (l .kind)) (asLine l k) (readsAt globals count given (now (locals .entry)) (now (items .entry)) (asLine l k)) value) ⌝ }
 {
+    let kind = l.kind;
     match kind {
         5 => value == 0,
         _ => false,
+    }
+}
+
+// A name gets a value, if it is a local's.
+pub fn put_local(locals: &mut [u16; LOCALS], name: usize, value: u16)
+    ensures { λ r. ⌜ now (locals .exit) ≡ putLocal true name value (now (locals .entry)) ⌝ }
+{
+    if name < LOCALS {
+        locals[name] = value;
+    }
+}
+
+// A name gets a value, if it is an item's, in a case with so many items.
+pub fn put_item(items: &mut [u16; ITEMS], count: usize, name: usize, value: u16)
+    requires { ⌜ count ≤ mostItems ⌝ }
+    ensures { λ r. ⌜ take count (now (items .exit)) ≡ putItem true name value (take count (now (items .entry))) ⌝ }
+{
+    if name < LOCALS {
+        return;
+    }
+    let g = name - LOCALS;
+    if g < count {
+        items[g] = value;
     }
 }

@@ -50,16 +50,20 @@ returns-6 c = rw (c .before .match .keys6) (c .bit-of .ensures)
 
 returns-7 : tie.Need-returns-7
 unfolding apply
-returns-7 c =
+returns-7 c = rw (c .before .match .keys7) (c .bit-of2 .ensures)
+
+returns-8 : tie.Need-returns-8
+unfolding apply
+returns-8 c =
     rw (
-      ne-eqb (c .before .before .args .op) 0 (omega arith),
-      ne-eqb (c .before .before .args .op) 1 (omega arith),
-      ne-eqb (c .before .before .args .op) 2 (omega arith),
-      ne-eqb (c .before .before .args .op) 3 (omega arith),
-      ne-eqb (c .before .before .args .op) 4 (omega arith),
-      ne-eqb (c .before .before .args .op) 5 (omega arith),
+      ne-eqb (c .before .args .op) 0 (c .match .rest .0 .0 .0 .0 .0 .0 .1),
+      ne-eqb (c .before .args .op) 1 (c .match .rest .0 .0 .0 .0 .0 .1),
+      ne-eqb (c .before .args .op) 2 (c .match .rest .0 .0 .0 .0 .1),
+      ne-eqb (c .before .args .op) 3 (c .match .rest .0 .0 .0 .1),
+      ne-eqb (c .before .args .op) 4 (c .match .rest .0 .0 .1),
+      ne-eqb (c .before .args .op) 5 (c .match .rest .0 .1),
+      ne-eqb (c .before .args .op) 6 (c .match .rest .1),
     )
-    (c .bit-of2 .ensures)
 
 pub apply-spec : {M : Type 1} → statement M
 apply-spec =
@@ -75,4 +79,5 @@ apply-spec =
     returns-4
     returns-5
     returns-6
-    returns-7)
+    returns-7
+    returns-8)

@@ -14,8 +14,8 @@ apply-requires : tie.Need-apply-requires
 apply-requires c κs = search needs
 
 returns : tie.Need-returns
-returns c G count given items t k few has =
-    expression-is G count given (c .before .before .before .args .locals .now) items (c .before .before .before .args .l) t k has _ _ _
+returns c G count given items k few has =
+    expression-is G count given (c .before .before .before .args .locals .now) items (c .before .before .before .args .l) k has _ _ _
     (c .before .before .operand .ensures items count few) (c .before .operand2 .ensures items count few) (c .apply .ensures)
 
 pub expression-of-spec : {M : Type 1} → statement M

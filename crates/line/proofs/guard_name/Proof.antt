@@ -18,19 +18,19 @@ local-name-requires-2 c κs = search needs
 
 returns : tie.Need-returns
 unfolding guardName
-returns c t k = rw (c .match .keys1)
+returns c k = rw (c .match .keys1)
 
 returns-2 : tie.Need-returns-2
 unfolding guardName
-returns-2 c t k = rw (ne-eqb (c .before .before .before .args .l .guard) 0 (omega arith), lt-ltb (c .before .before .before .args .l .guard) 17 (omega arith)) (c .local-name .ensures)
+returns-2 c k = rw (ne-eqb (c .before .before .before .args .l .guard) 0 (omega arith), lt-ltb (c .before .before .before .args .l .guard) 17 (omega arith)) (c .local-name .ensures)
 
 returns-3 : tie.Need-returns-3
 unfolding guardName
-returns-3 c t k = rw (ne-eqb (c .before .before .before .before .args .l .guard) 0 (omega arith), le-ltb (c .before .before .before .before .args .l .guard) 17 (omega arith)) (c .local-name2 .ensures)
+returns-3 c k = rw (ne-eqb (c .before .before .before .before .args .l .guard) 0 (omega arith), le-ltb (c .before .before .before .before .args .l .guard) 17 (omega arith)) (c .local-name2 .ensures)
 
 returns-4 : tie.Need-returns-4
 unfolding guardName localName
-returns-4 c t k = rw (ne-eqb (c .before .before .before .args .l .guard) 0 (omega arith), le-ltb (c .before .before .before .args .l .guard) 17 (omega arith), le-ltb (c .before .before .before .args .l .guard - 17) 16 (omega arith))
+returns-4 c k = rw (ne-eqb (c .before .before .before .args .l .guard) 0 (omega arith), le-ltb (c .before .before .before .args .l .guard) 17 (omega arith), le-ltb (c .before .before .before .args .l .guard - 17) 16 (omega arith))
 
 pub guard-name-spec : {M : Type 1} → statement M
 guard-name-spec =

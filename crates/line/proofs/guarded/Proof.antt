@@ -19,19 +19,19 @@ local-at-requires-2 c κs = search needs
 
 returns : tie.Need-returns
 unfolding guardTrue
-returns c = λ G count given items t k few. rw (c .match .keys1)
+returns c = λ G count given items k few. rw (c .match .keys1)
 
 returns-2 : tie.Need-returns-2
 unfolding guardTrue guardName
-returns-2 c = λ G count given items t k few. rw (ne-eqb (c .before .before .before .args .l .guard) 0 (omega arith), lt-ltb (c .before .before .before .args .l .guard) 17 (omega arith), ← (c .local-at .ensures items count few))
+returns-2 c = λ G count given items k few. rw (ne-eqb (c .before .before .before .args .l .guard) 0 (omega arith), lt-ltb (c .before .before .before .args .l .guard) 17 (omega arith), ← (c .local-at .ensures items count few))
 
 returns-3 : tie.Need-returns-3
 unfolding guardTrue guardName
-returns-3 c = λ G count given items t k few. rw (ne-eqb (c .before .before .before .before .args .l .guard) 0 (omega arith), le-ltb (c .before .before .before .before .args .l .guard) 17 (omega arith), ← (c .local-at2 .ensures items count few))
+returns-3 c = λ G count given items k few. rw (ne-eqb (c .before .before .before .before .args .l .guard) 0 (omega arith), le-ltb (c .before .before .before .before .args .l .guard) 17 (omega arith), ← (c .local-at2 .ensures items count few))
 
 returns-4 : tie.Need-returns-4
 unfolding guardTrue guardName
-returns-4 c = λ G count given items t k few. rw (ne-eqb (c .before .before .before .args .l .guard) 0 (omega arith), le-ltb (c .before .before .before .args .l .guard) 17 (omega arith), ← (look-no-local (c .before .before .before .args .locals .now) items count few (c .before .before .before .args .l .guard - 17) (omega arith)))
+returns-4 c = λ G count given items k few. rw (ne-eqb (c .before .before .before .args .l .guard) 0 (omega arith), le-ltb (c .before .before .before .args .l .guard) 17 (omega arith), ← (look-no-local (c .before .before .before .args .locals .now) items count few (c .before .before .before .args .l .guard - 17) (omega arith)))
 
 pub guarded-spec : {M : Type 1} → statement M
 guarded-spec =

@@ -26,26 +26,26 @@ local-name-requires-4 c κs = search needs
 
 returns : tie.Need-returns
 unfolding nameOfA kindOf
-returns c t k = rw (c .before .match .keys1) (c .local-name .ensures)
+returns c k = rw (c .before .match .keys1) (c .local-name .ensures)
 
 returns-2 : tie.Need-returns-2
 unfolding nameOfA kindOf
-returns-2 c t k = rw (c .before .match .keys2) (c .local-name2 .ensures)
+returns-2 c k = rw (c .before .match .keys2) (c .local-name2 .ensures)
 
 returns-3 : tie.Need-returns-3
 unfolding nameOfA kindOf
-returns-3 c t k = rw (c .before .match .keys3)
+returns-3 c k = rw (c .before .match .keys3)
 
 returns-4 : tie.Need-returns-4
 unfolding nameOfA kindOf
-returns-4 c t k = rw (c .before .match .keys4) (c .local-name3 .ensures)
+returns-4 c k = rw (c .before .match .keys4) (c .local-name3 .ensures)
 
 returns-5 : tie.Need-returns-5
 unfolding nameOfA kindOf
-returns-5 c t k = rw (c .before .match .keys5) (c .local-name4 .ensures)
+returns-5 c k = rw (c .before .match .keys5) (c .local-name4 .ensures)
 
 returns-6 : tie.Need-returns-6
-returns-6 c t k = a-other _ _ (c .match .rest)
+returns-6 c k = a-other _ _ (c .match .rest)
 
 pub operand-a-spec : {M : Type 1} → statement M
 operand-a-spec =

@@ -32,30 +32,30 @@ add-result-3 c = search needs
 
 returns : tie.Need-returns
 unfolding nameOfTarget kindOf
-returns c t k = rw (c .before .match .keys1) (c .local-name .ensures)
+returns c k = rw (c .before .match .keys1) (c .local-name .ensures)
 
 returns-2 : tie.Need-returns-2
 unfolding nameOfTarget kindOf
-returns-2 c t k = rw (c .match .keys2)
+returns-2 c k = rw (c .match .keys2)
 
 returns-3 : tie.Need-returns-3
 unfolding nameOfTarget kindOf
-returns-3 c t k = rw (c .before .match .keys3) (c .local-name2 .ensures)
+returns-3 c k = rw (c .before .match .keys3) (c .local-name2 .ensures)
 
 returns-4 : tie.Need-returns-4
 unfolding nameOfTarget kindOf
-returns-4 c t k = rw (c .before .match .keys4) (c .local-name3 .ensures)
+returns-4 c k = rw (c .before .match .keys4) (c .local-name3 .ensures)
 
 returns-5 : tie.Need-returns-5
 unfolding nameOfTarget kindOf
-returns-5 c t k = rw (c .match .keys5)
+returns-5 c k = rw (c .match .keys5)
 
 returns-6 : tie.Need-returns-6
 unfolding nameOfTarget kindOf
-returns-6 c t k = rw (c .match .keys6)
+returns-6 c k = rw (c .match .keys6)
 
 returns-7 : tie.Need-returns-7
-returns-7 c t k = target-other _ _ _ (c .match .rest)
+returns-7 c k = target-other _ _ _ (c .match .rest)
 
 pub target-name-spec : {M : Type 1} → statement M
 target-name-spec =

@@ -15,11 +15,11 @@ value-out-requires c κs = search needs
 
 returns : tie.Need-returns
 unfolding valueBy
-returns c = λ t k. rw (← (c .before .before .guarded .ensures (c .before .before .before .args .globals) (c .before .before .before .args .count) (c .before .before .before .args .given) (c .before .before .before .args .items .now) t k (c .before .before .before .pre .1)), c .before .if1 .taken) (c .value-in .ensures (c .before .before .before .args .globals) t k)
+returns c = λ k. rw (← (c .before .before .guarded .ensures (c .before .before .before .args .globals) (c .before .before .before .args .count) (c .before .before .before .args .given) (c .before .before .before .args .items .now) k (c .before .before .before .pre .1)), c .before .if1 .taken) (c .value-in .ensures (c .before .before .before .args .globals) k)
 
 returns-2 : tie.Need-returns-2
 unfolding valueBy
-returns-2 c = λ t k. rw (← (c .before .before .guarded .ensures (c .before .before .before .args .globals) (c .before .before .before .args .count) (c .before .before .before .args .given) (c .before .before .before .args .items .now) t k (c .before .before .before .pre .1)), c .before .if1 .left) (c .value-out .ensures (c .before .before .before .args .given) t k)
+returns-2 c = λ k. rw (← (c .before .before .guarded .ensures (c .before .before .before .args .globals) (c .before .before .before .args .count) (c .before .before .before .args .given) (c .before .before .before .args .items .now) k (c .before .before .before .pre .1)), c .before .if1 .left) (c .value-out .ensures (c .before .before .before .args .given) k)
 
 pub value-spec : {M : Type 1} → statement M
 value-spec =

@@ -36,34 +36,34 @@ bit-of-requires-2 c κs = search needs
 
 returns : tie.Need-returns
 unfolding guardedInValue
-returns c = λ G t k. in-kind _ _ _ _ compute (kind-1 _ (c .before .match .keys1)) (c .expression-of .ensures G (c .before .before .args .count) (c .before .before .args .given) (c .before .before .args .items .now) t k (c .before .before .pre) (has-expression _ compute (kind-1 _ (c .before .match .keys1)) refl))
+returns c = λ G k. in-kind _ _ _ _ compute (kind-1 _ (c .before .match .keys1)) (c .expression-of .ensures G (c .before .before .args .count) (c .before .before .args .given) (c .before .before .args .items .now) k (c .before .before .pre) (has-expression _ compute (kind-1 _ (c .before .match .keys1)) refl))
 
 returns-2 : tie.Need-returns-2
 unfolding guardedInValue
-returns-2 c = λ G t k. in-kind _ _ _ _ store (kind-2 _ (c .before .match .keys2)) (c .expression-of2 .ensures G (c .before .before .args .count) (c .before .before .args .given) (c .before .before .args .items .now) t k (c .before .before .pre) (has-expression _ store (kind-2 _ (c .before .match .keys2)) refl))
+returns-2 c = λ G k. in-kind _ _ _ _ store (kind-2 _ (c .before .match .keys2)) (c .expression-of2 .ensures G (c .before .before .args .count) (c .before .before .args .given) (c .before .before .args .items .now) k (c .before .before .pre) (has-expression _ store (kind-2 _ (c .before .match .keys2)) refl))
 
 returns-3 : tie.Need-returns-3
 unfolding guardedInValue nameOfA
-returns-3 c = λ G t k. in-kind _ _ _ _ load (kind-3 _ (c .before .before .match .keys3)) (reads-a (c .before .before .before .args .locals .now) (c .before .before .before .args .items .now) G (c .before .before .before .args .count) _ load (kind-3 _ (c .before .before .match .keys3)) _ _ (c .item-at .ensures _))
+returns-3 c = λ G k. in-kind _ _ _ _ load (kind-3 _ (c .before .before .match .keys3)) (reads-a (c .before .before .before .args .locals .now) (c .before .before .before .args .items .now) G (c .before .before .before .args .count) _ load (kind-3 _ (c .before .before .match .keys3)) _ _ (c .item-at .ensures _))
 
 returns-4 : tie.Need-returns-4
 unfolding guardedInValue
-returns-4 c = λ G t k. in-kind _ _ _ _ input (kind-4 _ (c .match .keys4)) refl
+returns-4 c = λ G k. in-kind _ _ _ _ input (kind-4 _ (c .match .keys4)) refl
 
 returns-5 : tie.Need-returns-5
 unfolding guardedInValue
-returns-5 c = λ G t k. in-kind _ _ _ _ assert (kind-5 _ (c .before .before .match .keys5)) (c .bit-of .ensures ∙ ap (λ (x : ℕ). bit (nonzero x)) (c .before .expression-of3 .ensures G (c .before .before .before .args .count) (c .before .before .before .args .given) (c .before .before .before .args .items .now) t k (c .before .before .before .pre) (has-expression _ assert (kind-5 _ (c .before .before .match .keys5)) refl)))
+returns-5 c = λ G k. in-kind _ _ _ _ assert (kind-5 _ (c .before .before .match .keys5)) (c .bit-of .ensures ∙ ap (λ (x : ℕ). bit (nonzero x)) (c .before .expression-of3 .ensures G (c .before .before .before .args .count) (c .before .before .before .args .given) (c .before .before .before .args .items .now) k (c .before .before .before .pre) (has-expression _ assert (kind-5 _ (c .before .before .match .keys5)) refl)))
 
 returns-6 : tie.Need-returns-6
 unfolding guardedInValue
-returns-6 c = λ G t k. in-kind _ _ _ _ assume (kind-6 _ (c .before .before .match .keys6)) (c .bit-of2 .ensures ∙ ap (λ (x : ℕ). bit (nonzero x)) (c .before .expression-of4 .ensures G (c .before .before .before .args .count) (c .before .before .before .args .given) (c .before .before .before .args .items .now) t k (c .before .before .before .pre) (has-expression _ assume (kind-6 _ (c .before .before .match .keys6)) refl)))
+returns-6 c = λ G k. in-kind _ _ _ _ assume (kind-6 _ (c .before .before .match .keys6)) (c .bit-of2 .ensures ∙ ap (λ (x : ℕ). bit (nonzero x)) (c .before .expression-of4 .ensures G (c .before .before .before .args .count) (c .before .before .before .args .given) (c .before .before .before .args .items .now) k (c .before .before .before .pre) (has-expression _ assume (kind-6 _ (c .before .before .match .keys6)) refl)))
 
 returns-7 : tie.Need-returns-7
 unfolding guardedInValue
-returns-7 c = λ G t k. in-kind _ _ _ _ lock (kind-7 _ (c .match .keys7)) refl
+returns-7 c = λ G k. in-kind _ _ _ _ lock (kind-7 _ (c .match .keys7)) refl
 
 returns-8 : tie.Need-returns-8
-returns-8 c = λ G t k. in-other _ _ _ (c .match .rest)
+returns-8 c = λ G k. in-other _ _ _ (c .match .rest)
 
 pub value-in-spec : {M : Type 1} → statement M
 value-in-spec =
