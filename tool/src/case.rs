@@ -110,7 +110,7 @@ impl Case {
     /// The fields of these bytes, if there are enough for a header and whole records. The case may be one that is refused: its
     /// chains then end where a number leads nowhere, or to a record that was met before.
     pub fn of(bytes: Vec<u8>) -> Option<Case> {
-        if bytes.len() < 32 || bytes.len() % 16 != 0 || bytes.len() > menduvo::MOST_CASE_BYTES {
+        if bytes.len() < 32 || !bytes.len().is_multiple_of(16) || bytes.len() > menduvo::MOST_CASE_BYTES {
             return None;
         }
         let fields: Vec<u16> = bytes.chunks_exact(2).map(|pair| u16::from_le_bytes([pair[0], pair[1]])).collect();
