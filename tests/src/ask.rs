@@ -9,9 +9,7 @@ use crate::table::{MOST_LISTING_BYTES, MOST_NUMBERS};
 /// Numbers to put in a slice before a call: different from place to place, and
 /// none that a call has a reason to write there.
 pub fn marks(length: usize) -> Vec<u16> {
-    (0..length)
-        .map(|place| 0xa5c3 ^ (place as u16).wrapping_mul(0x9e37))
-        .collect()
+    (0..length).map(|place| 0xa5c3 ^ (place as u16).wrapping_mul(0x9e37)).collect()
 }
 
 /// Such marks for a slice of bytes; none of them stands in a text of ASCII.
@@ -57,36 +55,21 @@ pub fn listing(calls: &dyn Calls, case: &[u8]) -> Result<String, String> {
 
 /// Demands that the listing of a case is one refusal, that each of the other
 /// five calls meets it, and that none of these touches what it was lent.
-pub fn refused_by_all(
-    calls: &dyn Calls,
-    case: &[u8],
-    refusal: Refusal,
-    tally: &mut Tally,
-) -> Outcome {
+pub fn refused_by_all(calls: &dyn Calls, case: &[u8], refusal: Refusal, tally: &mut Tally) -> Outcome {
     let about = || format!("case {case:?}");
     tally.same(calls.accept(case), Verdict::from(refusal), about)?;
     let line = format!("{} {}\n", refusal.number, refusal.place);
     tally.same(listing(calls, case)?, line, about)?;
     for room in [0, MOST_NUMBERS] {
         let (mut table, mut schedule, mut items) = (marks(room), marks(room), marks(room));
-        tally.same(
-            calls.encode(case, &mut table),
-            Encoded::from(refusal),
-            about,
-        )?;
-        tally.same(
-            calls.check(case, &marks(room)),
-            Checked::from(refusal),
-            about,
-        )?;
+        tally.same(calls.encode(case, &mut table), Encoded::from(refusal), about)?;
+        tally.same(calls.check(case, &marks(room)), Checked::from(refusal), about)?;
         let decoded = calls.decode(case, &marks(room), &mut schedule);
         tally.same(decoded, Decoded::from(refusal), about)?;
         let replayed = calls.replay(case, &marks(room), &mut items);
         tally.same(replayed, Replayed::from(refusal), about)?;
         for slice in [table, schedule, items] {
-            tally.holds(slice == marks(room), || {
-                format!("{}: a slice was touched", about())
-            })?;
+            tally.holds(slice == marks(room), || format!("{}: a slice was touched", about()))?;
         }
     }
     Ok(())

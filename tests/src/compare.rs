@@ -24,11 +24,7 @@ pub const SHAPES: [Shape; 6] = [SMALL, SMALL_WITH_INPUTS, ANY, LONG, BUSY, FULL]
 
 /// Verdicts on accepted, damaged and random files.
 pub fn verdicts(calls: &dyn Calls, count: u64, tally: &mut Tally) -> Outcome {
-    rounds(1_000_000, count, |random, draft| {
-        files(random, draft)
-            .iter()
-            .try_for_each(|file| same_verdict(calls, file, tally))
-    })
+    rounds(1_000_000, count, |random, draft| files(random, draft).iter().try_for_each(|file| same_verdict(calls, file, tally)))
 }
 
 /// Tables number for number, with room to spare.
@@ -97,8 +93,7 @@ pub fn lengths(calls: &dyn Calls, count: u64, tally: &mut Tally) -> Outcome {
     for seed in 6_000_000..6_000_000 + count {
         let mut random = Random::from_seed(seed);
         let draft = accepted(&mut random, SMALL_WITH_INPUTS);
-        every_length(calls, &mut random, &draft, tally)
-            .map_err(|message| format!("seed {seed}: {message}"))?;
+        every_length(calls, &mut random, &draft, tally).map_err(|message| format!("seed {seed}: {message}"))?;
     }
     Ok(())
 }
@@ -133,24 +128,17 @@ fn same_verdict(calls: &dyn Calls, case: &[u8], tally: &mut Tally) -> Outcome {
         Verdict::Accepted => tally.saw("accepted"),
         Verdict::Refused { number, .. } => tally.saw(format!("refused {number}")),
     }
-    tally.same(calls.accept(case), wanted, || {
-        format!("verdict on {case:?}")
-    })
+    tally.same(calls.accept(case), wanted, || format!("verdict on {case:?}"))
 }
 
 fn same_encoding(calls: &dyn Calls, case: &[u8], room: usize, tally: &mut Tally) -> Outcome {
     let (mut got, mut wanted) = (marks(room), marks(room));
-    let replies = (
-        calls.encode(case, &mut got),
-        second::encode(case, &mut wanted),
-    );
+    let replies = (calls.encode(case, &mut got), second::encode(case, &mut wanted));
     match replies.1 {
         Encoded::Table { .. } => tally.saw("encoded"),
         Encoded::Refused { number, .. } => tally.saw(format!("refused {number}")),
     }
-    tally.same(replies.0, replies.1, || {
-        format!("encoding, room for {room}")
-    })?;
+    tally.same(replies.0, replies.1, || format!("encoding, room for {room}"))?;
     tally.same_numbers(&got, &wanted, || format!("table, room for {room}"))
 }
 
@@ -163,9 +151,7 @@ fn same_check(calls: &dyn Calls, case: &[u8], assignment: &[u16], tally: &mut Ta
         }
         Checked::Refused { number, .. } => tally.saw(format!("refused {number}")),
     }
-    tally.same(calls.check(case, assignment), wanted, || {
-        format!("checking {assignment:?}")
-    })
+    tally.same(calls.check(case, assignment), wanted, || format!("checking {assignment:?}"))
 }
 
 /// The kind of a constraint of an accepted case.
@@ -175,13 +161,7 @@ fn kind_of(case: &[u8], constraint: u16) -> u16 {
     table[6 * (usize::from(constraint) - 1)]
 }
 
-fn same_decoding(
-    calls: &dyn Calls,
-    case: &[u8],
-    assignment: &[u16],
-    room: usize,
-    tally: &mut Tally,
-) -> Outcome {
+fn same_decoding(calls: &dyn Calls, case: &[u8], assignment: &[u16], room: usize, tally: &mut Tally) -> Outcome {
     let (mut got, mut wanted) = (marks(room), marks(room));
     let reply = calls.decode(case, assignment, &mut got);
     let wanted_reply = second::decode(case, assignment, &mut wanted);
@@ -194,13 +174,7 @@ fn same_decoding(
     tally.same_numbers(&got, &wanted, || format!("schedule, room for {room}"))
 }
 
-fn same_replay(
-    calls: &dyn Calls,
-    case: &[u8],
-    schedule: &[u16],
-    room: usize,
-    tally: &mut Tally,
-) -> Outcome {
+fn same_replay(calls: &dyn Calls, case: &[u8], schedule: &[u16], room: usize, tally: &mut Tally) -> Outcome {
     let (mut got, mut wanted) = (marks(room), marks(room));
     let reply = calls.replay(case, schedule, &mut got);
     let wanted_reply = second::replay(case, schedule, &mut wanted);
@@ -229,12 +203,7 @@ fn same_listing(calls: &dyn Calls, case: &[u8], room: usize, tally: &mut Tally) 
     tally.same_numbers(&got, &wanted, about)
 }
 
-fn every_length(
-    calls: &dyn Calls,
-    random: &mut Random,
-    draft: &Draft,
-    tally: &mut Tally,
-) -> Outcome {
+fn every_length(calls: &dyn Calls, random: &mut Random, draft: &Draft, tally: &mut Tally) -> Outcome {
     let case = draft.bytes();
     for room in 0..=6 * draft.constraints() + 1 {
         same_encoding(calls, &case, room, tally)?;

@@ -13,12 +13,7 @@ pub struct Damaged {
 }
 
 /// Some room for faults: absent globals, and at least one line in a thread.
-const BASE: Shape = Shape {
-    globals: (1, 5),
-    mutexes: (1, 3),
-    lines: (1, 5),
-    ..SMALL
-};
+const BASE: Shape = Shape { globals: (1, 5), mutexes: (1, 3), lines: (1, 5), ..SMALL };
 
 /// A case with one fault, or with two faults of which the lower number must be
 /// given. The later fault is put in first, so that it cannot mend the other.
@@ -32,10 +27,7 @@ pub fn damaged(random: &mut Random, number: u16, later: Option<u16>) -> Damaged 
     if number == 1 {
         break_length(random, &mut bytes);
     }
-    Damaged {
-        bytes,
-        refusal: Refusal { number, place },
-    }
+    Damaged { bytes, refusal: Refusal { number, place } }
 }
 
 /// Puts one of the faults 2 to 9 in the draft and gives its place.
@@ -96,10 +88,7 @@ fn break_links(random: &mut Random, draft: &mut Draft) {
         0 => draft.firsts[thread] = over,
         1 => draft.records[random.below(usize::from(records))].next = over,
         // In no chain, so that only looking at every record finds it.
-        2 => draft.records.push(Line {
-            next: over + 1,
-            ..compute(0, constant(1))
-        }),
+        2 => draft.records.push(Line { next: over + 1, ..compute(0, constant(1)) }),
         3 => {
             // The chain runs into itself.
             let last = usize::from(*chain.last().expect("each thread has a line"));
@@ -118,10 +107,7 @@ fn break_links(random: &mut Random, draft: &mut Draft) {
 fn add_stray_record(random: &mut Random, draft: &mut Draft) {
     let number = draft.records.len() as u16 + 1;
     let next = random.between(0, number);
-    draft.records.push(Line {
-        next,
-        ..compute(0, constant(1))
-    });
+    draft.records.push(Line { next, ..compute(0, constant(1)) });
 }
 
 /// "A thread has over 64 lines": adds 64 to 70 lines in front of one.
@@ -129,10 +115,7 @@ fn lengthen_a_thread(random: &mut Random, draft: &mut Draft) {
     let thread = random.below(usize::from(draft.threads));
     for _ in 0..random.between(64, 70) {
         let next = draft.firsts[thread];
-        draft.records.push(Line {
-            next,
-            ..compute(0, constant(1))
-        });
+        draft.records.push(Line { next, ..compute(0, constant(1)) });
         draft.firsts[thread] = draft.records.len() as u16;
     }
 }
@@ -201,11 +184,7 @@ fn uses_constant(line: &Line) -> bool {
 /// Random bytes: some with a likely header, so that reading goes further.
 pub fn random_bytes(random: &mut Random) -> Vec<u8> {
     let records = random.below(6);
-    let length = if random.chance(70) {
-        32 + 16 * records
-    } else {
-        random.below(120)
-    };
+    let length = if random.chance(70) { 32 + 16 * records } else { random.below(120) };
     let small = random.chance(60);
     let mut bytes: Vec<u8> = (0..length).map(|_| random.any() as u8).collect();
     if small {

@@ -25,13 +25,7 @@ pub fn small_case(random: &mut Random, shape: Shape) -> Draft {
 
 /// Compares on random cases; inputs take the values given, among which is 0.
 /// What is met is noted, so that a test can demand that it was enough.
-pub fn compare(
-    calls: &dyn Calls,
-    shape: Shape,
-    cases: u64,
-    input_values: &[u16],
-    tally: &mut Tally,
-) -> Outcome {
+pub fn compare(calls: &dyn Calls, shape: Shape, cases: u64, input_values: &[u16], tally: &mut Tally) -> Outcome {
     for seed in 0..cases {
         let mut random = Random::from_seed(30_000_000 + seed);
         let draft = small_case(&mut random, shape);
@@ -41,35 +35,20 @@ pub fn compare(
     Ok(())
 }
 
-fn compare_case(
-    calls: &dyn Calls,
-    draft: &Draft,
-    input_values: &[u16],
-    random: &mut Random,
-    tally: &mut Tally,
-) -> Outcome {
+fn compare_case(calls: &dyn Calls, draft: &Draft, input_values: &[u16], random: &mut Random, tally: &mut Tally) -> Outcome {
     let table = table_of(calls, &draft.bytes())?;
-    tally.same(table.rows.len(), draft.constraints(), || {
-        "constraints".into()
-    })?;
+    tally.same(table.rows.len(), draft.constraints(), || "constraints".into())?;
     tally.same(table.variables, draft.variables(), || "variables".into())?;
     let violating = violating_schedules(calls, draft, &table, input_values, tally)?;
     let meeting = meeting_assignments(calls, draft, &table, input_values, tally)?;
-    let decoded: Result<Vec<Vec<u16>>, String> = meeting
-        .iter()
-        .map(|numbers| decode(calls, draft, numbers))
-        .collect();
+    let decoded: Result<Vec<Vec<u16>>, String> = meeting.iter().map(|numbers| decode(calls, draft, numbers)).collect();
     let mut decoded = decoded?;
     decoded.sort();
     // Sorted lists, not sets: a schedule decoded from two assignments is found.
-    tally.same(&decoded, &violating, || {
-        "decoded and violating schedules".into()
-    })?;
+    tally.same(&decoded, &violating, || "decoded and violating schedules".into())?;
     for schedule in &violating {
         let numbers = fill(draft, schedule);
-        tally.holds(meeting.contains(&numbers), || {
-            format!("{schedule:?} filled")
-        })?;
+        tally.holds(meeting.contains(&numbers), || format!("{schedule:?} filled"))?;
     }
     if draft.inputs().is_empty() {
         values_are_determined(calls, draft, &meeting, random, tally)?;
@@ -128,9 +107,7 @@ pub fn seen_alike(
         (Replayed::Refused { number: 14, .. }, _) => true,
         _ => false,
     };
-    tally.holds(agrees, || {
-        format!("{schedule:?}: {reply:?}, but {checked:?}")
-    })?;
+    tally.holds(agrees, || format!("{schedule:?}: {reply:?}, but {checked:?}"))?;
     tally.saw(match reply {
         Replayed::Violated(_) => "violated",
         Replayed::Clean => "clean",
@@ -189,9 +166,7 @@ fn values_are_determined(
         let mut changed = numbers.clone();
         changed[variable] ^= 1 << random.below(16);
         let checked = check(calls, draft, &changed);
-        tally.holds(matches!(checked, Checked::Fails(_)), || {
-            format!("v{variable} of {numbers:?} is not determined")
-        })?;
+        tally.holds(matches!(checked, Checked::Fails(_)), || format!("v{variable} of {numbers:?} is not determined"))?;
     }
     Ok(())
 }

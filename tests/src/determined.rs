@@ -21,20 +21,9 @@ pub struct Determined<'a> {
 impl<'a> Determined<'a> {
     /// `inputs` has a value for each record; only those of free inputs are
     /// looked at.
-    pub fn assignment(
-        draft: &'a Draft,
-        table: &'a Table,
-        blocks: &'a [u16],
-        inputs: &'a [u16],
-    ) -> Result<Vec<u16>, String> {
+    pub fn assignment(draft: &'a Draft, table: &'a Table, blocks: &'a [u16], inputs: &'a [u16]) -> Result<Vec<u16>, String> {
         let numbers = vec![0; draft.variables()];
-        let mut open = Determined {
-            draft,
-            table,
-            blocks,
-            inputs,
-            numbers,
-        };
+        let mut open = Determined { draft, table, blocks, inputs, numbers };
         for (record, &block) in blocks.iter().enumerate() {
             open.numbers[2 * record] = block;
         }
@@ -65,9 +54,7 @@ impl<'a> Determined<'a> {
                 return Err(format!("item {item} has no single 6 for block {block}"));
             };
             let copies = self.table.copies_back(row[3])?;
-            let here = copies
-                .iter()
-                .find(|&&copy| usize::from(self.block(copy)) == block);
+            let here = copies.iter().find(|&&copy| usize::from(self.block(copy)) == block);
             let value = match here {
                 Some(&copy) => self.value(copy),
                 None => self.value_before(block, item),

@@ -21,15 +21,7 @@ pub struct Draft {
 impl Draft {
     /// A case without lines.
     pub fn new(threads: u16, switches: u16) -> Draft {
-        Draft {
-            threads,
-            switches,
-            globals: 0,
-            mutexes: 0,
-            firsts: [0; 4],
-            initial: [0; 8],
-            records: Vec::new(),
-        }
+        Draft { threads, switches, globals: 0, mutexes: 0, firsts: [0; 4], initial: [0; 8], records: Vec::new() }
     }
 
     pub fn with_globals(mut self, initial: &[u16]) -> Draft {
@@ -50,11 +42,7 @@ impl Draft {
         }
         for (position, line) in lines.iter().enumerate() {
             let is_last = position + 1 == lines.len();
-            let next = if is_last {
-                0
-            } else {
-                self.records.len() as u16 + 2
-            };
+            let next = if is_last { 0 } else { self.records.len() as u16 + 2 };
             self.records.push(Line { next, ..*line });
         }
         self
@@ -71,10 +59,7 @@ impl Draft {
         other.firsts = self.firsts.map(renumber);
         for (old, line) in self.records.iter().enumerate() {
             let place = usize::from(numbers[old]) - 1;
-            other.records[place] = Line {
-                next: renumber(line.next),
-                ..*line
-            };
+            other.records[place] = Line { next: renumber(line.next), ..*line };
         }
         other
     }
@@ -106,17 +91,13 @@ impl Draft {
 
     /// All chains, by thread.
     pub fn chains(&self) -> Vec<Vec<u16>> {
-        (0..usize::from(self.threads))
-            .map(|thread| self.chain(thread))
-            .collect()
+        (0..usize::from(self.threads)).map(|thread| self.chain(thread)).collect()
     }
 
     /// Input lines by thread and then by chain.
     pub fn inputs(&self) -> Vec<u16> {
         let lines = self.chains().into_iter().flatten();
-        lines
-            .filter(|&number| self.line(number).kind == INPUT)
-            .collect()
+        lines.filter(|&number| self.line(number).kind == INPUT).collect()
     }
 
     pub fn items(&self) -> usize {
@@ -138,11 +119,7 @@ impl Draft {
     /// How many constraints there are: a 3, a 1 or 2 and a 4 for each line, a
     /// 5 for each assume and lock, the 6s, and the 7.
     pub fn constraints(&self) -> usize {
-        let demands = self
-            .records
-            .iter()
-            .filter(|line| matches!(line.kind, 6 | 7))
-            .count();
+        let demands = self.records.iter().filter(|line| matches!(line.kind, 6 | 7)).count();
         3 * self.records.len() + demands + usize::from(self.switches) * self.items() + 1
     }
 
@@ -157,22 +134,9 @@ impl Draft {
 /// As document 01 writes a case down: the header, then the records.
 impl Display for Draft {
     fn fmt(&self, out: &mut Formatter) -> fmt::Result {
-        let Draft {
-            threads,
-            switches,
-            globals,
-            mutexes,
-            firsts,
-            initial,
-            records,
-        } = self;
+        let Draft { threads, switches, globals, mutexes, firsts, initial, records } = self;
         write!(out, "T {threads}, n {switches}, G {globals}, M {mutexes}, ")?;
-        write!(
-            out,
-            "first records {firsts:?}, initial values {initial:?}, records"
-        )?;
-        records
-            .iter()
-            .try_for_each(|line| write!(out, " {:?}", line.fields()))
+        write!(out, "first records {firsts:?}, initial values {initial:?}, records")?;
+        records.iter().try_for_each(|line| write!(out, " {:?}", line.fields()))
     }
 }

@@ -5,11 +5,7 @@ use crate::draft::Draft;
 /// Every vector of n + 1 block lengths that add up to each thread's lines, in
 /// ascending order.
 pub fn block_lengths(draft: &Draft) -> Vec<Vec<u16>> {
-    let left: Vec<u16> = draft
-        .chains()
-        .iter()
-        .map(|chain| chain.len() as u16)
-        .collect();
+    let left: Vec<u16> = draft.chains().iter().map(|chain| chain.len() as u16).collect();
     let mut all = Vec::new();
     extend(draft, &mut Vec::new(), &left, &mut all);
     all
@@ -48,9 +44,7 @@ pub fn schedules(draft: &Draft, input_values: &[u16]) -> Vec<Vec<u16>> {
 pub fn with_each(vectors: &[Vec<u16>], values: &[u16]) -> Vec<Vec<u16>> {
     let longer = |vector: &Vec<u16>| {
         let vector = vector.clone();
-        values
-            .iter()
-            .map(move |&value| [vector.as_slice(), &[value]].concat())
+        values.iter().map(move |&value| [vector.as_slice(), &[value]].concat())
     };
     vectors.iter().flat_map(longer).collect()
 }

@@ -94,11 +94,7 @@ impl Watched<'_> {
     }
 
     fn input_value(&self, number: u16) -> u16 {
-        let place = self
-            .draft
-            .inputs()
-            .iter()
-            .position(|&input| input == number);
+        let place = self.draft.inputs().iter().position(|&input| input == number);
         self.schedule[self.draft.blocks() + place.expect("the line is an input")]
     }
 

@@ -37,20 +37,10 @@ pub const ANY: Shape = Shape {
 };
 
 /// Long threads whose runs are seldom cut off, so that violations are met.
-pub const LONG: Shape = Shape {
-    locals: 6,
-    inputs: 3,
-    cutting: 1,
-    switches: (3, 15),
-    ..ANY
-};
+pub const LONG: Shape = Shape { locals: 6, inputs: 3, cutting: 1, switches: (3, 15), ..ANY };
 
 /// As many lines as there can be.
-pub const FULL: Shape = Shape {
-    threads: (4, 4),
-    lines: (64, 64),
-    ..LONG
-};
+pub const FULL: Shape = Shape { threads: (4, 4), lines: (64, 64), ..LONG };
 
 /// Few enough schedules to try them all; no inputs.
 pub const SMALL: Shape = Shape {
@@ -66,11 +56,7 @@ pub const SMALL: Shape = Shape {
 };
 
 /// As small, with inputs.
-pub const SMALL_WITH_INPUTS: Shape = Shape {
-    inputs: 25,
-    switches: (1, 4),
-    ..SMALL
-};
+pub const SMALL_WITH_INPUTS: Shape = Shape { inputs: 25, switches: (1, 4), ..SMALL };
 
 /// A little larger; every thread has lines and there is always a global, so
 /// that much depends on the order of the blocks.
@@ -87,20 +73,10 @@ pub const BUSY: Shape = Shape {
 };
 
 /// As busy, with inputs.
-pub const BUSY_WITH_INPUTS: Shape = Shape {
-    inputs: 40,
-    switches: (2, 4),
-    lines: (2, 4),
-    ..BUSY
-};
+pub const BUSY_WITH_INPUTS: Shape = Shape { inputs: 40, switches: (2, 4), lines: (2, 4), ..BUSY };
 
 /// Four threads, most of them short.
-pub const FOUR_THREADS: Shape = Shape {
-    threads: (4, 4),
-    switches: (4, 8),
-    lines: (0, 3),
-    ..BUSY
-};
+pub const FOUR_THREADS: Shape = Shape { threads: (4, 4), switches: (4, 8), lines: (0, 3), ..BUSY };
 
 /// An accepted case with shuffled record numbers.
 pub fn accepted(random: &mut Random, shape: Shape) -> Draft {
@@ -108,9 +84,8 @@ pub fn accepted(random: &mut Random, shape: Shape) -> Draft {
     let switches = random.between(shape.switches.0, shape.switches.1);
     let globals = random.between(shape.globals.0, shape.globals.1);
     let initial = random.words(usize::from(globals));
-    let mut draft = Draft::new(threads, switches)
-        .with_globals(&initial)
-        .with_mutexes(random.between(shape.mutexes.0, shape.mutexes.1));
+    let mut draft =
+        Draft::new(threads, switches).with_globals(&initial).with_mutexes(random.between(shape.mutexes.0, shape.mutexes.1));
     for thread in 0..usize::from(threads) {
         let lines = thread_lines(random, shape, &draft);
         draft = draft.with_thread(thread, &lines);
@@ -160,10 +135,7 @@ fn line_count(random: &mut Random, shape: Shape) -> u16 {
 fn free_later(random: &mut Random, lines: &mut [Line], place: usize) {
     if place + 1 < lines.len() {
         let later = place + 1 + random.below(lines.len() - place - 1);
-        lines[later] = Line {
-            kind: UNLOCK,
-            ..lines[place]
-        };
+        lines[later] = Line { kind: UNLOCK, ..lines[place] };
     }
 }
 
@@ -178,23 +150,13 @@ fn lines_together(random: &mut Random, shape: Shape, draft: &Draft) -> Vec<Line>
     let is_initial = [EQUAL, mine, CONSTANT, initial];
     match random.below(16) {
         0..=4 => vec![first, assert(is_initial)],
-        5..=6 => vec![
-            first,
-            assert([LESS, mine, CONSTANT, initial.saturating_add(2)]),
-        ],
+        5..=6 => vec![first, assert([LESS, mine, CONSTANT, initial.saturating_add(2)])],
         7 => vec![first, assume(is_initial)],
         8..=9 => vec![first, store(other, [SUM, mine, CONSTANT, 1])],
-        10..=11 => vec![
-            first,
-            store(other, expression(random, shape)).guarded(mine + 1),
-        ],
+        10..=11 => vec![first, store(other, expression(random, shape)).guarded(mine + 1)],
         12 if draft.mutexes > 0 => {
             let mutex = some_mutex(random, draft);
-            vec![
-                lock(mutex),
-                store(global, expression(random, shape)),
-                unlock(mutex),
-            ]
+            vec![lock(mutex), store(global, expression(random, shape)), unlock(mutex)]
         }
         _ => vec![store(global, constant(random.word()))],
     }
@@ -258,12 +220,7 @@ fn test(random: &mut Random, shape: Shape) -> [u16; 4] {
     match random.below(10) {
         0..=2 => expression(random, shape),
         // "local < constant" holds as long as nobody puts a large number in
-        3..=6 => [
-            LESS,
-            some_local(random, shape),
-            CONSTANT,
-            random.between(1, 3),
-        ],
+        3..=6 => [LESS, some_local(random, shape), CONSTANT, random.between(1, 3)],
         7 => expression_of(random, shape, EQUAL),
         _ => expression_of(random, shape, LESS),
     }
@@ -271,11 +228,7 @@ fn test(random: &mut Random, shape: Shape) -> [u16; 4] {
 
 fn expression_of(random: &mut Random, shape: Shape, op: u16) -> [u16; 4] {
     let a = operand(random, shape);
-    let b = if op == COPY {
-        0
-    } else {
-        operand(random, shape)
-    };
+    let b = if op == COPY { 0 } else { operand(random, shape) };
     let uses_constant = a == CONSTANT || b == CONSTANT;
     let c = if uses_constant { random.word() } else { 0 };
     [op, a, b, c]

@@ -35,31 +35,13 @@ pub const CONSTANT: u16 = 16;
 
 impl From<[u16; 8]> for Line {
     fn from([next, kind, guard, target, op, a, b, c]: [u16; 8]) -> Self {
-        Line {
-            next,
-            kind,
-            guard,
-            target,
-            op,
-            a,
-            b,
-            c,
-        }
+        Line { next, kind, guard, target, op, a, b, c }
     }
 }
 
 impl Line {
     pub fn fields(&self) -> [u16; 8] {
-        [
-            self.next,
-            self.kind,
-            self.guard,
-            self.target,
-            self.op,
-            self.a,
-            self.b,
-            self.c,
-        ]
+        [self.next, self.kind, self.guard, self.target, self.op, self.a, self.b, self.c]
     }
 
     pub fn guarded(mut self, guard: u16) -> Line {
@@ -99,16 +81,7 @@ pub fn apply(op: u16, a: u16, b: u16) -> u16 {
 }
 
 fn line(kind: u16, target: u16, [op, a, b, c]: [u16; 4]) -> Line {
-    Line {
-        next: 0,
-        kind,
-        guard: 0,
-        target,
-        op,
-        a,
-        b,
-        c,
-    }
+    Line { next: 0, kind, guard: 0, target, op, a, b, c }
 }
 
 pub fn compute(target: u16, expression: [u16; 4]) -> Line {

@@ -67,10 +67,7 @@ fn main() -> ExitCode {
         (group.run)(&calls, &mut report);
         report.end_group();
     }
-    let totals = report
-        .totals
-        .lock()
-        .expect("no check panics while it counts");
+    let totals = report.totals.lock().expect("no check panics while it counts");
     println!("{} passed, {} failed", totals.passed, totals.failed);
     ExitCode::from(u8::from(totals.failed != 0))
 }
@@ -78,16 +75,12 @@ fn main() -> ExitCode {
 /// The groups that were named, or those that are run by default; none if a
 /// name is not known. Names may be written with two dashes in front.
 fn chosen_groups(names: &[String]) -> Option<Vec<Group>> {
-    let names: Vec<&str> = names
-        .iter()
-        .map(|name| name.trim_start_matches('-'))
-        .collect();
+    let names: Vec<&str> = names.iter().map(|name| name.trim_start_matches('-')).collect();
     let known = |name: &&str| groups::all().iter().any(|group| group.name == *name);
     if !names.iter().all(known) {
         return None;
     }
-    let is_chosen =
-        |group: &Group| names.contains(&group.name) || (names.is_empty() && group.by_default);
+    let is_chosen = |group: &Group| names.contains(&group.name) || (names.is_empty() && group.by_default);
     Some(groups::all().into_iter().filter(is_chosen).collect())
 }
 

@@ -14,11 +14,7 @@ const TIME_LIMIT: Duration = Duration::from_secs(20);
 /// be started, or does not end in time, is an error.
 pub fn run(name: &str, arguments: &[&str], input: &[u8]) -> Result<String, String> {
     let mut command = Command::new(name);
-    command
-        .args(arguments)
-        .stdin(Stdio::piped())
-        .stdout(Stdio::piped())
-        .stderr(Stdio::null());
+    command.args(arguments).stdin(Stdio::piped()).stdout(Stdio::piped()).stderr(Stdio::null());
     let started = command.spawn();
     let mut child = started.map_err(|error| format!("{name} cannot be started: {error}"))?;
     let mut to_child = child.stdin.take().expect("piped above");

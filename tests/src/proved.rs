@@ -14,13 +14,7 @@ impl Calls for Proved {
 
     fn encode(&self, case: &[u8], table: &mut [u16]) -> Encoded {
         match menduvo::encode(case, table) {
-            menduvo::Encoded::Table {
-                constraints,
-                variables,
-            } => Encoded::Table {
-                constraints,
-                variables,
-            },
+            menduvo::Encoded::Table { constraints, variables } => Encoded::Table { constraints, variables },
             menduvo::Encoded::Refused { number, place } => Encoded::Refused { number, place },
         }
     }

@@ -21,12 +21,7 @@ pub struct Tally {
 
 impl Tally {
     /// Demands that two values are the same.
-    pub fn same<T: PartialEq + Debug>(
-        &mut self,
-        got: T,
-        wanted: T,
-        what: impl FnOnce() -> String,
-    ) -> Outcome {
+    pub fn same<T: PartialEq + Debug>(&mut self, got: T, wanted: T, what: impl FnOnce() -> String) -> Outcome {
         self.comparisons += 1;
         if got == wanted {
             return Ok(());
@@ -35,26 +30,14 @@ impl Tally {
     }
 
     /// Demands that two slices are the same, and names the first difference.
-    pub fn same_numbers<T: PartialEq + Debug>(
-        &mut self,
-        got: &[T],
-        wanted: &[T],
-        what: impl FnOnce() -> String,
-    ) -> Outcome {
+    pub fn same_numbers<T: PartialEq + Debug>(&mut self, got: &[T], wanted: &[T], what: impl FnOnce() -> String) -> Outcome {
         self.comparisons += 1;
         if got == wanted {
             return Ok(());
         }
-        let place = got
-            .iter()
-            .zip(wanted)
-            .take_while(|(got, wanted)| got == wanted)
-            .count();
+        let place = got.iter().zip(wanted).take_while(|(got, wanted)| got == wanted).count();
         let (got, wanted) = (got.get(place), wanted.get(place));
-        Err(format!(
-            "number {place} is {got:?}, wanted {wanted:?}: {}",
-            what()
-        ))
+        Err(format!("number {place} is {got:?}, wanted {wanted:?}: {}", what()))
     }
 
     /// Demands that a condition holds.
@@ -75,9 +58,7 @@ impl Tally {
     pub fn saw_often(&mut self, what: &str, least: u64) -> Outcome {
         let times = self.seen.get(what).copied().unwrap_or(0);
         let seen = format!("{:?}", self.seen);
-        self.holds(times >= least, || {
-            format!("{what:?} was met {times} times only; met: {seen}")
-        })
+        self.holds(times >= least, || format!("{what:?} was met {times} times only; met: {seen}"))
     }
 }
 
@@ -110,21 +91,11 @@ pub struct Report {
 
 impl Report {
     pub fn new() -> Report {
-        Report {
-            totals: Arc::default(),
-            group: String::new(),
-            passed: 0,
-            failed: 0,
-            comparisons: 0,
-            started: Instant::now(),
-        }
+        Report { totals: Arc::default(), group: String::new(), passed: 0, failed: 0, comparisons: 0, started: Instant::now() }
     }
 
     pub fn begin_group(&mut self, name: &str) {
-        self.totals
-            .lock()
-            .expect("no check panics while it counts")
-            .group = name.to_string();
+        self.totals.lock().expect("no check panics while it counts").group = name.to_string();
         self.group = name.to_string();
         (self.passed, self.failed, self.comparisons) = (0, 0, 0);
         self.started = Instant::now();

@@ -45,25 +45,10 @@ pub const CASE_A_LISTING: &str = "\
 /// at the sum; the lock of thread 1 is guarded, so it may be forgotten.
 pub fn guarded_counter() -> Draft {
     let add = |guard: u16| {
-        [
-            load(0, 1),
-            lock(0).guarded(guard),
-            load(1, 0),
-            store(0, [SUM, 1, CONSTANT, 1]),
-            unlock(0).guarded(guard),
-        ]
+        [load(0, 1), lock(0).guarded(guard), load(1, 0), store(0, [SUM, 1, CONSTANT, 1]), unlock(0).guarded(guard)]
     };
-    let look = [
-        load(2, 0),
-        assume([COPY, 2, 0, 0]),
-        assert([EQUAL, 2, CONSTANT, 2]),
-    ];
-    Draft::new(3, 7)
-        .with_globals(&[0, 0])
-        .with_mutexes(1)
-        .with_thread(0, &add(0))
-        .with_thread(1, &add(1))
-        .with_thread(2, &look)
+    let look = [load(2, 0), assume([COPY, 2, 0, 0]), assert([EQUAL, 2, CONSTANT, 2])];
+    Draft::new(3, 7).with_globals(&[0, 0]).with_mutexes(1).with_thread(0, &add(0)).with_thread(1, &add(1)).with_thread(2, &look)
 }
 
 /// The table of `guarded_counter`, worked out by hand: the copies of each

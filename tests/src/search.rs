@@ -10,31 +10,14 @@ use crate::table::{Row, Table};
 /// would show up here. (Larger ones need not be tried, since a thread that may
 /// go past n may go to its first block past n.)
 pub fn block_numbers(draft: &Draft, table: &Table) -> Vec<Vec<u16>> {
-    let order_rows: Vec<Row> = table
-        .rows
-        .iter()
-        .copied()
-        .filter(|row| matches!(row[0], 1..=3))
-        .collect();
+    let order_rows: Vec<Row> = table.rows.iter().copied().filter(|row| matches!(row[0], 1..=3)).collect();
     let largest = draft.switches + draft.threads;
     let mut found = Vec::new();
-    extend(
-        draft.records.len(),
-        largest,
-        &order_rows,
-        &mut Vec::new(),
-        &mut found,
-    );
+    extend(draft.records.len(), largest, &order_rows, &mut Vec::new(), &mut found);
     found
 }
 
-fn extend(
-    records: usize,
-    largest: u16,
-    rows: &[Row],
-    blocks: &mut Vec<u16>,
-    found: &mut Vec<Vec<u16>>,
-) {
+fn extend(records: usize, largest: u16, rows: &[Row], blocks: &mut Vec<u16>, found: &mut Vec<Vec<u16>>) {
     if blocks.len() == records {
         found.push(blocks.clone());
         return;

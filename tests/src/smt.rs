@@ -197,9 +197,7 @@ impl Terms<'_> {
 
     fn some_assert_is_zero(&self) -> String {
         let lines = self.draft.chains().concat();
-        let asserts = lines
-            .into_iter()
-            .filter(|&line| self.draft.line(line).kind == ASSERT);
+        let asserts = lines.into_iter().filter(|&line| self.draft.line(line).kind == ASSERT);
         let zeros = asserts.map(|line| format!(" {}", equal(&value(line), &constant(0))));
         format!("(or false{})", zeros.collect::<String>())
     }

@@ -9,14 +9,8 @@ pub struct Solver {
     arguments: &'static [&'static str],
 }
 
-pub const Z3: Solver = Solver {
-    name: "z3",
-    arguments: &["-in", "-smt2"],
-};
-pub const CVC5: Solver = Solver {
-    name: "cvc5",
-    arguments: &["--lang=smt2", "-"],
-};
+pub const Z3: Solver = Solver { name: "z3", arguments: &["-in", "-smt2"] };
+pub const CVC5: Solver = Solver { name: "cvc5", arguments: &["--lang=smt2", "-"] };
 
 #[derive(Debug)]
 pub enum Answer {
@@ -28,9 +22,7 @@ pub enum Answer {
 impl Solver {
     /// Asks for a model of an SMT-LIB text with this many variables.
     pub fn ask(self, text: &str, variables: usize) -> Result<Answer, String> {
-        let names: Vec<String> = (0..variables)
-            .map(|variable| format!("v{variable}"))
-            .collect();
+        let names: Vec<String> = (0..variables).map(|variable| format!("v{variable}")).collect();
         let mut question = format!("{text}(check-sat)\n");
         if variables > 0 {
             question.push_str(&format!("(get-value ({}))\n", names.join(" ")));
@@ -59,10 +51,7 @@ fn model(text: &str, variables: usize) -> Result<Vec<u16>, String> {
         numbers.push(number.ok_or_else(|| format!("not a model: {text}"))?);
     }
     if numbers.len() != variables {
-        return Err(format!(
-            "{} values for {variables} variables",
-            numbers.len()
-        ));
+        return Err(format!("{} values for {variables} variables", numbers.len()));
     }
     Ok(numbers)
 }

@@ -21,18 +21,10 @@ pub struct Table {
 pub fn table_of(calls: &dyn Calls, case: &[u8]) -> Result<Table, String> {
     let mut numbers = vec![0; MOST_NUMBERS];
     match calls.encode(case, &mut numbers) {
-        Encoded::Table {
-            constraints,
-            variables,
-        } => {
+        Encoded::Table { constraints, variables } => {
             let rows = numbers.chunks_exact(6).take(usize::from(constraints));
-            let rows = rows
-                .map(|row| row.try_into().expect("six numbers"))
-                .collect();
-            Ok(Table {
-                rows,
-                variables: usize::from(variables),
-            })
+            let rows = rows.map(|row| row.try_into().expect("six numbers")).collect();
+            Ok(Table { rows, variables: usize::from(variables) })
         }
         refused => Err(format!("an accepted case was not encoded: {refused:?}")),
     }

@@ -22,9 +22,7 @@ pub fn run(calls: &dyn Calls, report: &mut Report) {
         let text = table_of(calls, &case_a().bytes())?.listing();
         tally.same(text.as_str(), CASE_A_LISTING, || "the table".into())
     });
-    report.check("listing of a refused case", |tally| {
-        refused_listings(calls, tally)
-    });
+    report.check("listing of a refused case", |tally| refused_listings(calls, tally));
     // Name, schedule, reply, and the global at the end.
     let replays = [
         ("P1", [2, 1, 2], Replayed::Violated(4), 5),
@@ -36,30 +34,20 @@ pub fn run(calls: &dyn Calls, report: &mut Report) {
     for (name, schedule, reply, global) in replays {
         report.check(name, |tally| {
             let got = replay(calls, &case_a(), &schedule);
-            tally.same(got, (reply, vec![global]), || {
-                format!("schedule {schedule:?}")
-            })
+            tally.same(got, (reply, vec![global]), || format!("schedule {schedule:?}"))
         });
     }
     report.check("P1 to P5 are all schedules", |tally| {
         let all = block_lengths(&case_a());
         let listed = [[0, 1, 4], [1, 1, 3], [2, 1, 2], [3, 1, 1], [4, 1, 0]];
-        tally.same(all, listed.map(Vec::from).to_vec(), || {
-            "all schedules".into()
-        })
+        tally.same(all, listed.map(Vec::from).to_vec(), || "all schedules".into())
     });
-    report.check("P6", |tally| {
-        passes(calls, &P1_ASSIGNMENT, [2, 1, 2], tally)
-    });
-    report.check("P7", |tally| {
-        passes(calls, &P2_ASSIGNMENT, [0, 1, 4], tally)
-    });
+    report.check("P6", |tally| passes(calls, &P1_ASSIGNMENT, [2, 1, 2], tally));
+    report.check("P7", |tally| passes(calls, &P2_ASSIGNMENT, [0, 1, 4], tally));
     report.check("P8", |tally| no_complete_run(calls, tally));
     report.check("P9", |tally| one_clean_run(calls, tally));
     report.check("P10", |tally| nothing_meets(calls, tally));
-    report.check("a changed number fails", |tally| {
-        changed_number_fails(calls, tally)
-    });
+    report.check("a changed number fails", |tally| changed_number_fails(calls, tally));
 }
 
 /// "For a refused case it prints the number and place on one line."
@@ -76,18 +64,13 @@ fn refused_listings(calls: &dyn Calls, tally: &mut Tally) -> Outcome {
 
 fn passes(calls: &dyn Calls, numbers: &[u16], schedule: [u16; 3], tally: &mut Tally) -> Outcome {
     let draft = case_a();
-    tally.same(check(calls, &draft, numbers), Checked::Meets, || {
-        "the checker".into()
-    })?;
+    tally.same(check(calls, &draft, numbers), Checked::Meets, || "the checker".into())?;
     let decoded = decode(calls, &draft, numbers)?;
     tally.same(decoded, schedule.to_vec(), || "the decoder".into())
 }
 
 fn case_a_with_switches(switches: u16) -> Draft {
-    Draft {
-        switches,
-        ..case_a()
-    }
+    Draft { switches, ..case_a() }
 }
 
 /// "n 0 has no complete run": thread 1 has a line and no block.
@@ -95,16 +78,11 @@ fn no_complete_run(calls: &dyn Calls, tally: &mut Tally) -> Outcome {
     let draft = case_a_with_switches(0);
     for length in (0..=10).chain([65_535]) {
         let (reply, _) = replay(calls, &draft, &[length]);
-        let refused = Replayed::from(Refusal {
-            number: 13,
-            place: 0,
-        });
+        let refused = Replayed::from(Refusal { number: 13, place: 0 });
         tally.same(reply, refused, || format!("schedule {length}"))?;
     }
     let table = table_of(calls, &draft.bytes())?;
-    tally.same(block_numbers(&draft, &table).len(), 0, || {
-        "block numbers".into()
-    })
+    tally.same(block_numbers(&draft, &table).len(), 0, || "block numbers".into())
 }
 
 /// "n 1 has one, and it is clean".
@@ -115,42 +93,31 @@ fn one_clean_run(calls: &dyn Calls, tally: &mut Tally) -> Outcome {
             let (reply, _) = replay(calls, &draft, &[first, second]);
             let wanted = match (first, second) {
                 (4, 1) => Replayed::Clean,
-                _ => Replayed::Refused {
-                    number: 13,
-                    place: 0,
-                },
+                _ => Replayed::Refused { number: 13, place: 0 },
             };
             tally.same(reply, wanted, || format!("schedule {first}, {second}"))?;
         }
     }
     let table = table_of(calls, &draft.bytes())?;
     let blocks = block_numbers(&draft, &table);
-    tally.same(blocks.clone(), vec![vec![0, 0, 0, 0, 1]], || {
-        "block numbers".into()
-    })?;
+    tally.same(blocks.clone(), vec![vec![0, 0, 0, 0, 1]], || "block numbers".into())?;
     // No inputs, so the numbers that are left are determined; only the 7 fails.
     let numbers = Determined::assignment(&draft, &table, &blocks[0], &[0; 5])?;
     let last = Checked::Fails(table.rows.len() as u16);
-    tally.same(check(calls, &draft, &numbers), last, || {
-        "the checker".into()
-    })
+    tally.same(check(calls, &draft, &numbers), last, || "the checker".into())
 }
 
 /// "a case with R 0 and n 0 has one constraint, which nothing meets".
 fn nothing_meets(calls: &dyn Calls, tally: &mut Tally) -> Outcome {
     let draft = Draft::new(2, 0);
-    tally.same(calls.accept(&draft.bytes()), Verdict::Accepted, || {
-        "accepted".into()
-    })?;
+    tally.same(calls.accept(&draft.bytes()), Verdict::Accepted, || "accepted".into())?;
     let table = table_of(calls, &draft.bytes())?;
     tally.same(table.rows, vec![[7, 0, 0, 0, 0, 0]], || "the table".into())?;
     tally.same(table.variables, 0, || "variables".into())?;
     let text = listing(calls, &draft.bytes())?;
     tally.same(text.as_str(), "1 0\n7 0 0 0 0 0\n", || "the listing".into())?;
     // The only assignment has no numbers.
-    tally.same(check(calls, &draft, &[]), Checked::Fails(1), || {
-        "the checker".into()
-    })?;
+    tally.same(check(calls, &draft, &[]), Checked::Fails(1), || "the checker".into())?;
     let (reply, _) = replay(calls, &draft, &[0]);
     tally.same(reply, Replayed::Clean, || "the only schedule".into())
 }
@@ -171,9 +138,7 @@ fn changed_number_fails(calls: &dyn Calls, tally: &mut Tally) -> Outcome {
         let mut numbers = P1_ASSIGNMENT;
         numbers[6] = block;
         let got = check(calls, &case_a(), &numbers);
-        tally.same(got, Checked::Fails(8), || {
-            format!("line 4 in block {block}")
-        })?;
+        tally.same(got, Checked::Fails(8), || format!("line 4 in block {block}"))?;
     }
     Ok(())
 }

@@ -18,22 +18,14 @@ fn shared() -> Draft {
 
 fn storing(number: u16) -> Draft {
     let first = [lock(0), store(0, constant(number)), unlock(0)];
-    let second = [
-        lock(0),
-        load(0, 0),
-        assume([LESS, 0, CONSTANT, 9]),
-        assert([EQUAL, 0, CONSTANT, 0]),
-        unlock(0),
-    ];
+    let second = [lock(0), load(0, 0), assume([LESS, 0, CONSTANT, 9]), assert([EQUAL, 0, CONSTANT, 0]), unlock(0)];
     let draft = Draft::new(2, 3).with_globals(&[0]).with_mutexes(1);
     draft.with_thread(0, &first).with_thread(1, &second)
 }
 
 /// Thread 0 in block 0, then thread 1 in block 1: the assert is zero. Block
 /// number and value of each line, then global and mutex after blocks 0 to 2.
-const MEETS: [u16; 22] = [
-    0, 1, 0, 4, 0, 0, 1, 1, 1, 4, 1, 1, 1, 0, 1, 0, 4, 0, 4, 0, 4, 0,
-];
+const MEETS: [u16; 22] = [0, 1, 0, 4, 0, 0, 1, 1, 1, 4, 1, 1, 1, 0, 1, 0, 4, 0, 4, 0, 4, 0];
 
 pub fn run(calls: &dyn Calls, report: &mut Report) {
     let mut fails = |name: &str, draft: Draft, numbers: [u16; 22], constraint: u16| {
@@ -66,9 +58,7 @@ pub fn run(calls: &dyn Calls, report: &mut Report) {
     // Nothing reads the global after block 2 but its own 6.
     fails("a 6 fails first", shared(), with(&[(20, 5)]), 32);
     // Thread 0 comes after thread 1, in block 2: the assert holds.
-    let after = [
-        2, 1, 2, 4, 2, 0, 1, 1, 1, 0, 1, 1, 1, 1, 1, 0, 0, 0, 0, 0, 4, 0,
-    ];
+    let after = [2, 1, 2, 4, 2, 0, 1, 1, 1, 0, 1, 1, 1, 1, 1, 0, 0, 0, 0, 0, 4, 0];
     fails("the 7 fails first", shared(), after, 34);
     report.check("all are met", |tally| {
         let checked = check(calls, &shared(), &MEETS);

@@ -11,22 +11,10 @@ pub fn run(calls: &dyn Calls, report: &mut Report) {
         // Local 0 gets 7 and local 1 gets 9, so line 3 is not run: its value
         // is what local 0 had, but the schedule has 0 for it.
         let numbers = [0, 7, 0, 9, 2, 7, 2, 0, 1, 65_535];
-        decodes(
-            calls,
-            &guarded_inputs(),
-            &numbers,
-            &[2, 1, 2, 7, 9, 0, 65_535],
-            tally,
-        )?;
+        decodes(calls, &guarded_inputs(), &numbers, &[2, 1, 2, 7, 9, 0, 65_535], tally)?;
         // Local 0 gets 0, so line 2 is not run and line 3 is.
         let numbers = [2, 0, 2, 0, 2, 5, 2, 0, 1, 3];
-        decodes(
-            calls,
-            &guarded_inputs(),
-            &numbers,
-            &[0, 1, 4, 0, 0, 5, 3],
-            tally,
-        )
+        decodes(calls, &guarded_inputs(), &numbers, &[0, 1, 4, 0, 0, 5, 3], tally)
     });
     report.check("an input with a false guard keeps the old value", |tally| {
         // As the first one above, but for the value of line 3: the 4 of line 3
@@ -35,15 +23,8 @@ pub fn run(calls: &dyn Calls, report: &mut Report) {
             let numbers = [0, 7, 0, 9, 2, value, 2, 0, 1, 65_535];
             let mut schedule = marks(7);
             let case = guarded_inputs().bytes();
-            let refused = Decoded::Refused {
-                number: 15,
-                place: 13,
-            };
-            tally.same(
-                calls.decode(&case, &numbers, &mut schedule),
-                refused,
-                || format!("value {value}"),
-            )?;
+            let refused = Decoded::Refused { number: 15, place: 13 };
+            tally.same(calls.decode(&case, &numbers, &mut schedule), refused, || format!("value {value}"))?;
             tally.same(schedule, marks(7), || "the slice".into())?;
         }
         Ok(())
@@ -56,18 +37,10 @@ pub fn run(calls: &dyn Calls, report: &mut Report) {
     });
     report.check("blocks of four threads, two without lines", |tally| {
         let lines = [assert(constant(0)); 3];
-        let draft = Draft::new(4, 9)
-            .with_thread(1, &lines)
-            .with_thread(3, &lines);
+        let draft = Draft::new(4, 9).with_thread(1, &lines).with_thread(3, &lines);
         // Blocks 1, 5 and 9 are thread 1's, blocks 3 and 7 thread 3's.
         let numbers = [1, 0, 9, 0, 9, 0, 3, 0, 7, 0, 7, 0];
-        decodes(
-            calls,
-            &draft,
-            &numbers,
-            &[0, 1, 0, 1, 0, 0, 0, 2, 0, 2],
-            tally,
-        )
+        decodes(calls, &draft, &numbers, &[0, 1, 0, 1, 0, 0, 0, 2, 0, 2], tally)
     });
 }
 
@@ -75,33 +48,16 @@ pub fn run(calls: &dyn Calls, report: &mut Report) {
 /// if local 1 is 0, local 0 is read again; an assert fails. Line 5 in thread 1
 /// reads. There are no items.
 fn guarded_inputs() -> Draft {
-    let lines = [
-        input(0),
-        input(1).guarded(1),
-        input(0).guarded(18),
-        assert(constant(0)),
-    ];
-    Draft::new(2, 2)
-        .with_thread(0, &lines)
-        .with_thread(1, &[input(3)])
+    let lines = [input(0), input(1).guarded(1), input(0).guarded(18), assert(constant(0))];
+    Draft::new(2, 2).with_thread(0, &lines).with_thread(1, &[input(3)])
 }
 
 /// Demands that the assignment meets the table, decodes to the schedule, and
 /// that the schedule violates.
-fn decodes(
-    calls: &dyn Calls,
-    draft: &Draft,
-    numbers: &[u16],
-    schedule: &[u16],
-    tally: &mut Tally,
-) -> Outcome {
-    tally.same(check(calls, draft, numbers), Checked::Meets, || {
-        format!("{numbers:?}")
-    })?;
+fn decodes(calls: &dyn Calls, draft: &Draft, numbers: &[u16], schedule: &[u16], tally: &mut Tally) -> Outcome {
+    tally.same(check(calls, draft, numbers), Checked::Meets, || format!("{numbers:?}"))?;
     let decoded = decode(calls, draft, numbers)?;
     tally.same(decoded.as_slice(), schedule, || format!("{numbers:?}"))?;
     let reply = reply(calls, draft, schedule);
-    tally.holds(matches!(reply, Replayed::Violated(_)), || {
-        format!("{schedule:?}: {reply:?}")
-    })
+    tally.holds(matches!(reply, Replayed::Violated(_)), || format!("{schedule:?}: {reply:?}"))
 }

@@ -19,33 +19,16 @@ const INPUT_VALUES: [u16; 4] = [0, 1, 2, 65_535];
 pub fn run(calls: &dyn Calls, report: &mut Report) {
     // Small cases are there for their odd forms (no switch, no global, no line
     // in some thread), busy ones for the order of blocks to matter.
-    report.check("small cases", |tally| {
-        enough(calls, SMALL, 600, 5, &[0], tally)
-    });
-    report.check("busy cases", |tally| {
-        enough(calls, BUSY, 1_000, 150, &[0], tally)
-    });
-    report.check("four threads", |tally| {
-        enough(calls, FOUR_THREADS, 300, 40, &[0], tally)
-    });
-    report.check("large cases, some schedules each", |tally| {
-        some_schedules(calls, tally)
-    });
-    report.check("with inputs", |tally| {
-        enough(calls, BUSY_WITH_INPUTS, 500, 75, &INPUT_VALUES, tally)
-    });
+    report.check("small cases", |tally| enough(calls, SMALL, 600, 5, &[0], tally));
+    report.check("busy cases", |tally| enough(calls, BUSY, 1_000, 150, &[0], tally));
+    report.check("four threads", |tally| enough(calls, FOUR_THREADS, 300, 40, &[0], tally));
+    report.check("large cases, some schedules each", |tally| some_schedules(calls, tally));
+    report.check("with inputs", |tally| enough(calls, BUSY_WITH_INPUTS, 500, 75, &INPUT_VALUES, tally));
 }
 
 /// Compares, and demands that the cases were of use: that there were so many
 /// whose schedules differ, many without violation, and every reply many times.
-fn enough(
-    calls: &dyn Calls,
-    shape: Shape,
-    cases: u64,
-    mixed: u64,
-    input_values: &[u16],
-    tally: &mut Tally,
-) -> Outcome {
+fn enough(calls: &dyn Calls, shape: Shape, cases: u64, mixed: u64, input_values: &[u16], tally: &mut Tally) -> Outcome {
     compare(calls, shape, cases, input_values, tally)?;
     tally.saw_often("a case with and without violation", mixed)?;
     tally.saw_often("a case without violation", cases / 8)?;

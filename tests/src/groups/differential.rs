@@ -35,15 +35,7 @@ const CHECKS: [&str; 9] = [
 
 const DECODINGS: [&str; 4] = ["decoded", "refused 10", "refused 11", "refused 15"];
 
-const REPLAYS: [&str; 7] = [
-    "violated",
-    "clean",
-    "cut off",
-    "refused 10",
-    "refused 12",
-    "refused 13",
-    "refused 14",
-];
+const REPLAYS: [&str; 7] = ["violated", "clean", "cut off", "refused 10", "refused 12", "refused 13", "refused 14"];
 
 const LISTINGS: [&str; 11] = [
     "listed",
@@ -61,31 +53,19 @@ const LISTINGS: [&str; 11] = [
 
 const COMPARISONS: [(&str, Comparison, u64, &[&str]); 7] = [
     ("verdicts", verdicts, 20_000, &VERDICTS),
-    (
-        "tables",
-        tables,
-        10_000,
-        &["encoded", "refused 6", "refused 9"],
-    ),
+    ("tables", tables, 10_000, &["encoded", "refused 6", "refused 9"]),
     ("checks", checks, 4_000, &CHECKS),
     ("decodings", decodings, 4_000, &DECODINGS),
     ("replays", replays, 20_000, &REPLAYS),
     ("listings", listings, 2_000, &LISTINGS),
-    (
-        "every length of every slice",
-        lengths,
-        200,
-        &["encoded", "refused 10", "decoded", "listed"],
-    ),
+    ("every length of every slice", lengths, 200, &["encoded", "refused 10", "decoded", "listed"]),
 ];
 
 pub fn run(calls: &dyn Calls, report: &mut Report) {
     for (name, comparison, rounds, replies) in COMPARISONS {
         report.check(name, |tally| {
             comparison(calls, rounds, tally)?;
-            replies
-                .iter()
-                .try_for_each(|reply| tally.saw_often(reply, OFTEN))
+            replies.iter().try_for_each(|reply| tally.saw_often(reply, OFTEN))
         });
     }
 }

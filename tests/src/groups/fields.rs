@@ -31,25 +31,8 @@ const MUTEX: (u16, u16) = (0, 1);
 /// "An operand 0 to 15 is a local, 16 is the constant c", "c is 0 unless a
 /// used operand is 16".
 fn expression_rules(kind_name: &'static str, kind: u16, target: (u16, u16)) -> Vec<Rule> {
-    let line = |[op, a, b, c]: [u16; 4]| Line {
-        next: 0,
-        kind,
-        guard: 0,
-        target: target.1,
-        op,
-        a,
-        b,
-        c,
-    };
-    let rule = |expression: [u16; 4], op, a, b, c| Rule {
-        name: kind_name,
-        line: line(expression),
-        target,
-        op,
-        a,
-        b,
-        c,
-    };
+    let line = |[op, a, b, c]: [u16; 4]| Line { next: 0, kind, guard: 0, target: target.1, op, a, b, c };
+    let rule = |expression: [u16; 4], op, a, b, c| Rule { name: kind_name, line: line(expression), target, op, a, b, c };
     vec![
         // Op 0 with a local: any op would do, since b 0 is then a local.
         rule([COPY, 3, 0, 0], (0, 6), OPERAND, NONE, NONE),
@@ -71,15 +54,7 @@ fn rules() -> Vec<Rule> {
     rules.extend(expression_rules("store", STORE, GLOBAL));
     rules.extend(expression_rules("assert", ASSERT, NONE));
     rules.extend(expression_rules("assume", ASSUME, NONE));
-    let without = |name, line, target, a| Rule {
-        name,
-        line,
-        target,
-        op: NONE,
-        a,
-        b: NONE,
-        c: NONE,
-    };
+    let without = |name, line, target, a| Rule { name, line, target, op: NONE, a, b: NONE, c: NONE };
     rules.push(without("load", load(4, 1), LOCAL, GLOBAL));
     rules.push(without("input", input(4), LOCAL, NONE));
     rules.push(without("lock", lock(1), MUTEX, NONE));
@@ -88,9 +63,7 @@ fn rules() -> Vec<Rule> {
 }
 
 pub fn run(calls: &dyn Calls, report: &mut Report) {
-    for name in [
-        "compute", "store", "load", "input", "assert", "assume", "lock", "unlock",
-    ] {
+    for name in ["compute", "store", "load", "input", "assert", "assume", "lock", "unlock"] {
         report.check(name, |tally| {
             let mut rules = rules().into_iter().filter(|rule| rule.name == name);
             rules.try_for_each(|rule| keeps_to(calls, &rule, tally))
@@ -105,13 +78,8 @@ pub fn run(calls: &dyn Calls, report: &mut Report) {
     report.check("no globals, no mutexes", |tally| {
         for line in [store(0, constant(1)), load(0, 0), lock(0), unlock(0)] {
             let draft = Draft::new(2, 1).with_thread(0, &[line]);
-            let refused = Verdict::Refused {
-                number: 9,
-                place: 1,
-            };
-            tally.same(calls.accept(&draft.bytes()), refused, || {
-                format!("{line:?}")
-            })?;
+            let refused = Verdict::Refused { number: 9, place: 1 };
+            tally.same(calls.accept(&draft.bytes()), refused, || format!("{line:?}"))?;
         }
         Ok(())
     });
@@ -119,14 +87,7 @@ pub fn run(calls: &dyn Calls, report: &mut Report) {
 
 fn keeps_to(calls: &dyn Calls, rule: &Rule, tally: &mut Tally) -> Outcome {
     // "Guard 0 is always; 1 to 16 [...]; 17 to 32".
-    let fields = [
-        (2, (0, 32)),
-        (3, rule.target),
-        (4, rule.op),
-        (5, rule.a),
-        (6, rule.b),
-        (7, rule.c),
-    ];
+    let fields = [(2, (0, 32)), (3, rule.target), (4, rule.op), (5, rule.a), (6, rule.b), (7, rule.c)];
     for (field, (least, most)) in fields {
         for value in tried_values(least, most) {
             let mut fields = rule.line.fields();
@@ -147,16 +108,10 @@ fn tried_values(least: u16, most: u16) -> Vec<u16> {
 /// Demands the verdict on a case whose second record is the line.
 fn verdict(calls: &dyn Calls, line: Line, is_good: bool, tally: &mut Tally) -> Outcome {
     let lines = [compute(0, constant(1)), line, compute(1, local(0))];
-    let draft = Draft::new(2, 1)
-        .with_globals(&[1, 2, 3])
-        .with_mutexes(2)
-        .with_thread(0, &lines);
+    let draft = Draft::new(2, 1).with_globals(&[1, 2, 3]).with_mutexes(2).with_thread(0, &lines);
     let wanted = match is_good {
         true => Verdict::Accepted,
-        false => Verdict::Refused {
-            number: 9,
-            place: 2,
-        },
+        false => Verdict::Refused { number: 9, place: 2 },
     };
     tally.same(calls.accept(&draft.bytes()), wanted, || format!("{line:?}"))
 }

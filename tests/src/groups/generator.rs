@@ -27,12 +27,7 @@ pub fn run(calls: &dyn Calls, report: &mut Report) {
         saw_all(tally, "switches", 0..=15)?;
         saw_all(tally, "globals", 0..=8)?;
         saw_all(tally, "mutexes", 0..=4)?;
-        for what in [
-            "no line in a thread",
-            "64 lines in a thread",
-            "256 records",
-            "shuffled",
-        ] {
+        for what in ["no line in a thread", "64 lines in a thread", "256 records", "shuffled"] {
             tally.saw_often(what, 20)?;
         }
         Ok(())
@@ -53,8 +48,7 @@ pub fn run(calls: &dyn Calls, report: &mut Report) {
 fn each_case(mut body: impl FnMut(&Draft) -> Outcome) -> Outcome {
     for seed in 70_000_000..70_000_000 + CASES {
         let shape = SHAPES[seed as usize % SHAPES.len()];
-        body(&accepted(&mut Random::from_seed(seed), shape))
-            .map_err(|message| format!("seed {seed}: {message}"))?;
+        body(&accepted(&mut Random::from_seed(seed), shape)).map_err(|message| format!("seed {seed}: {message}"))?;
     }
     Ok(())
 }
@@ -92,10 +86,7 @@ fn note_lines(draft: &Draft, tally: &mut Tally) {
                 tally.saw(format!("operand {}", line.a));
                 tally.saw(format!("operand {}", line.b));
             }
-            if line
-                .guard_local()
-                .is_some_and(|local| !is_written(&lines, local))
-            {
+            if line.guard_local().is_some_and(|local| !is_written(&lines, local)) {
                 tally.saw("guard on a local never written");
             }
         }
@@ -104,8 +95,6 @@ fn note_lines(draft: &Draft, tally: &mut Tally) {
 
 /// Whether some line of the thread has the local as target.
 fn is_written(lines: &[&Line], local: usize) -> bool {
-    let writes = |line: &&Line| {
-        matches!(line.kind, COMPUTE | LOAD | INPUT) && usize::from(line.target) == local
-    };
+    let writes = |line: &&Line| matches!(line.kind, COMPUTE | LOAD | INPUT) && usize::from(line.target) == local;
     lines.iter().any(writes)
 }

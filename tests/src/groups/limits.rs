@@ -25,29 +25,13 @@ pub fn run(calls: &dyn Calls, report: &mut Report) {
     });
     report.check("globals 8, 9", |tally| {
         for (globals, number) in [(0, 0), (8, 0), (9, 4), (256, 4), (65_535, 4)] {
-            stands(
-                calls,
-                &Draft {
-                    globals,
-                    ..Draft::new(2, 1)
-                },
-                number,
-                tally,
-            )?;
+            stands(calls, &Draft { globals, ..Draft::new(2, 1) }, number, tally)?;
         }
         Ok(())
     });
     report.check("mutexes 4, 5", |tally| {
         for (mutexes, number) in [(0, 0), (4, 0), (5, 4), (256, 4), (65_535, 4)] {
-            stands(
-                calls,
-                &Draft {
-                    mutexes,
-                    ..Draft::new(2, 1)
-                },
-                number,
-                tally,
-            )?;
+            stands(calls, &Draft { mutexes, ..Draft::new(2, 1) }, number, tally)?;
         }
         Ok(())
     });
@@ -55,24 +39,15 @@ pub fn run(calls: &dyn Calls, report: &mut Report) {
         for (lines, number) in [(63, 0), (64, 0), (65, 8), (66, 8), (256, 8)] {
             for thread in [0, 1] {
                 let lines = vec![compute(0, constant(1)); lines];
-                stands(
-                    calls,
-                    &Draft::new(2, 3).with_thread(thread, &lines),
-                    number,
-                    tally,
-                )?;
+                stands(calls, &Draft::new(2, 3).with_thread(thread, &lines), number, tally)?;
             }
         }
         Ok(())
     });
     report.check("records 256, 257", |tally| records(calls, tally));
     report.check("the largest case", |tally| largest_case(calls, tally));
-    report.check("15 switches are all used", |tally| {
-        all_switches_used(calls, tally)
-    });
-    report.check("fewer blocks than threads", |tally| {
-        fewer_blocks(calls, tally)
-    });
+    report.check("15 switches are all used", |tally| all_switches_used(calls, tally));
+    report.check("fewer blocks than threads", |tally| fewer_blocks(calls, tally));
 }
 
 /// Demands that the draft meets the refusal in each call, or none for 0.
@@ -86,13 +61,8 @@ fn stands(calls: &dyn Calls, draft: &Draft, number: u16, tally: &mut Tally) -> O
 
 /// "The case is not 32 + 16R bytes with R from 0 to 256."
 fn file_lengths(calls: &dyn Calls, tally: &mut Tally) -> Outcome {
-    let whole = Draft::new(2, 0)
-        .with_thread(0, &[compute(0, constant(1))])
-        .bytes();
-    let refusal = Refusal {
-        number: 1,
-        place: 0,
-    };
+    let whole = Draft::new(2, 0).with_thread(0, &[compute(0, constant(1))]).bytes();
+    let refusal = Refusal { number: 1, place: 0 };
     for length in (0..48).filter(|&length| length != 32) {
         refused_by_all(calls, &whole[..length], refusal, tally)?;
     }
@@ -100,41 +70,19 @@ fn file_lengths(calls: &dyn Calls, tally: &mut Tally) -> Outcome {
         let longer = [&whole[..], &vec![0; length - 48]].concat();
         refused_by_all(calls, &longer, refusal, tally)?;
     }
-    tally.same(calls.accept(&whole), Verdict::Accepted, || {
-        "48 bytes".into()
-    })?;
+    tally.same(calls.accept(&whole), Verdict::Accepted, || "48 bytes".into())?;
     let header = Draft::new(2, 0).bytes();
-    tally.same(calls.accept(&header), Verdict::Accepted, || {
-        "32 bytes".into()
-    })?;
+    tally.same(calls.accept(&header), Verdict::Accepted, || "32 bytes".into())?;
     // 32 bytes of 0 have no threads.
-    refused_by_all(
-        calls,
-        &[0; 32],
-        Refusal {
-            number: 2,
-            place: 0,
-        },
-        tally,
-    )?;
+    refused_by_all(calls, &[0; 32], Refusal { number: 2, place: 0 }, tally)?;
     // 48 bytes of which the record is in no chain.
     let stray = [&header[..], &[0; 16]].concat();
-    refused_by_all(
-        calls,
-        &stray,
-        Refusal {
-            number: 7,
-            place: 0,
-        },
-        tally,
-    )
+    refused_by_all(calls, &stray, Refusal { number: 7, place: 0 }, tally)
 }
 
 /// Four threads of 64 lines are 256 records.
 fn full(lines: &[Line]) -> Draft {
-    let most = Draft::new(4, 15)
-        .with_globals(&[1, 2, 3, 4, 5, 6, 7, 8])
-        .with_mutexes(4);
+    let most = Draft::new(4, 15).with_globals(&[1, 2, 3, 4, 5, 6, 7, 8]).with_mutexes(4);
     (0..4).fold(most, |draft, thread| draft.with_thread(thread, lines))
 }
 
@@ -144,15 +92,7 @@ fn records(calls: &dyn Calls, tally: &mut Tally) -> Outcome {
     for more in [1, 2, 256, 4_000] {
         let mut longer = draft.bytes();
         longer.extend(vec![0; 16 * more]);
-        refused_by_all(
-            calls,
-            &longer,
-            Refusal {
-                number: 1,
-                place: 0,
-            },
-            tally,
-        )?;
+        refused_by_all(calls, &longer, Refusal { number: 1, place: 0 }, tally)?;
     }
     Ok(())
 }
@@ -173,44 +113,26 @@ fn largest_case(calls: &dyn Calls, tally: &mut Tally) -> Outcome {
     tally.same(checked, Checked::Fails(1_205), || "only the 7 fails".into())?;
     let (reply, items) = replay(calls, &draft, &schedule);
     let at_end = vec![1, 2, 3, 4, 5, 6, 7, 8, 0, 0, 0, 0];
-    tally.same((reply, items), (Replayed::Clean, at_end), || {
-        "the run".into()
-    })?;
+    tally.same((reply, items), (Replayed::Clean, at_end), || "the run".into())?;
     // 256 inputs: the longest schedule has 272 numbers.
     let inputs = full(&[input(3); 64]);
     tally.same(inputs.schedule_numbers(), 272, || "schedule numbers".into())?;
     let schedule = [[16; 16].as_slice(), &[65_535; 256]].concat();
-    tally.same(replay(calls, &inputs, &schedule).0, Replayed::Clean, || {
-        "inputs".into()
-    })
+    tally.same(replay(calls, &inputs, &schedule).0, Replayed::Clean, || "inputs".into())
 }
 
 /// Threads that must take turns sixteen times to violate.
 fn all_switches_used(calls: &dyn Calls, tally: &mut Tally) -> Outcome {
     // Thread 0 puts odd numbers, thread 1 even ones, each after the other's.
-    let turn = |number: u16| {
-        [
-            load(0, 0),
-            compute(1, [EQUAL, 0, CONSTANT, number]),
-            store(0, [SUM, 0, CONSTANT, 1]).guarded(2),
-        ]
-    };
-    let turns = |first: u16| {
-        (0..8)
-            .flat_map(|round| turn(first + 2 * round))
-            .collect::<Vec<_>>()
-    };
+    let turn = |number: u16| [load(0, 0), compute(1, [EQUAL, 0, CONSTANT, number]), store(0, [SUM, 0, CONSTANT, 1]).guarded(2)];
+    let turns = |first: u16| (0..8).flat_map(|round| turn(first + 2 * round)).collect::<Vec<_>>();
     let last = [load(2, 0), assert([LESS, 2, CONSTANT, 16])];
-    let draft = Draft::new(2, 15)
-        .with_globals(&[0])
-        .with_thread(0, &turns(0))
-        .with_thread(1, &[turns(1), last.to_vec()].concat());
+    let draft =
+        Draft::new(2, 15).with_globals(&[0]).with_thread(0, &turns(0)).with_thread(1, &[turns(1), last.to_vec()].concat());
     let mut schedule = [3; 16];
     schedule[15] = 5;
     let wanted = (Replayed::Violated(draft.records.len() as u16), vec![16]);
-    tally.same(replay(calls, &draft, &schedule), wanted, || {
-        "in turn".into()
-    })?;
+    tally.same(replay(calls, &draft, &schedule), wanted, || "in turn".into())?;
     let numbers = fill(&draft, &schedule);
     let checked = calls.check(&draft.bytes(), &numbers);
     tally.same(checked, Checked::Meets, || "the filled assignment".into())?;
@@ -233,10 +155,7 @@ fn fewer_blocks(calls: &dyn Calls, tally: &mut Tally) -> Outcome {
         }
         for schedule in [[0, 0], [2, 0], [0, 2], [1, 1]] {
             let reply = replay(calls, &draft, &schedule).0;
-            let refused = Replayed::Refused {
-                number: 13,
-                place: 0,
-            };
+            let refused = Replayed::Refused { number: 13, place: 0 };
             tally.same(reply, refused, || format!("thread {thread}, {schedule:?}"))?;
         }
     }

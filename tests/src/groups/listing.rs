@@ -25,22 +25,13 @@ pub fn run(calls: &dyn Calls, report: &mut Report) {
         tally.same(printed.as_str(), CASE_A_LISTING, || "the listing".into())
     });
     report.check("fixed files", |tally| {
-        let files = [
-            Draft::new(2, 0).bytes(),
-            guarded_counter().bytes(),
-            vec![],
-            vec![0; 31],
-        ];
-        files
-            .iter()
-            .try_for_each(|file| same_listing(calls, file, tally))?;
+        let files = [Draft::new(2, 0).bytes(), guarded_counter().bytes(), vec![], vec![0; 31]];
+        files.iter().try_for_each(|file| same_listing(calls, file, tally))?;
         same_listing(calls, &vec![0; 32 + 16 * 257], tally)
     });
     report.check("random accepted files", |tally| {
         rounds(calls, tally, |random| accepted(random, ANY).bytes())?;
-        rounds(calls, tally, |random| {
-            accepted(random, SMALL_WITH_INPUTS).bytes()
-        })
+        rounds(calls, tally, |random| accepted(random, SMALL_WITH_INPUTS).bytes())
     });
     report.check("random refused files", |tally| {
         rounds(calls, tally, |random| {
@@ -55,11 +46,7 @@ pub fn run(calls: &dyn Calls, report: &mut Report) {
     });
 }
 
-fn rounds(
-    calls: &dyn Calls,
-    tally: &mut Tally,
-    mut file: impl FnMut(&mut Random) -> Vec<u8>,
-) -> Outcome {
+fn rounds(calls: &dyn Calls, tally: &mut Tally, mut file: impl FnMut(&mut Random) -> Vec<u8>) -> Outcome {
     for seed in 60_000_000..60_000_000 + ROUNDS {
         let file = file(&mut Random::from_seed(seed));
         same_listing(calls, &file, tally).map_err(|message| format!("seed {seed}: {message}"))?;

@@ -33,12 +33,7 @@ pub struct Group {
 
 /// All groups in the order in which they are run.
 pub fn all() -> Vec<Group> {
-    let group = |name, about, run| Group {
-        name,
-        about,
-        run,
-        by_default: true,
-    };
+    let group = |name, about, run| Group { name, about, run, by_default: true };
     let mut groups = vec![
         group("case-a", "case A's listing and P1 to P10", case_a::run),
         group("tables", "tables worked out by hand", tables::run),
@@ -48,16 +43,8 @@ pub fn all() -> Vec<Group> {
         group("fields", "refusal 9, field by field", fields::run),
         group("limits", "both sides of every limit", limits::run),
         group("refusals", "refusals 1 to 9 and their order", refusals::run),
-        group(
-            "calls",
-            "refusals 10 to 15 and their order",
-            refusals_of_calls::run,
-        ),
-        group(
-            "generator",
-            "random cases have all there is",
-            generator::run,
-        ),
+        group("calls", "refusals 10 to 15 and their order", refusals_of_calls::run),
+        group("generator", "random cases have all there is", generator::run),
         group("slices", "what calls leave in slices", slices::run),
         group("demand-3", "demand 3 by trying schedules", demand_3::run),
         group("solvers", "z3 and cvc5 beside replay", solvers::run),
@@ -66,11 +53,7 @@ pub fn all() -> Vec<Group> {
     // Beside itself the second implementation would always be right.
     groups.push(Group {
         by_default: cfg!(feature = "proved"),
-        ..group(
-            "differential",
-            "beside the second implementation",
-            differential::run,
-        )
+        ..group("differential", "beside the second implementation", differential::run)
     });
     groups.push(Group {
         by_default: std::env::var_os(listing::PROGRAM).is_some(),

@@ -26,26 +26,13 @@ const MISTAKES: [(Wrong, &[Comparison]); 17] = [
     (Wrong::LengthsWrap, &[replays]),
     (Wrong::LengthBeforeRoom, &[decodings, lengths]),
     (Wrong::WritesThoughRefused, &[replays, lengths]),
-    (
-        Wrong::ClearsTheTail,
-        &[tables, decodings, replays, listings, lengths],
-    ),
+    (Wrong::ClearsTheTail, &[tables, decodings, replays, listings, lengths]),
     (Wrong::PlaceBeforeNumber, &[listings, lengths]),
     (Wrong::WritesThoughShort, &[listings, lengths]),
 ];
 
-const ALL: [Comparison; 10] = [
-    verdicts,
-    tables,
-    checks,
-    decodings,
-    replays,
-    listings,
-    lengths,
-    demand_3,
-    demand_3_small,
-    demand_3_with_inputs,
-];
+const ALL: [Comparison; 10] =
+    [verdicts, tables, checks, decodings, replays, listings, lengths, demand_3, demand_3_small, demand_3_with_inputs];
 
 pub fn run(_: &dyn Calls, report: &mut Report) {
     report.check("no mistake", |tally| {

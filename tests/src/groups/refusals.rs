@@ -24,9 +24,7 @@ pub fn run(calls: &dyn Calls, report: &mut Report) {
         });
     }
     for number in 1..=9 {
-        report.check(&format!("{number} at random"), |tally| {
-            at_random(calls, number, None, tally)
-        });
+        report.check(&format!("{number} at random"), |tally| at_random(calls, number, None, tally));
     }
     for number in 1..=8 {
         report.check(&format!("{number} before higher ones"), |tally| {
@@ -40,22 +38,11 @@ pub fn run(calls: &dyn Calls, report: &mut Report) {
 fn by_hand() -> Vec<(&'static str, Vec<Draft>, Refusal)> {
     let refusal = |number: u16| Refusal { number, place: 0 };
     vec![
-        (
-            "5: fields of absent threads and globals",
-            absent_fields(),
-            refusal(5),
-        ),
+        ("5: fields of absent threads and globals", absent_fields(), refusal(5)),
         ("6: a link over R", links_over(), refusal(6)),
         ("6: reached twice", reached_twice(), refusal(6)),
         ("7: in no chain", strays(), refusal(7)),
-        (
-            "9: the place is the lowest",
-            broken_third(),
-            Refusal {
-                number: 9,
-                place: 3,
-            },
-        ),
+        ("9: the place is the lowest", broken_third(), Refusal { number: 9, place: 3 }),
     ]
 }
 
@@ -89,16 +76,10 @@ fn links_over() -> Vec<Draft> {
     }
     // The next number of a record that no chain reaches counts too.
     drafts.push(changed(|draft| {
-        draft.records.push(Line {
-            next: 7,
-            ..unlock(0)
-        });
+        draft.records.push(Line { next: 7, ..unlock(0) });
     }));
     // Without records every first number but 0 is over R.
-    drafts.push(Draft {
-        firsts: [0, 1, 0, 0],
-        ..Draft::new(2, 0)
-    });
+    drafts.push(Draft { firsts: [0, 1, 0, 0], ..Draft::new(2, 0) });
     drafts
 }
 
@@ -122,14 +103,7 @@ fn reached_twice() -> Vec<Draft> {
 
 /// Reached means reached from a first record, so none of these meets a 6.
 fn strays() -> Vec<Draft> {
-    let stray = |next: u16| {
-        changed(|draft| {
-            draft.records.push(Line {
-                next,
-                ..compute(0, constant(1))
-            })
-        })
-    };
+    let stray = |next: u16| changed(|draft| draft.records.push(Line { next, ..compute(0, constant(1)) }));
     let mut drafts = vec![
         // It ends, it points into a chain, it points at itself.
         stray(0),
@@ -145,14 +119,8 @@ fn strays() -> Vec<Draft> {
     ];
     // Two records that point at each other.
     drafts.push(changed(|draft| {
-        draft.records.push(Line {
-            next: 7,
-            ..compute(0, constant(1))
-        });
-        draft.records.push(Line {
-            next: 6,
-            ..compute(0, constant(1))
-        });
+        draft.records.push(Line { next: 7, ..compute(0, constant(1)) });
+        draft.records.push(Line { next: 6, ..compute(0, constant(1)) });
     }));
     drafts
 }
@@ -170,23 +138,12 @@ fn broken_third() -> Vec<Draft> {
         broken(&mut draft, records);
         draft
     };
-    vec![
-        straight(&[3]),
-        straight(&[3, 4]),
-        straight(&[5, 3]),
-        backwards(&[3]),
-        backwards(&[3, 5]),
-        backwards(&[3, 4, 5]),
-    ]
+    vec![straight(&[3]), straight(&[3, 4]), straight(&[5, 3]), backwards(&[3]), backwards(&[3, 5]), backwards(&[3, 4, 5])]
 }
 
 /// Random cases with the fault, or with it and a later one.
 fn at_random(calls: &dyn Calls, number: u16, later: Option<u16>, tally: &mut Tally) -> Outcome {
-    let count = if later.is_none() {
-        FOR_EACH
-    } else {
-        FOR_EACH_PAIR
-    };
+    let count = if later.is_none() { FOR_EACH } else { FOR_EACH_PAIR };
     for round in 0..count {
         let seed = 1_000_000 * u64::from(number) + 10_000 * u64::from(later.unwrap_or(0)) + round;
         let damaged = damaged(&mut Random::from_seed(seed), number, later);
@@ -208,8 +165,7 @@ fn any_bytes(calls: &dyn Calls, tally: &mut Tally) -> Outcome {
             scratched(&mut random, &draft)
         };
         if let Some(refusal) = calls.accept(&bytes).refusal() {
-            refused_by_all(calls, &bytes, refusal, tally)
-                .map_err(|message| format!("seed {seed}: {message}"))?;
+            refused_by_all(calls, &bytes, refusal, tally).map_err(|message| format!("seed {seed}: {message}"))?;
         }
     }
     Ok(())

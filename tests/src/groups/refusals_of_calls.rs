@@ -17,22 +17,12 @@ pub fn run(calls: &dyn Calls, report: &mut Report) {
     report.check("10: decoding", |tally| short_schedule(calls, tally));
     report.check("10: replaying", |tally| short_items(calls, tally));
     report.check("10: listing", |tally| short_text(calls, tally));
-    report.check("11: checking and decoding", |tally| {
-        wrong_assignment(calls, tally)
-    });
+    report.check("11: checking and decoding", |tally| wrong_assignment(calls, tally));
     report.check("12: replaying", |tally| wrong_schedule(calls, tally));
-    report.check("13: lengths do not add up", |tally| {
-        wrong_sums(calls, tally)
-    });
-    report.check("14: an input with a false guard", |tally| {
-        false_inputs(calls, tally)
-    });
-    report.check("14 and cut-off: the one met first", |tally| {
-        met_first(calls, tally)
-    });
-    report.check("15: the first failed constraint", |tally| {
-        failed_decoding(calls, tally)
-    });
+    report.check("13: lengths do not add up", |tally| wrong_sums(calls, tally));
+    report.check("14: an input with a false guard", |tally| false_inputs(calls, tally));
+    report.check("14 and cut-off: the one met first", |tally| met_first(calls, tally));
+    report.check("15: the first failed constraint", |tally| failed_decoding(calls, tally));
 }
 
 /// Case A's table has 18 × 6 numbers.
@@ -40,14 +30,8 @@ fn short_table(calls: &dyn Calls, tally: &mut Tally) -> Outcome {
     for room in 0..=109 {
         let mut table = marks(room);
         let wanted = match room {
-            0..=107 => Encoded::Refused {
-                number: 10,
-                place: 0,
-            },
-            _ => Encoded::Table {
-                constraints: 18,
-                variables: 12,
-            },
+            0..=107 => Encoded::Refused { number: 10, place: 0 },
+            _ => Encoded::Table { constraints: 18, variables: 12 },
         };
         let reply = calls.encode(&case_a().bytes(), &mut table);
         tally.same(reply, wanted, || format!("room for {room}"))?;
@@ -65,19 +49,14 @@ fn short_schedule(calls: &dyn Calls, tally: &mut Tally) -> Outcome {
         for room in 0..3 {
             let mut schedule = marks(room);
             let reply = calls.decode(&case_a().bytes(), assignment, &mut schedule);
-            let refused = Decoded::Refused {
-                number: 10,
-                place: 0,
-            };
+            let refused = Decoded::Refused { number: 10, place: 0 };
             tally.same(reply, refused, || format!("room for {room}"))?;
             tally.same(schedule, marks(room), || "the slice".into())?;
         }
     }
     let mut schedule = marks(5);
     let reply = calls.decode(&case_a().bytes(), &GOOD, &mut schedule);
-    tally.same(reply, Decoded::Schedule { numbers: 3 }, || {
-        "room for 5".into()
-    })?;
+    tally.same(reply, Decoded::Schedule { numbers: 3 }, || "room for 5".into())?;
     let wanted = [&[2, 1, 2], &marks(5)[3..]].concat();
     tally.same(schedule, wanted, || "the slice".into())
 }
@@ -87,22 +66,12 @@ fn short_schedule(calls: &dyn Calls, tally: &mut Tally) -> Outcome {
 fn short_items(calls: &dyn Calls, tally: &mut Tally) -> Outcome {
     for schedule in [&[2, 1, 2][..], &[2, 1, 1], &[2, 1], &[], &[2, 1, 2, 0]] {
         let reply = calls.replay(&case_a().bytes(), schedule, &mut []);
-        let refused = Replayed::Refused {
-            number: 10,
-            place: 0,
-        };
+        let refused = Replayed::Refused { number: 10, place: 0 };
         tally.same(reply, refused, || format!("schedule {schedule:?}"))?;
     }
     let draft = false_input_case();
     let reply = calls.replay(&draft.bytes(), &[2, 0, 1], &mut []);
-    tally.same(
-        reply,
-        Replayed::Refused {
-            number: 10,
-            place: 0,
-        },
-        || "before 14".into(),
-    )?;
+    tally.same(reply, Replayed::Refused { number: 10, place: 0 }, || "before 14".into())?;
     // Nothing is written for a case without items, so nothing is short.
     let bare = Draft::new(2, 0).with_thread(0, &[assert(local(3))]);
     let reply = calls.replay(&bare.bytes(), &[1], &mut []);
@@ -112,19 +81,13 @@ fn short_items(calls: &dyn Calls, tally: &mut Tally) -> Outcome {
 /// Case A's listing has 6 bytes for the counts and 12 for each constraint. Of a
 /// refused case the text is four bytes here, and 10 is the only refusal.
 fn short_text(calls: &dyn Calls, tally: &mut Tally) -> Outcome {
-    let files = [
-        (case_a().bytes(), CASE_A_LISTING, 222),
-        (vec![], "1 0\n", 4),
-    ];
+    let files = [(case_a().bytes(), CASE_A_LISTING, 222), (vec![], "1 0\n", 4)];
     for (case, text, bytes) in files {
         for room in 0..=bytes + 1 {
             let mut slice = byte_marks(usize::from(room));
             let mut wanted = slice.clone();
             let wanted_reply = if room < bytes {
-                Listed::Refused {
-                    number: 10,
-                    place: 0,
-                }
+                Listed::Refused { number: 10, place: 0 }
             } else {
                 wanted[..text.len()].copy_from_slice(text.as_bytes());
                 Listed::Text { bytes }
@@ -143,21 +106,11 @@ fn wrong_assignment(calls: &dyn Calls, tally: &mut Tally) -> Outcome {
     for length in (0..30).chain([692, 712]).filter(|&length| length != 12) {
         let assignment = &longest[..length];
         let about = || format!("{length} numbers");
-        let refused = Checked::Refused {
-            number: 11,
-            place: 0,
-        };
+        let refused = Checked::Refused { number: 11, place: 0 };
         tally.same(calls.check(&case, assignment), refused, about)?;
         let mut schedule = marks(4);
-        let refused = Decoded::Refused {
-            number: 11,
-            place: 0,
-        };
-        tally.same(
-            calls.decode(&case, assignment, &mut schedule),
-            refused,
-            about,
-        )?;
+        let refused = Decoded::Refused { number: 11, place: 0 };
+        tally.same(calls.decode(&case, assignment, &mut schedule), refused, about)?;
         tally.same(schedule, marks(4), about)?;
     }
     Ok(())
@@ -166,17 +119,12 @@ fn wrong_assignment(calls: &dyn Calls, tally: &mut Tally) -> Outcome {
 /// "exactly n + 1 numbers and one for each input line"; before 13, so the sums
 /// do not matter.
 fn wrong_schedule(calls: &dyn Calls, tally: &mut Tally) -> Outcome {
-    let with_inputs = Draft::new(2, 2)
-        .with_thread(0, &[input(0), input(1)])
-        .with_thread(1, &[input(0)]);
+    let with_inputs = Draft::new(2, 2).with_thread(0, &[input(0), input(1)]).with_thread(1, &[input(0)]);
     for (draft, right) in [(case_a(), 3), (with_inputs, 6)] {
         for length in (0..12).filter(|&length| length != right) {
             for number in [0, 1, 65_535] {
                 let (reply, items) = replay(calls, &draft, &vec![number; length]);
-                let refused = Replayed::Refused {
-                    number: 12,
-                    place: 0,
-                };
+                let refused = Replayed::Refused { number: 12, place: 0 };
                 tally.same(reply, refused, || format!("{length} numbers"))?;
                 tally.same(items, marks(draft.items()), || "the items".into())?;
             }
@@ -187,10 +135,7 @@ fn wrong_schedule(calls: &dyn Calls, tally: &mut Tally) -> Outcome {
 
 /// Sums are not taken modulo 65,536; 13 comes before anything in the run.
 fn wrong_sums(calls: &dyn Calls, tally: &mut Tally) -> Outcome {
-    let refused = Replayed::Refused {
-        number: 13,
-        place: 0,
-    };
+    let refused = Replayed::Refused { number: 13, place: 0 };
     for schedule in [
         [0, 0, 0],
         [2, 1, 1],
@@ -210,15 +155,11 @@ fn wrong_sums(calls: &dyn Calls, tally: &mut Tally) -> Outcome {
     // The second number is right for thread 1, which has no line: 65,536 not.
     let draft = Draft::new(2, 3).with_thread(0, &[assert(constant(0))]);
     for schedule in [[1, 32_768, 0, 32_768], [0, 0, 0, 0], [1, 1, 0, 0]] {
-        tally.same(reply(calls, &draft, &schedule), refused, || {
-            format!("{schedule:?}")
-        })?;
+        tally.same(reply(calls, &draft, &schedule), refused, || format!("{schedule:?}"))?;
     }
     // An input with a false guard comes later.
     let draft = false_input_case();
-    tally.same(reply(calls, &draft, &[1, 0, 1]), refused, || {
-        "before 14".into()
-    })
+    tally.same(reply(calls, &draft, &[1, 0, 1]), refused, || "before 14".into())
 }
 
 /// Record 2 is an input whose guard is false, since local 4 has 0.
@@ -230,59 +171,34 @@ fn false_input_case() -> Draft {
 fn false_inputs(calls: &dyn Calls, tally: &mut Tally) -> Outcome {
     let draft = false_input_case();
     let wanted = (Replayed::Clean, vec![9]);
-    tally.same(replay(calls, &draft, &[2, 0, 0]), wanted, || {
-        "value 0".into()
-    })?;
+    tally.same(replay(calls, &draft, &[2, 0, 0]), wanted, || "value 0".into())?;
     for value in [1, 2, 256, 65_535] {
-        let wanted = (
-            Replayed::Refused {
-                number: 14,
-                place: 2,
-            },
-            marks(1),
-        );
+        let wanted = (Replayed::Refused { number: 14, place: 2 }, marks(1));
         let got = replay(calls, &draft, &[2, 0, value]);
         tally.same(got, wanted, || format!("value {value}"))?;
     }
     // A zero assert before it does not matter, and the first one met counts,
     // which is thread 1's here.
-    let draft = Draft::new(2, 2)
-        .with_thread(0, &[assert(constant(0)), input(0).guarded(5)])
-        .with_thread(1, &[input(0).guarded(5)]);
+    let draft =
+        Draft::new(2, 2).with_thread(0, &[assert(constant(0)), input(0).guarded(5)]).with_thread(1, &[input(0).guarded(5)]);
     let refused = |place: u16| Replayed::Refused { number: 14, place };
-    tally.same(reply(calls, &draft, &[1, 1, 1, 7, 7]), refused(3), || {
-        "thread 1".into()
-    })?;
-    tally.same(reply(calls, &draft, &[2, 1, 0, 7, 7]), refused(2), || {
-        "thread 0".into()
-    })?;
-    tally.same(reply(calls, &draft, &[1, 1, 1, 7, 0]), refused(2), || {
-        "later".into()
-    })?;
+    tally.same(reply(calls, &draft, &[1, 1, 1, 7, 7]), refused(3), || "thread 1".into())?;
+    tally.same(reply(calls, &draft, &[2, 1, 0, 7, 7]), refused(2), || "thread 0".into())?;
+    tally.same(reply(calls, &draft, &[1, 1, 1, 7, 0]), refused(2), || "later".into())?;
     let violated = Replayed::Violated(1);
-    tally.same(reply(calls, &draft, &[1, 1, 1, 0, 0]), violated, || {
-        "both 0".into()
-    })
+    tally.same(reply(calls, &draft, &[1, 1, 1, 0, 0]), violated, || "both 0".into())
 }
 
 /// "Refusal 14 and a cut-off exclude each other: the one met first is given."
 fn met_first(calls: &dyn Calls, tally: &mut Tally) -> Outcome {
     let cutting = [assume(constant(0)), lock(0), lock(0)];
     for cut in [&cutting[..1], &cutting[1..]] {
-        let draft = Draft::new(2, 2)
-            .with_mutexes(1)
-            .with_thread(0, cut)
-            .with_thread(1, &[input(0).guarded(1)]);
+        let draft = Draft::new(2, 2).with_mutexes(1).with_thread(0, cut).with_thread(1, &[input(0).guarded(1)]);
         let lines = cut.len() as u16;
         let cut_first = reply(calls, &draft, &[lines, 1, 0, 8]);
-        tally.same(cut_first, Replayed::CutOff(lines), || {
-            format!("{cut:?} first")
-        })?;
+        tally.same(cut_first, Replayed::CutOff(lines), || format!("{cut:?} first"))?;
         let (input_first, items) = replay(calls, &draft, &[0, 1, lines, 8]);
-        let refused = Replayed::Refused {
-            number: 14,
-            place: lines + 1,
-        };
+        let refused = Replayed::Refused { number: 14, place: lines + 1 };
         tally.same(input_first, refused, || format!("{cut:?} later"))?;
         tally.same(items, marks(1), || "the items".into())?;
     }

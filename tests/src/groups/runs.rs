@@ -11,176 +11,62 @@ use crate::table::table_of;
 pub fn run(calls: &dyn Calls, report: &mut Report) {
     report.check("ops", |tally| ops(calls, tally));
     report.check("guards", |tally| guards(calls, tally));
-    report.check("false guards change and demand nothing", |tally| {
-        passed_lines(calls, tally)
-    });
+    report.check("false guards change and demand nothing", |tally| passed_lines(calls, tally));
     report.check("a zero assert is noted, and the run goes on", |tally| {
-        let lines = [
-            assert(constant(0)),
-            store(0, constant(8)),
-            assert(constant(0)),
-        ];
-        runs(
-            calls,
-            &one_thread(&lines),
-            &[3, 0],
-            Replayed::Violated(1),
-            &[8, 7, 0, 0],
-            tally,
-        )
+        let lines = [assert(constant(0)), store(0, constant(8)), assert(constant(0))];
+        runs(calls, &one_thread(&lines), &[3, 0], Replayed::Violated(1), &[8, 7, 0, 0], tally)
     });
-    report.check(
-        "a failed assume in the last line means no violation",
-        |tally| {
-            let lines = [
-                assert(constant(0)),
-                store(0, constant(8)),
-                assume(constant(0)),
-            ];
-            runs(
-                calls,
-                &one_thread(&lines),
-                &[3, 0],
-                Replayed::CutOff(3),
-                &[8, 7, 0, 0],
-                tally,
-            )
-        },
-    );
+    report.check("a failed assume in the last line means no violation", |tally| {
+        let lines = [assert(constant(0)), store(0, constant(8)), assume(constant(0))];
+        runs(calls, &one_thread(&lines), &[3, 0], Replayed::CutOff(3), &[8, 7, 0, 0], tally)
+    });
     report.check("a cut-off leaves what stood before it", |tally| {
-        let lines = [
-            store(1, constant(3)),
-            assume(constant(0)),
-            store(0, constant(8)),
-        ];
-        runs(
-            calls,
-            &one_thread(&lines),
-            &[3, 0],
-            Replayed::CutOff(2),
-            &[6, 3, 0, 0],
-            tally,
-        )
+        let lines = [store(1, constant(3)), assume(constant(0)), store(0, constant(8))];
+        runs(calls, &one_thread(&lines), &[3, 0], Replayed::CutOff(2), &[6, 3, 0, 0], tally)
     });
     report.check("a mutex that is not 0 cuts off", |tally| {
         let lines = [lock(1), lock(0), lock(1), unlock(1)];
-        runs(
-            calls,
-            &one_thread(&lines),
-            &[4, 0],
-            Replayed::CutOff(3),
-            &[6, 7, 1, 1],
-            tally,
-        )
+        runs(calls, &one_thread(&lines), &[4, 0], Replayed::CutOff(3), &[6, 7, 1, 1], tally)
     });
     report.check("the first failed line cuts off", |tally| {
         // Thread 1 runs its assume before thread 0 comes to its own.
-        let draft = two_threads(
-            &[compute(0, constant(0)), assume(local(0))],
-            &[assume(local(1))],
-        );
-        runs(
-            calls,
-            &draft,
-            &[1, 1, 1],
-            Replayed::CutOff(3),
-            &[6, 7, 0, 0],
-            tally,
-        )
+        let draft = two_threads(&[compute(0, constant(0)), assume(local(0))], &[assume(local(1))]);
+        runs(calls, &draft, &[1, 1, 1], Replayed::CutOff(3), &[6, 7, 0, 0], tally)
     });
     report.check("unlock frees for any holder, also a free mutex", |tally| {
         let draft = two_threads(&[unlock(0), lock(0), lock(0)], &[unlock(0)]);
-        runs(
-            calls,
-            &draft,
-            &[2, 1, 1],
-            Replayed::Clean,
-            &[6, 7, 1, 0],
-            tally,
-        )?;
-        runs(
-            calls,
-            &draft,
-            &[3, 1, 0],
-            Replayed::CutOff(3),
-            &[6, 7, 1, 0],
-            tally,
-        )
+        runs(calls, &draft, &[2, 1, 1], Replayed::Clean, &[6, 7, 1, 0], tally)?;
+        runs(calls, &draft, &[3, 1, 0], Replayed::CutOff(3), &[6, 7, 1, 0], tally)
     });
     report.check("the first zero assert in running order", |tally| {
         let draft = two_threads(&[load(0, 0), assert(local(5))], &[assert(local(6))]);
-        runs(
-            calls,
-            &draft,
-            &[1, 1, 1],
-            Replayed::Violated(3),
-            &[6, 7, 0, 0],
-            tally,
-        )?;
-        runs(
-            calls,
-            &draft,
-            &[2, 1, 0],
-            Replayed::Violated(2),
-            &[6, 7, 0, 0],
-            tally,
-        )
+        runs(calls, &draft, &[1, 1, 1], Replayed::Violated(3), &[6, 7, 0, 0], tally)?;
+        runs(calls, &draft, &[2, 1, 0], Replayed::Violated(2), &[6, 7, 0, 0], tally)
     });
     report.check("each thread has locals of its own", |tally| {
         let draft = two_threads(
             &[compute(0, constant(4)), store(0, local(0))],
             &[compute(0, [SUM, 0, CONSTANT, 1]), store(1, local(0))],
         );
-        runs(
-            calls,
-            &draft,
-            &[1, 2, 1],
-            Replayed::Clean,
-            &[4, 1, 0, 0],
-            tally,
-        )
+        runs(calls, &draft, &[1, 2, 1], Replayed::Clean, &[4, 1, 0, 0], tally)
     });
-    report.check("inputs go by thread and chain", |tally| {
-        inputs_in_order(calls, tally)
-    });
+    report.check("inputs go by thread and chain", |tally| inputs_in_order(calls, tally));
     report.check("after a cut-off no input is looked at", |tally| {
         // The input's guard is false, but the run does not come to it.
         let lines = [assume(constant(0)), input(0).guarded(2)];
-        runs(
-            calls,
-            &one_thread(&lines),
-            &[2, 0, 9],
-            Replayed::CutOff(1),
-            &[6, 7, 0, 0],
-            tally,
-        )
+        runs(calls, &one_thread(&lines), &[2, 0, 9], Replayed::CutOff(1), &[6, 7, 0, 0], tally)
     });
     report.check("block 0 is thread 0's, also without lines", |tally| {
         let draft = two_threads(&[], &[store(0, constant(1))]);
-        runs(
-            calls,
-            &draft,
-            &[0, 1, 0],
-            Replayed::Clean,
-            &[1, 7, 0, 0],
-            tally,
-        )?;
-        let refused = Replayed::Refused {
-            number: 13,
-            place: 0,
-        };
-        tally.same(replay(calls, &draft, &[1, 0, 0]).0, refused, || {
-            "block 0".into()
-        })
+        runs(calls, &draft, &[0, 1, 0], Replayed::Clean, &[1, 7, 0, 0], tally)?;
+        let refused = Replayed::Refused { number: 13, place: 0 };
+        tally.same(replay(calls, &draft, &[1, 0, 0]).0, refused, || "block 0".into())
     });
 }
 
 /// Globals begin at 6 and 7; there are two mutexes; thread 1 has no lines.
 fn one_thread(lines: &[Line]) -> Draft {
-    Draft::new(2, 1)
-        .with_globals(&[6, 7])
-        .with_mutexes(2)
-        .with_thread(0, lines)
+    Draft::new(2, 1).with_globals(&[6, 7]).with_mutexes(2).with_thread(0, lines)
 }
 
 fn two_threads(first: &[Line], second: &[Line]) -> Draft {
@@ -190,14 +76,7 @@ fn two_threads(first: &[Line], second: &[Line]) -> Draft {
 
 /// Demands the reply and the items at the end, and that checker and decoder
 /// see the run in the same way.
-fn runs(
-    calls: &dyn Calls,
-    draft: &Draft,
-    schedule: &[u16],
-    reply: Replayed,
-    items: &[u16],
-    tally: &mut Tally,
-) -> Outcome {
+fn runs(calls: &dyn Calls, draft: &Draft, schedule: &[u16], reply: Replayed, items: &[u16], tally: &mut Tally) -> Outcome {
     let about = || format!("schedule {schedule:?} of {draft}");
     let wanted = (reply, items.to_vec());
     tally.same(replay(calls, draft, schedule), wanted, about)?;
@@ -243,29 +122,11 @@ fn ops(calls: &dyn Calls, tally: &mut Tally) -> Outcome {
             let lines = [set[0], set[1], store(0, expression), compute(3, expression)];
             let lines = [&lines[..], &[store(1, local(3))]].concat();
             let items = [result, result, 0, 0];
-            runs(
-                calls,
-                &one_thread(&lines),
-                &[5, 0],
-                Replayed::Clean,
-                &items,
-                tally,
-            )?;
+            runs(calls, &one_thread(&lines), &[5, 0], Replayed::Clean, &items, tally)?;
             // "assert: the expression must not be zero"
             let tested = [set[0], set[1], assert(expression)];
-            let reply = if result == 0 {
-                Replayed::Violated(3)
-            } else {
-                Replayed::Clean
-            };
-            runs(
-                calls,
-                &one_thread(&tested),
-                &[3, 0],
-                reply,
-                &[6, 7, 0, 0],
-                tally,
-            )?;
+            let reply = if result == 0 { Replayed::Violated(3) } else { Replayed::Clean };
+            runs(calls, &one_thread(&tested), &[3, 0], reply, &[6, 7, 0, 0], tally)?;
         }
     }
     Ok(())
@@ -280,21 +141,12 @@ fn guards(calls: &dyn Calls, tally: &mut Tally) -> Outcome {
                 // All other locals say the contrary.
                 let others = (0..16).filter(|&other| other != number);
                 let contrary = u16::from(value == 0);
-                let mut lines: Vec<Line> = others
-                    .map(|other| compute(other, constant(contrary)))
-                    .collect();
+                let mut lines: Vec<Line> = others.map(|other| compute(other, constant(contrary))).collect();
                 lines.push(compute(number, constant(value)));
                 lines.push(store(0, constant(9)).guarded(guard));
                 let global = if is_true { 9 } else { 6 };
                 let items = [global, 7, 0, 0];
-                runs(
-                    calls,
-                    &one_thread(&lines),
-                    &[17, 0],
-                    Replayed::Clean,
-                    &items,
-                    tally,
-                )?;
+                runs(calls, &one_thread(&lines), &[17, 0], Replayed::Clean, &items, tally)?;
             }
         }
     }
@@ -317,25 +169,13 @@ fn passed_lines(calls: &dyn Calls, tally: &mut Tally) -> Outcome {
     ];
     for line in kinds {
         // Mutex 0 is held; local 0 has 3, and goes to global 1 at the end.
-        let held = [
-            lock(0),
-            compute(0, constant(3)),
-            line.guarded(10),
-            store(1, local(0)),
-        ];
+        let held = [lock(0), compute(0, constant(3)), line.guarded(10), store(1, local(0))];
         let mut schedule = vec![4, 0];
         if line.kind == INPUT {
             schedule.push(0);
         }
         let items = [6, 3, 1, 0];
-        runs(
-            calls,
-            &one_thread(&held),
-            &schedule,
-            Replayed::Clean,
-            &items,
-            tally,
-        )?;
+        runs(calls, &one_thread(&held), &schedule, Replayed::Clean, &items, tally)?;
     }
     Ok(())
 }
@@ -347,12 +187,5 @@ fn inputs_in_order(calls: &dyn Calls, tally: &mut Tally) -> Outcome {
     let second = [input(0), store(1, local(0))];
     let draft = two_threads(&first, &second).renumbered(&[5, 4, 3, 2, 1]);
     let schedule = [1, 2, 2, 30, 10, 4];
-    runs(
-        calls,
-        &draft,
-        &schedule,
-        Replayed::Clean,
-        &[20, 4, 0, 0],
-        tally,
-    )
+    runs(calls, &draft, &schedule, Replayed::Clean, &[20, 4, 0, 0], tally)
 }

@@ -18,15 +18,9 @@ use crate::vary::schedule;
 const CASES: u64 = 120;
 
 pub fn run(calls: &dyn Calls, report: &mut Report) {
-    report.check("encoding", |tally| {
-        each_case(|draft, _| encoding(calls, draft, tally))
-    });
-    report.check("decoding", |tally| {
-        each_case(|draft, random| decoding(calls, draft, random, tally))
-    });
-    report.check("replaying", |tally| {
-        each_case(|draft, random| replaying(calls, draft, random, tally))
-    });
+    report.check("encoding", |tally| each_case(|draft, _| encoding(calls, draft, tally)));
+    report.check("decoding", |tally| each_case(|draft, random| decoding(calls, draft, random, tally)));
+    report.check("replaying", |tally| each_case(|draft, random| replaying(calls, draft, random, tally)));
     report.check("listing an accepted case", |tally| {
         each_case(|draft, _| {
             let case = draft.bytes();

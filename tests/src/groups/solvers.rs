@@ -42,12 +42,7 @@ pub fn run(calls: &dyn Calls, report: &mut Report) {
 fn by_hand(calls: &dyn Calls, solver: Solver, tally: &mut Tally) -> Outcome {
     let mut short = case_a();
     short.switches = 1;
-    for (draft, sat) in [
-        (case_a(), true),
-        (short, false),
-        (guarded_counter(), true),
-        (Draft::new(2, 0), false),
-    ] {
+    for (draft, sat) in [(case_a(), true), (short, false), (guarded_counter(), true), (Draft::new(2, 0), false)] {
         let is_sat = answers_like_replay(calls, solver, &draft, tally)?;
         tally.same(is_sat, sat, || format!("sat; case {draft}"))?;
     }
@@ -63,69 +58,44 @@ fn many(calls: &dyn Calls, solver: Solver, tally: &mut Tally) -> Outcome {
     for seed in 0..CASES {
         let shape = [BUSY, SMALL, BUSY, FOUR_THREADS][seed as usize % 4];
         let draft = case_of(seed, shape);
-        let is_sat = answers_like_replay(calls, solver, &draft, tally)
-            .map_err(|message| format!("seed {seed}: {message}"))?;
+        let is_sat = answers_like_replay(calls, solver, &draft, tally).map_err(|message| format!("seed {seed}: {message}"))?;
         sat += u64::from(is_sat);
         unsat += u64::from(!is_sat);
     }
-    tally.holds(sat >= OF_EACH && unsat >= OF_EACH, || {
-        format!("{sat} sat, {unsat} unsat")
-    })
+    tally.holds(sat >= OF_EACH && unsat >= OF_EACH, || format!("{sat} sat, {unsat} unsat"))
 }
 
 /// Without inputs: sat exactly when some schedule violates.
-fn answers_like_replay(
-    calls: &dyn Calls,
-    solver: Solver,
-    draft: &Draft,
-    tally: &mut Tally,
-) -> Result<bool, String> {
+fn answers_like_replay(calls: &dyn Calls, solver: Solver, draft: &Draft, tally: &mut Tally) -> Result<bool, String> {
     let violating = violating(calls, draft, schedules(draft, &[0]));
     let table = table_of(calls, &draft.bytes())?;
     let answer = solver.ask(&smt::text(draft, &table)?, table.variables)?;
     let is_sat = matches!(answer, Answer::Sat(_));
-    tally.same(is_sat, !violating.is_empty(), || {
-        format!("sat; case {draft}")
-    })?;
+    tally.same(is_sat, !violating.is_empty(), || format!("sat; case {draft}"))?;
     if let Answer::Sat(model) = answer {
         let schedule = model_violates(calls, draft, &model, tally)?;
-        tally.holds(violating.contains(&schedule), || {
-            format!("{schedule:?} decoded")
-        })?;
+        tally.holds(violating.contains(&schedule), || format!("{schedule:?} decoded"))?;
     }
     Ok(is_sat)
 }
 
 fn violating(calls: &dyn Calls, draft: &Draft, all: Vec<Vec<u16>>) -> BTreeSet<Vec<u16>> {
-    let violates =
-        |schedule: &Vec<u16>| matches!(reply(calls, draft, schedule), Replayed::Violated(_));
+    let violates = |schedule: &Vec<u16>| matches!(reply(calls, draft, schedule), Replayed::Violated(_));
     all.into_iter().filter(violates).collect()
 }
 
 /// A model meets the table, and its schedule violates.
-fn model_violates(
-    calls: &dyn Calls,
-    draft: &Draft,
-    model: &[u16],
-    tally: &mut Tally,
-) -> Result<Vec<u16>, String> {
+fn model_violates(calls: &dyn Calls, draft: &Draft, model: &[u16], tally: &mut Tally) -> Result<Vec<u16>, String> {
     let about = || format!("model {model:?} of {draft}");
     tally.same(check(calls, draft, model), Checked::Meets, about)?;
     let schedule = decode(calls, draft, model)?;
     let reply = reply(calls, draft, &schedule);
-    tally.holds(matches!(reply, Replayed::Violated(_)), || {
-        format!("{}: {schedule:?} is replayed as {reply:?}", about())
-    })?;
+    tally.holds(matches!(reply, Replayed::Violated(_)), || format!("{}: {schedule:?} is replayed as {reply:?}", about()))?;
     Ok(schedule)
 }
 
 /// The first cases that fit, in a bounded search.
-fn fitting_cases(
-    seeds: Range<u64>,
-    shape: Shape,
-    count: usize,
-    fits: impl Fn(&Draft) -> bool,
-) -> Result<Vec<Draft>, String> {
+fn fitting_cases(seeds: Range<u64>, shape: Shape, count: usize, fits: impl Fn(&Draft) -> bool) -> Result<Vec<Draft>, String> {
     let drafts = seeds.map(|seed| case_of(seed, shape)).filter(fits);
     let drafts: Vec<Draft> = drafts.take(count).collect();
     if drafts.len() < count {
@@ -137,8 +107,7 @@ fn fitting_cases(
 /// One input each, and few block lengths, so that unsat can be tested with all
 /// 65,536 values.
 fn with_an_input(calls: &dyn Calls, solver: Solver, tally: &mut Tally) -> Outcome {
-    let fits =
-        |draft: &Draft| draft.inputs().len() == 1 && (1..=6).contains(&block_lengths(draft).len());
+    let fits = |draft: &Draft| draft.inputs().len() == 1 && (1..=6).contains(&block_lengths(draft).len());
     let all_values: Vec<u16> = (0..=u16::MAX).collect();
     for draft in fitting_cases(10_000..20_000, BUSY_WITH_INPUTS, WITH_AN_INPUT, fits)? {
         let table = table_of(calls, &draft.bytes())?;
@@ -170,9 +139,7 @@ fn all_models(calls: &dyn Calls, solver: Solver, tally: &mut Tally) -> Outcome {
         while let Answer::Sat(model) = solver.ask(&text, table.variables)? {
             let schedule = model_violates(calls, &draft, &model, tally)?;
             tally.holds(found.insert(schedule), || format!("two models for {draft}"))?;
-            tally.holds(found.len() <= wanted.len(), || {
-                format!("too many models of {draft}")
-            })?;
+            tally.holds(found.len() <= wanted.len(), || format!("too many models of {draft}"))?;
             text.push_str(&smt::other_than(&model));
         }
         tally.same(&found, &wanted, || format!("all models of {draft}"))?;

@@ -11,35 +11,21 @@ pub fn run(calls: &dyn Calls, report: &mut Report) {
     report.check("guarded counter", |tally| counter_table(calls, tally));
     report.check("no lines, but blocks and items", |tally| {
         let draft = Draft::new(4, 2).with_globals(&[5]).with_mutexes(1);
-        let rows = vec![
-            [6, 0, 0, 0, 0, 0],
-            [6, 1, 0, 0, 0, 0],
-            [6, 0, 1, 0, 0, 0],
-            [6, 1, 1, 0, 0, 0],
-            [7, 0, 0, 0, 0, 0],
-        ];
+        let rows = vec![[6, 0, 0, 0, 0, 0], [6, 1, 0, 0, 0, 0], [6, 0, 1, 0, 0, 0], [6, 1, 1, 0, 0, 0], [7, 0, 0, 0, 0, 0]];
         let table = table_of(calls, &draft.bytes())?;
         tally.same(table.variables, 4, || "variables".into())?;
         tally.same(table.rows, rows, || "the table".into())
     });
     report.check("target copies without guard", |tally| {
         // Local 0 twice, then an op 0 with local 0 as its unused b.
-        let lines = [
-            compute(0, constant(1)),
-            compute(0, constant(2)),
-            store(0, local(3)),
-        ];
+        let lines = [compute(0, constant(1)), compute(0, constant(2)), store(0, local(3))];
         let rows = [[4, 1, 0, 0, 0, 0], [4, 2, 0, 0, 0, 1], [4, 3, 0, 0, 0, 0]];
         same_value_rows(calls, &one_thread(&lines), &rows, tally)
     });
     report.check("a store with a false guard is a copy", |tally| {
         // Local 5 is never written, so the store never happens; it is still
         // the copy that the load and the next store look at.
-        let lines = [
-            store(0, constant(1)).guarded(6),
-            load(0, 0),
-            store(0, local(0)),
-        ];
+        let lines = [store(0, constant(1)).guarded(6), load(0, 0), store(0, local(0))];
         let rows = [[4, 1, 0, 0, 0, 0], [4, 2, 0, 1, 0, 0], [4, 3, 0, 2, 0, 1]];
         same_value_rows(calls, &one_thread(&lines), &rows, tally)
     });
@@ -51,23 +37,11 @@ pub fn run(calls: &dyn Calls, report: &mut Report) {
             assert([LESS, CONSTANT, 5, 9]).guarded(20),
             compute(5, [AND, 5, 5, 0]),
         ];
-        let rows = [
-            [4, 1, 0, 0, 0, 0],
-            [4, 2, 1, 0, 0, 0],
-            [4, 3, 2, 2, 1, 0],
-            [4, 4, 1, 0, 3, 0],
-            [4, 5, 0, 3, 3, 3],
-        ];
+        let rows = [[4, 1, 0, 0, 0, 0], [4, 2, 1, 0, 0, 0], [4, 3, 2, 2, 1, 0], [4, 4, 1, 0, 3, 0], [4, 5, 0, 3, 3, 3]];
         same_value_rows(calls, &one_thread(&lines), &rows, tally)
     });
     report.check("a 5 follows its line's 4", |tally| {
-        let lines = [
-            input(0),
-            assume(local(0)).guarded(1),
-            lock(1).guarded(17),
-            unlock(1),
-            lock(1),
-        ];
+        let lines = [input(0), assume(local(0)).guarded(1), lock(1).guarded(17), unlock(1), lock(1)];
         let rows = [
             [4, 1, 0, 0, 0, 0],
             [4, 2, 1, 1, 0, 0],
@@ -82,24 +56,14 @@ pub fn run(calls: &dyn Calls, report: &mut Report) {
         same_value_rows(calls, &one_thread(&lines), &rows, tally)
     });
     report.check("copies go by chain, not by record number", |tally| {
-        let lines = [
-            compute(0, constant(1)),
-            compute(0, [SUM, 0, 0, 0]),
-            assert(local(0)),
-        ];
+        let lines = [compute(0, constant(1)), compute(0, [SUM, 0, 0, 0]), assert(local(0))];
         let draft = one_thread(&lines).renumbered(&[3, 1, 2]);
         let rows = [[4, 3, 0, 0, 0, 0], [4, 1, 0, 3, 3, 3], [4, 2, 0, 1, 0, 0]];
         same_value_rows(calls, &draft, &rows, tally)
     });
     report.check("names of different sorts are kept apart", |tally| {
         // Local 0, global 0 and mutex 0 have copies of their own.
-        let lines = [
-            compute(0, constant(1)),
-            store(0, local(0)),
-            lock(0),
-            load(0, 0),
-            unlock(0),
-        ];
+        let lines = [compute(0, constant(1)), store(0, local(0)), lock(0), load(0, 0), unlock(0)];
         let rows = [
             [4, 1, 0, 0, 0, 0],
             [4, 2, 0, 1, 0, 0],
@@ -114,20 +78,13 @@ pub fn run(calls: &dyn Calls, report: &mut Report) {
 
 /// A case whose thread 0 has these lines and whose thread 1 has none.
 fn one_thread(lines: &[Line]) -> Draft {
-    Draft::new(2, 1)
-        .with_globals(&[0])
-        .with_mutexes(2)
-        .with_thread(0, lines)
+    Draft::new(2, 1).with_globals(&[0]).with_mutexes(2).with_thread(0, lines)
 }
 
 /// Demands the 4s and 5s of a table.
 fn same_value_rows(calls: &dyn Calls, draft: &Draft, wanted: &[Row], tally: &mut Tally) -> Outcome {
     let table = table_of(calls, &draft.bytes())?;
-    let rows: Vec<Row> = table
-        .rows
-        .into_iter()
-        .filter(|row| matches!(row[0], 4 | 5))
-        .collect();
+    let rows: Vec<Row> = table.rows.into_iter().filter(|row| matches!(row[0], 4 | 5)).collect();
     tally.same(rows.as_slice(), wanted, || "the 4s and 5s".into())
 }
 
@@ -139,11 +96,7 @@ fn counter_table(calls: &dyn Calls, tally: &mut Tally) -> Outcome {
         for line in lines {
             wanted.push([3, line, 3, thread, 0, 0]);
             let next = [1, line, line + 1, 0, 0, 0];
-            wanted.push(if line == last {
-                [2, line, 7, 0, 0, 0]
-            } else {
-                next
-            });
+            wanted.push(if line == last { [2, line, 7, 0, 0, 0] } else { next });
         }
     }
     wanted.extend(GUARDED_COUNTER_VALUE_ROWS);

@@ -129,9 +129,7 @@ impl Case {
     /// The input lines "by thread and then by chain".
     pub fn inputs(&self) -> Vec<u16> {
         let lines = self.chains.iter().flatten().copied();
-        lines
-            .filter(|&line| self.record(line).kind == INPUT)
-            .collect()
+        lines.filter(|&line| self.record(line).kind == INPUT).collect()
     }
 
     /// "Block i (0 to n) belongs to thread i modulo T".

@@ -106,11 +106,8 @@ impl Assigned<'_> {
             // "an input is free"
             return true;
         }
-        let wanted = if guarded_in {
-            self.value_if_guard_is_true(record, row)
-        } else {
-            self.value_if_guard_is_false(record, row)
-        };
+        let wanted =
+            if guarded_in { self.value_if_guard_is_true(record, row) } else { self.value_if_guard_is_false(record, row) };
         self.value(line) == wanted
     }
 

@@ -9,11 +9,7 @@ pub fn schedule(assigned: &Assigned, rows: &[Row]) -> Vec<u16> {
     let case = assigned.case;
     let blocks = 0..=case.switches;
     let mut schedule: Vec<u16> = blocks.map(|block| block_length(assigned, block)).collect();
-    schedule.extend(
-        case.inputs()
-            .iter()
-            .map(|&line| input_value(assigned, rows, line)),
-    );
+    schedule.extend(case.inputs().iter().map(|&line| input_value(assigned, rows, line)));
     schedule
 }
 
@@ -22,9 +18,7 @@ pub fn schedule(assigned: &Assigned, rows: &[Row]) -> Vec<u16> {
 fn block_length(assigned: &Assigned, block: usize) -> u16 {
     let case = assigned.case;
     let lines = case.chains[case.thread_of_block(block)].iter();
-    lines
-        .filter(|&&line| usize::from(assigned.block(line)) == block)
-        .count() as u16
+    lines.filter(|&&line| usize::from(assigned.block(line)) == block).count() as u16
 }
 
 /// "a run input line with a true guard has its variable's value, any other
@@ -42,6 +36,5 @@ fn input_value(assigned: &Assigned, rows: &[Row], line: u16) -> u16 {
 /// The guard copy stands in the line's 4.
 fn guard_copy(rows: &[Row], line: u16) -> u16 {
     let mut rows = rows.iter();
-    rows.find(|row| row[0] == 4 && row[1] == line)
-        .map_or(0, |row| row[2])
+    rows.find(|row| row[0] == 4 && row[1] == line).map_or(0, |row| row[2])
 }

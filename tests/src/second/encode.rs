@@ -53,19 +53,10 @@ fn value_rows(case: &Case) -> Vec<Row> {
 fn value_row(case: &Case, earlier: &[u16], line: u16) -> Row {
     let record = case.record(line);
     let copy = |name: Name| latest_copy(case, earlier, name);
-    let guard = record
-        .guard_local()
-        .map_or(0, |local| copy(Name::Local(local)));
+    let guard = record.guard_local().map_or(0, |local| copy(Name::Local(local)));
     let (a, b) = operand_names(record);
     let target = record.target_name();
-    [
-        4,
-        line,
-        guard,
-        a.map_or(0, copy),
-        b.map_or(0, copy),
-        target.map_or(0, copy),
-    ]
+    [4, line, guard, a.map_or(0, copy), b.map_or(0, copy), target.map_or(0, copy)]
 }
 
 /// The names that a line reads as a and as b. "A copy for a constant is 0",
@@ -113,18 +104,12 @@ fn block_value_rows(case: &Case) -> Vec<Row> {
 /// "The copy of a name at a line is the latest earlier line of the same thread
 /// that has it as target, guarded or not; 0 if none."
 fn latest_copy(case: &Case, earlier: &[u16], name: Name) -> u16 {
-    earlier
-        .iter()
-        .rev()
-        .copied()
-        .find(|&line| is_copy(case, line, name))
-        .unwrap_or(0)
+    earlier.iter().rev().copied().find(|&line| is_copy(case, line, name)).unwrap_or(0)
 }
 
 /// Whether the line has the name as target.
 pub fn is_copy(case: &Case, line: u16, name: Name) -> bool {
     let record = case.record(line);
-    let left_out =
-        case.wrong == Wrong::GuardedStoreIsNoCopy && record.kind == STORE && record.guard != 0;
+    let left_out = case.wrong == Wrong::GuardedStoreIsNoCopy && record.kind == STORE && record.guard != 0;
     record.target_name() == Some(name) && !left_out
 }

@@ -24,9 +24,7 @@ pub struct Second {
 }
 
 /// The second implementation as it should be.
-pub const RIGHT: Second = Second {
-    wrong: Wrong::Nothing,
-};
+pub const RIGHT: Second = Second { wrong: Wrong::Nothing };
 
 pub fn accept(case: &[u8]) -> Verdict {
     RIGHT.accept(case)
@@ -62,18 +60,15 @@ impl Calls for Second {
     }
 
     fn check(&self, case: &[u8], assignment: &[u16]) -> Checked {
-        self.try_check(case, assignment)
-            .unwrap_or_else(Checked::from)
+        self.try_check(case, assignment).unwrap_or_else(Checked::from)
     }
 
     fn decode(&self, case: &[u8], assignment: &[u16], schedule: &mut [u16]) -> Decoded {
-        self.try_decode(case, assignment, schedule)
-            .unwrap_or_else(Decoded::from)
+        self.try_decode(case, assignment, schedule).unwrap_or_else(Decoded::from)
     }
 
     fn replay(&self, case: &[u8], schedule: &[u16], items: &mut [u16]) -> Replayed {
-        self.try_replay(case, schedule, items)
-            .unwrap_or_else(Replayed::from)
+        self.try_replay(case, schedule, items).unwrap_or_else(Replayed::from)
     }
 
     fn listing(&self, case: &[u8], text: &mut [u8]) -> Listed {
@@ -87,29 +82,18 @@ impl Second {
         let rows = encode::rows(&case);
         room_for(6 * rows.len(), table)?;
         self.write(&rows.concat(), table);
-        Ok(Encoded::Table {
-            constraints: rows.len() as u16,
-            variables: case.variables() as u16,
-        })
+        Ok(Encoded::Table { constraints: rows.len() as u16, variables: case.variables() as u16 })
     }
 
     fn try_check(&self, bytes: &[u8], assignment: &[u16]) -> Result<Checked, Refusal> {
         let case = read(bytes, self.wrong)?;
         fits_variables(&case, assignment)?;
-        let assigned = Assigned {
-            case: &case,
-            numbers: assignment,
-        };
+        let assigned = Assigned { case: &case, numbers: assignment };
         let failed = assigned.first_failed(&encode::rows(&case));
         Ok(failed.map_or(Checked::Meets, Checked::Fails))
     }
 
-    fn try_decode(
-        &self,
-        bytes: &[u8],
-        assignment: &[u16],
-        schedule: &mut [u16],
-    ) -> Result<Decoded, Refusal> {
+    fn try_decode(&self, bytes: &[u8], assignment: &[u16], schedule: &mut [u16]) -> Result<Decoded, Refusal> {
         let case = read(bytes, self.wrong)?;
         if self.wrong == Wrong::LengthBeforeRoom {
             fits_variables(&case, assignment)?;
@@ -117,26 +101,16 @@ impl Second {
         room_for(case.schedule_numbers(), schedule)?;
         fits_variables(&case, assignment)?;
         let rows = encode::rows(&case);
-        let assigned = Assigned {
-            case: &case,
-            numbers: assignment,
-        };
+        let assigned = Assigned { case: &case, numbers: assignment };
         if let Some(place) = assigned.first_failed(&rows) {
             return Err(Refusal { number: 15, place });
         }
         let decoded = decode::schedule(&assigned, &rows);
         self.write(&decoded, schedule);
-        Ok(Decoded::Schedule {
-            numbers: decoded.len() as u16,
-        })
+        Ok(Decoded::Schedule { numbers: decoded.len() as u16 })
     }
 
-    fn try_replay(
-        &self,
-        bytes: &[u8],
-        schedule: &[u16],
-        items: &mut [u16],
-    ) -> Result<Replayed, Refusal> {
+    fn try_replay(&self, bytes: &[u8], schedule: &[u16], items: &mut [u16]) -> Result<Replayed, Refusal> {
         let case = read(bytes, self.wrong)?;
         room_for(case.items(), items)?;
         fits_blocks_and_inputs(&case, schedule)?;
@@ -176,9 +150,7 @@ impl Second {
         }
         room_for(text.len(), output)?;
         self.write(text, output);
-        Ok(Listed::Text {
-            bytes: text.len() as u16,
-        })
+        Ok(Listed::Text { bytes: text.len() as u16 })
     }
 
     /// "An output slice is written from its start; numbers beyond the result

@@ -42,10 +42,7 @@ fn has_whole_records(bytes: &[u8]) -> bool {
 
 /// "Fields are unsigned, 16 bits wide, low byte first".
 fn split(bytes: &[u8], wrong: Wrong) -> Case {
-    let fields: Vec<u16> = bytes
-        .chunks_exact(2)
-        .map(|pair| u16::from_le_bytes([pair[0], pair[1]]))
-        .collect();
+    let fields: Vec<u16> = bytes.chunks_exact(2).map(|pair| u16::from_le_bytes([pair[0], pair[1]])).collect();
     let (header, rest) = fields.split_at(16);
     Case {
         threads: usize::from(header[0]),
@@ -97,10 +94,7 @@ fn follow_chains(case: &Case) -> Option<Vec<Vec<u16>>> {
     }
     let mut reached = vec![false; records];
     let firsts = &case.firsts[..case.threads];
-    firsts
-        .iter()
-        .map(|&first| follow_chain(case, first, &mut reached))
-        .collect()
+    firsts.iter().map(|&first| follow_chain(case, first, &mut reached)).collect()
 }
 
 fn follow_chain(case: &Case, first: u16, reached: &mut [bool]) -> Option<Vec<u16>> {
@@ -122,10 +116,7 @@ fn follow_chain(case: &Case, first: u16, reached: &mut [bool]) -> Option<Vec<u16
 /// "A record breaks the rules of its fields; the place is the lowest such
 /// record."
 fn lowest_broken_record(case: &Case) -> Option<u16> {
-    let broken = case
-        .records
-        .iter()
-        .position(|record| !keeps_the_rules(case, record))?;
+    let broken = case.records.iter().position(|record| !keeps_the_rules(case, record))?;
     Some(broken as u16 + 1)
 }
 
@@ -155,11 +146,7 @@ fn keeps_the_rules(case: &Case, record: &Record) -> bool {
 /// is 0)", and "c is 0 unless a used operand is 16".
 fn is_expression(record: &Record) -> bool {
     let uses_b = record.op != 0;
-    let b_is_kept = if uses_b {
-        record.b <= 16
-    } else {
-        record.b == 0
-    };
+    let b_is_kept = if uses_b { record.b <= 16 } else { record.b == 0 };
     let uses_c = record.a == 16 || (uses_b && record.b == 16);
     record.op <= 6 && record.a <= 16 && b_is_kept && (uses_c || record.c == 0)
 }

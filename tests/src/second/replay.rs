@@ -34,10 +34,7 @@ pub struct Machine<'a> {
 impl<'a> Machine<'a> {
     pub fn new(case: &'a Case, schedule: &'a [u16]) -> Self {
         let firsts = &case.firsts[..case.threads];
-        let at_start = |&first: &u16| Thread {
-            next_line: first,
-            locals: [0; 16],
-        };
+        let at_start = |&first: &u16| Thread { next_line: first, locals: [0; 16] };
         Machine {
             case,
             schedule,
@@ -76,11 +73,8 @@ impl<'a> Machine<'a> {
             return None;
         }
         let record = case.record(line);
-        let stop = if self.guard_is_true(thread, record) {
-            self.run_line(thread, line, record)
-        } else {
-            self.pass_line(line, record)
-        };
+        let stop =
+            if self.guard_is_true(thread, record) { self.run_line(thread, line, record) } else { self.pass_line(line, record) };
         if stop.is_none() {
             // "After any other step the record that follows becomes the next
             // line."
