@@ -3,28 +3,9 @@
 # the Rust package tells numbers that stand for no answer, and the command a reply or items that its own walk does not find.
 set -u
 cd -- "$(dirname -- "${BASH_SOURCE[0]}")/.." || exit
+. tests/counting.sh || exit
 scratch=$(mktemp -d) || exit
 trap 'rm -rf -- "$scratch"' EXIT
-passed=0
-failed=0
-
-# result NAME COMMAND..: the command tells whether the case NAME passed.
-result() {
-    local name=$1
-    shift
-    if "$@"; then
-        passed=$((passed + 1))
-    else
-        failed=$((failed + 1))
-        printf 'FAILED: %s (exit status %s)\n%s\n' "$name" "$status" "$out" | sed 's/^/    /'
-    fi
-}
-
-# run COMMAND..: sets status, and out to what it printed, errors too.
-run() {
-    out=$("$@" 2>&1 </dev/null)
-    status=$?
-}
 
 # compile FILE.c WORDS..: with every warning an error.
 compile() {
@@ -82,5 +63,4 @@ run grep -rnE --include='*.rs' '\bunsafe\b' tool bindings
 rest=$(grep -vE '^bindings/rust/src/(lib|library)\.rs:|forbid\(unsafe_code\)' <<<"$out")
 result 'unsafe code is in library.rs alone' test -z "$rest"
 
-echo "$passed passed, $failed failed"
-[ "$failed" = 0 ]
+finish

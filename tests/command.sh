@@ -4,28 +4,16 @@
 # texts anew.
 set -u
 cd -- "$(dirname -- "${BASH_SOURCE[0]}")/.." || exit
+. tests/counting.sh || exit
 scratch=$(mktemp -d) || exit
 trap 'rm -rf -- "$scratch"' EXIT
 store=no
 [ "${1:-}" != --store ] || store=yes
-passed=0
-failed=0
 menduvo=$PWD/bin/menduvo
 seen=$PATH # the PATH that the command sees
 
-# result NAME COMMAND..: the command tells whether the case NAME passed.
-result() {
-    local name=$1
-    shift
-    if "$@"; then
-        passed=$((passed + 1))
-    else
-        failed=$((failed + 1))
-        printf 'FAILED: %s (exit status %s)\n%s\n' "$name" "$status" "$out" | sed 's/^/    /'
-    fi
-}
-
-# run COMMAND..: sets status, and out to what it printed, errors too. The scratch folder's name is no part of that.
+# run COMMAND..: as in counting.sh, with the PATH that the command sees. The output stays in a file too, without the scratch
+# folder's name.
 run() {
     env PATH="$seen" timeout 60 "$@" >"$scratch/out" 2>&1 </dev/null
     status=$?
@@ -337,5 +325,4 @@ fake_solvers
 real_solvers
 outputs
 building
-echo "$passed passed, $failed failed"
-[ "$failed" = 0 ]
+finish

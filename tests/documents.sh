@@ -1,4 +1,4 @@
-#!/bin/sh
+#!/usr/bin/env bash
 # The documents, held to the tree: what they name in backticks must be there. A definition, a lemma or an example that is renamed,
 # an edit or a file that goes, is found here. By its form a text in backticks is
 #   a/b.c       a path, from the root or from crates/; or crates/a/must-fail/b.edit; or tests/a/b.edit
@@ -10,10 +10,11 @@
 #               folder named before it in the same cell
 # and anything else (commands, types, words of other programs) is not looked at. Nothing is left to be filled in.
 # README.md names every module of definitions that the one statement rests on: those that it reaches by imports.
-# Ends with a line 'N passed, M failed'.
-cd -- "$(dirname -- "$0")/.." || exit
-there=$(mktemp) || exit
-trap 'rm -f -- "$there"' EXIT
+set -u
+cd -- "$(dirname -- "${BASH_SOURCE[0]}")/.." || exit
+. tests/counting.sh || exit
+scratch=$(mktemp -d) || exit
+trap 'rm -rf -- "$scratch"' EXIT
 
 # imports FILE..: the modules of definitions that the files import.
 imports() {
@@ -22,6 +23,7 @@ imports() {
 
 # From the one statement and the exported calls, until nothing more is reached.
 all=$(imports crates/menduvo/proofs/Delivered.antt crates/menduvo/src/lib.rt | sort -u)
+rest=
 while [ "$all" != "$rest" ]; do
     rest=$all
     # shellcheck disable=SC2086 # paths without blanks, one word each
@@ -57,8 +59,9 @@ done
             many = split(substr(line, 1, RLENGTH - 1), word, /[ :]+/)
             for (i = 1; i <= many && word[i] !~ /^[({]/; i++) print "name", part[2], module, word[i]
         }' crates/*/specs/*.antt crates/*/proofs/*.antt
-} >"$there"
+} >"$scratch/there"
 
+# What is found, a line for each check: true or false, then where and what.
 awk '
     # ---- What there is.
     FILENAME != last { last = FILENAME; file++ }
@@ -74,8 +77,7 @@ awk '
 
     # ---- What the documents name.
     function result(holds, what) {
-        if (holds) passed++
-        else { failed++; print "failed: " FILENAME ":" FNR ": " what }
+        print (holds ? "true " : "false ") FILENAME ":" FNR ": " what
     }
     function path(t,    part) {
         if (t ~ /\/$/) folder = t
@@ -122,6 +124,10 @@ awk '
     END {
         FILENAME = "README.md"
         for (module in rests) result(module in named_in_readme, "does not name " module ", which the one statement rests on")
-        print passed + 0 " passed, " failed + 0 " failed"
-        exit failed > 0
-    }' "$there" README.md docs/PROOF.md docs/SPEC-MAP.md docs/DECISIONS.md
+    }' "$scratch/there" README.md docs/PROOF.md docs/SPEC-MAP.md docs/DECISIONS.md >"$scratch/found" ||
+    result 'the documents are read to their end' false
+
+while read -r holds what; do
+    result "$what" "$holds"
+done <"$scratch/found"
+finish

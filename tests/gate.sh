@@ -4,11 +4,10 @@
 # second, proves nothing, installs nothing, and does not call itself.
 set -u
 cd -- "$(dirname -- "${BASH_SOURCE[0]}")/.." || exit
+. tests/counting.sh || exit
 scratch=$(mktemp -d) || exit
 trap 'rm -rf -- "$scratch"' EXIT
 bin=$scratch/bin repo=$scratch/repo
-passed=0
-failed=0
 
 # fake FILE BODY: an executable script.
 fake() {
@@ -44,18 +43,6 @@ fresh() {
     echo 'echo this is no test; exit 1' >"$repo/tests/helper.sh"
     : >"$repo/tests/Cargo.toml"
     : >"$repo/crates.txt"
-}
-
-# result NAME COMMAND..: the command tells whether the case NAME passed.
-result() {
-    local name=$1
-    shift
-    if "$@"; then
-        passed=$((passed + 1))
-    else
-        failed=$((failed + 1))
-        printf 'FAILED: %s\n%s\n' "$name" "$out" | sed 's/^/    /'
-    fi
 }
 
 # gate [VAR=VALUE..]: run the copy with these variables. Sets out and status.
@@ -158,5 +145,4 @@ red 'crates.txt is missing' 'toolchain: exit status 1' '17 passed, 1 failed'
 fresh && chmod -x "$repo"/tests/*.sh
 red 'no test is executable' 'tests/*.sh: no test script to run: exit status 1' '15 passed, 1 failed'
 
-echo "$passed passed, $failed failed"
-[ "$failed" = 0 ]
+finish

@@ -1,10 +1,10 @@
-#!/bin/sh
+#!/usr/bin/env bash
 # The listing program on several inputs: what it prints is held to what document 01 says. It takes the program's path; without
 # one it runs target/bin/listing.
-# Ends with a line 'N passed, M failed'.
-program=${1:-target/bin/listing}
-passed=0
-failed=0
+set -u
+tests=$(dirname -- "${BASH_SOURCE[0]}")
+. "$tests/counting.sh" || exit
+program=${1:-$tests/../target/bin/listing}
 
 # Fields of 16 bits, low byte first.
 fields() {
@@ -13,14 +13,10 @@ fields() {
     done
 }
 
-# what is tried, what it gave, what it should give
+# same NAME FOUND WANTED: what the program printed is what it should.
 same() {
-    if [ "$2" = "$3" ]; then
-        passed=$((passed + 1))
-    else
-        failed=$((failed + 1))
-        printf 'failed: %s\n%s\n' "$1" "$2"
-    fi
+    out=$2
+    result "$1" test "$2" = "$3"
 }
 
 goal='7 0 0 0 0 0'
@@ -69,5 +65,4 @@ $goal"
 same 'a folder as input' "$("$program" </)" 'read error'
 same 'a full device as output' "$(fields 2 0 0 0 0 0 0 0 0 0 0 0 0 0 0 0 | "$program" 2>&1 >/dev/full)" 'write error'
 
-echo "$passed passed, $failed failed"
-[ "$failed" -eq 0 ]
+finish

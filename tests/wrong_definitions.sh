@@ -7,10 +7,9 @@
 # The edits in not-refused and bad test this script: it must not take one of them for refused.
 set -u
 cd -- "$(dirname -- "${BASH_SOURCE[0]}")/.." || exit
+. tests/counting.sh || exit
 scratch=$(mktemp -d) || exit
 trap 'rm -rf -- "$scratch"' EXIT
-passed=0
-failed=0
 
 # fresh FOLDER: a repository of what the theorem rests on. Case A, the worked examples and the laws on
 # sizes are left out: they too refuse many of the edits, and it is the theorem that must.
@@ -86,13 +85,7 @@ for edit in "${edits[@]}"; do
     *) wanted='refused: ' ;;
     esac
     found=$(<"$scratch/$name/verdict")
-    if [[ $found = "$wanted"* ]]; then
-        passed=$((passed + 1))
-        echo "${name%.edit}: $found"
-    else
-        failed=$((failed + 1))
-        echo "FAILED: $name: $found"
-    fi
+    echo "${name%.edit}: $found"
+    result "$name" eval '[[ $found = "$wanted"* ]]'
 done
-echo "$passed passed, $failed failed"
-[ "$failed" = 0 ]
+finish
