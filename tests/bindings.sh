@@ -1,6 +1,7 @@
 #!/usr/bin/env bash
 # Tests the bindings: from C, every call that bindings/menduvo.h declares on the static library; and over a library that lies, that
-# the Rust package tells numbers that stand for no answer, and the command a reply or items that its own walk does not find.
+# the Rust package tells numbers that stand for no answer, the command a reply or items that its own walk does not find, and the
+# comparison with plain Rust other answers.
 set -u
 cd -- "$(dirname -- "${BASH_SOURCE[0]}")/.." || exit
 . tests/counting.sh || exit
@@ -57,6 +58,11 @@ lies answer 'numbers that stand for no answer' replay cases/case-a.case cases/ca
 lies 'fails 0' 'numbers that stand for no answer' check cases/case-a.case cases/case-a.assignment
 lies 'refusal 16' 'numbers that stand for no answer' decode cases/case-a.case cases/case-a.assignment
 lies listing 'numbers that stand for no answer' list cases/case-a.case
+
+# The comparison with plain Rust, over the same library. These answers fit no sample.
+run env MENDUVO_LIB_DIR="$scratch" cargo run --offline --quiet --manifest-path bench/Cargo.toml --target-dir "$scratch/built" \
+    -- --answers
+result 'plain Rust answers otherwise' test "$status, ${out##*$'\n'}" = '1, 0 passed, 11 failed'
 
 # Unsafe code stands in one place.
 run grep -rnE --include='*.rs' '\bunsafe\b' tool bindings

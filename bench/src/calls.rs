@@ -36,6 +36,7 @@ type Answers = (Verdict, Encoded, Checked, Decoded, Replayed, Listed);
 /// That both give the same answers and leave the same in the buffers, and the answers that the sample was made for.
 pub fn agree(sample: &Sample) -> Result<(), String> {
     let Sample { name, case, assignment, schedule } = sample;
+    let failure = |message: String| Err(format!("{name} (R {}, n {}): {message}", sample.records(), sample.switches()));
     let (mut proved_buffers, mut plain_buffers) = (Buffers::new(), Buffers::new());
     let b = &mut proved_buffers;
     let proved: Answers = (
@@ -56,15 +57,15 @@ pub fn agree(sample: &Sample) -> Result<(), String> {
         plain::listing(case, &mut b.text),
     );
     if proved != plain {
-        return Err(format!("{name}: the library answers {proved:?}, plain Rust {plain:?}"));
+        return failure(format!("the library answers {proved:?}, plain Rust {plain:?}"));
     }
     if proved_buffers != plain_buffers {
-        return Err(format!("{name}: the library and plain Rust leave different buffers"));
+        return failure("the library and plain Rust leave different buffers".to_string());
     }
     let (_, _, checked, _, replayed, _) = proved;
     let decoded = &proved_buffers.schedule[..schedule.len()];
     if checked != Checked::Meets || decoded != schedule || !matches!(replayed, Replayed::Violated(_)) {
-        return Err(format!("{name}: not the answers that it was made for: {proved:?}"));
+        return failure(format!("not the answers that it was made for: {proved:?}"));
     }
     Ok(())
 }

@@ -1,8 +1,9 @@
 //! How fast the proved calls are, beside the same calls in plain Rust built for release: nanoseconds for one call, and ratios.
 //! Nothing passes or fails by its speed. The program fails where the two give different answers.
 //!
-//! With the arguments CALL SIDE TIMES it makes just this call, so many times on the largest case, and prints nothing: that is
-//! for `bench/instructions`. Other arguments are an error.
+//! With the argument --answers it times nothing: it compares the answers on every sample, and its last line is 'N passed, M
+//! failed'. With the arguments CALL SIDE TIMES it makes just this call, so many times on the largest case, and prints nothing:
+//! that is for `bench/instructions`. Other arguments are an error.
 #![forbid(unsafe_code)]
 
 mod calls;
@@ -16,14 +17,16 @@ use std::hint::black_box;
 use std::process::ExitCode;
 
 use calls::Buffers;
-use sample::{Sample, Shape, LARGEST, MIDDLE};
+use sample::{Sample, Samples, LARGEST};
 
-const USAGE: &str = "usage: menduvo-bench [CALL SIDE TIMES], where SIDE is proved or plain";
+const USAGE: &str = "usage: menduvo-bench [--answers | CALL SIDE TIMES], where SIDE is proved or plain";
 
 fn main() -> ExitCode {
     let arguments: Vec<String> = std::env::args().skip(1).collect();
-    let result = match &arguments[..] {
+    let arguments: Vec<&str> = arguments.iter().map(String::as_str).collect();
+    let result = match arguments[..] {
         [] => measure_all(),
+        ["--answers"] => return compare_answers(),
         [name, side, times] => repeat(name, side, times),
         _ => Err(USAGE.to_string()),
     };
@@ -47,25 +50,35 @@ fn repeat(name: &str, side: &str, times: &str) -> Result<(), String> {
     Ok(())
 }
 
-fn measure_all() -> Result<(), String> {
-    let sizes = [Sample::small(), Sample::made(MIDDLE), Sample::made(LARGEST)];
-    let lines: [&[usize]; 4] = [&[8; 4], &[16; 4], &[32; 4], &[64; 4]];
-    let by_records = lines.map(|lines| Sample::made(Shape { lines, ..LARGEST }));
-    let by_switches = [3, 7, 11, 15].map(|switches| Sample::made(Shape { switches, ..LARGEST }));
-    for sample in sizes.iter().chain(&by_records).chain(&by_switches) {
-        calls::agree(sample)?;
+fn compare_answers() -> ExitCode {
+    let (mut passed, mut failed) = (0, 0);
+    for sample in Samples::all().iter() {
+        match calls::agree(sample) {
+            Ok(()) => passed += 1,
+            Err(message) => {
+                failed += 1;
+                println!("FAILED: {message}");
+            }
+        }
     }
+    println!("{passed} passed, {failed} failed");
+    ExitCode::from(u8::from(failed > 0))
+}
+
+fn measure_all() -> Result<(), String> {
+    let samples = Samples::all();
+    samples.iter().try_for_each(calls::agree)?;
     let mut buffers = Buffers::new();
     let mut measure = |sample: &Sample| calls::times(sample, &mut buffers);
     report::heading();
-    report::sizes(&sizes.each_ref().map(|sample| (sample, measure(sample))));
+    report::sizes(&samples.sizes.each_ref().map(|sample| (sample, measure(sample))));
     report::growth(
         "How time grows with R, the number of records (4 threads, n 15, 12 items)",
-        &by_records.each_ref().map(|sample| (format!("R {}", sample.records()), measure(sample))),
+        &samples.by_records.each_ref().map(|sample| (format!("R {}", sample.records()), measure(sample))),
     );
     report::growth(
         "How time grows with n, the number of switches (4 threads, R 256, 12 items)",
-        &by_switches.each_ref().map(|sample| (format!("n {}", sample.switches()), measure(sample))),
+        &samples.by_switches.each_ref().map(|sample| (format!("n {}", sample.switches()), measure(sample))),
     );
     Ok(())
 }

@@ -22,7 +22,29 @@ pub struct Shape {
 
 /// The most of everything: 256 records, 15 switches, 12 items.
 pub const LARGEST: Shape = Shape { name: "largest", lines: &[64; 4], switches: 15, globals: 8, mutexes: 4 };
-pub const MIDDLE: Shape = Shape { name: "middle", lines: &[22, 21, 21], switches: 8, globals: 4, mutexes: 2 };
+const MIDDLE: Shape = Shape { name: "middle", lines: &[22, 21, 21], switches: 8, globals: 4, mutexes: 2 };
+
+/// All inputs, by the tables that they are for.
+pub struct Samples {
+    pub sizes: [Sample; 3],
+    pub by_records: [Sample; 4],
+    pub by_switches: [Sample; 4],
+}
+
+impl Samples {
+    pub fn all() -> Samples {
+        let lines: [&[usize]; 4] = [&[8; 4], &[16; 4], &[32; 4], &[64; 4]];
+        Samples {
+            sizes: [Sample::small(), Sample::made(MIDDLE), Sample::made(LARGEST)],
+            by_records: lines.map(|lines| Sample::made(Shape { lines, ..LARGEST })),
+            by_switches: [3, 7, 11, 15].map(|switches| Sample::made(Shape { switches, ..LARGEST })),
+        }
+    }
+
+    pub fn iter(&self) -> impl Iterator<Item = &Sample> {
+        self.sizes.iter().chain(&self.by_records).chain(&self.by_switches)
+    }
+}
 
 impl Sample {
     /// Document 01's case A, with the schedule and the assignment of P1 and P6.

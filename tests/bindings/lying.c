@@ -31,7 +31,7 @@ MenduvoNumbers menduvo_check(const uint8_t *case_, size_t case_len, const uint16
 MenduvoNumbers menduvo_decode(const uint8_t *case_, size_t case_len, const uint16_t *assignment, size_t assignment_len,
                               uint16_t *schedule, size_t schedule_len) {
     (void)case_, (void)case_len, (void)assignment, (void)assignment_len, (void)schedule, (void)schedule_len;
-    MenduvoNumbers refused = {16, 0, 0, 0, 0};
+    MenduvoNumbers refused = {lie_is("refusal 16") ? 16 : 15, 0, 0, 0, 0};
     return refused;
 }
 
