@@ -32,6 +32,7 @@ fresh() {
     esac'
     fake "$bin/cargo" 'case $1 in
         --version) echo a fake ;;
+        clippy) eval "${CLIPPY:-}" ;;
         run) eval "${CARGO:-echo 08 passed, 00 failed}" ;;
     esac'
     fake "$bin/rustc" 'echo a fake'
@@ -140,6 +141,9 @@ red 'rt is missing' 'rt staticlib menduvo: exit status 127' '12 passed, 4 failed
 result 'rt is named' says 'missing, or does not run: rt'
 fresh && rm "$bin/cargo"
 red 'cargo is missing' "tests/Cargo.toml: $no_count (exit status 127)" '9 passed, 2 failed'
+fresh
+red 'clippy is missing' 'toolchain: exit status 1' '17 passed, 1 failed' CLIPPY='exit 101'
+result 'clippy is named' says 'missing, or does not run: cargo clippy'
 fresh && rm "$repo/crates.txt"
 red 'crates.txt is missing' 'toolchain: exit status 1' '17 passed, 1 failed'
 fresh && chmod -x "$repo"/tests/*.sh
