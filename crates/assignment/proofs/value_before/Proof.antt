@@ -1,10 +1,10 @@
--- `row::value_before` meets its contract. Assumes nothing.
+-- `assignment::value_before` meets its contract. Assumes nothing.
 use mathlib.Core.Path.{_∙_}
 use borrow.Author.Needs.{needs}
-use Rattle.row.proofs.Laws.{value-before-later}
+use Rattle.assignment.proofs.BlockValues.{value-before-later}
 use Rattle.model.specs.Copies.{valueBefore}
-use Rattle.row.proofs.value_before.Statement.{statement}
-use Rattle.row.proofs.value_before.Tie as tie
+use Rattle.assignment.proofs.value_before.Statement.{statement}
+use Rattle.assignment.proofs.value_before.Tie as tie
 
 initial-value-requires : tie.Need-initial-value-requires
 initial-value-requires c κs = search needs

@@ -1,7 +1,7 @@
--- `row::block_of` meets its contract. Assumes nothing.
+-- `assignment::block_of` meets its contract. Assumes nothing.
 use borrow.Author.Needs.{needs}
-use Rattle.row.proofs.block_of.Statement.{statement}
-use Rattle.row.proofs.block_of.Tie as tie
+use Rattle.assignment.proofs.block_of.Statement.{statement}
+use Rattle.assignment.proofs.block_of.Tie as tie
 
 start-of-requires : tie.Need-start-of-requires
 start-of-requires c κs = search needs

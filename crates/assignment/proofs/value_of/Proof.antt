@@ -1,7 +1,7 @@
--- `row::value_of` meets its contract. Assumes nothing.
+-- `assignment::value_of` meets its contract. Assumes nothing.
 use borrow.Author.Needs.{needs}
-use Rattle.row.proofs.value_of.Statement.{statement}
-use Rattle.row.proofs.value_of.Tie as tie
+use Rattle.assignment.proofs.value_of.Statement.{statement}
+use Rattle.assignment.proofs.value_of.Tie as tie
 
 start-of-requires : tie.Need-start-of-requires
 start-of-requires c κs = search needs
