@@ -6,6 +6,7 @@ use Prim.Native.Nat.{ℕ, _+_}
 use mathlib.Core.Bool.{Bool, true, false, cond, not}
 use lib.Dec.{eqb}
 use borrow.Author.Tests.{ne-eqb, not-true, not-false}
+use Rattle.laws.specs.RowCounts.{valueRowCount}
 use Rattle.laws.proofs.Views.{EqView, same, diff, eq-view}
 use Rattle.model.specs.CaseFile.{Kind, compute, store, load, input, assert, assume, lock, unlock, Line, kindOf}
 use Rattle.model.specs.Line.{Reads, noName, itemName, localName, nameOfA, hasExpression, nameOfB, nameOfTarget, guardedInValue, guardedOutValue, breaks, isInput}
@@ -189,4 +190,18 @@ input-other k n = go (kindOf k) (kind-view k)
     go assert v = refl
     go assume v = refl
     go lock v = refl
+    go unlock v = refl
+
+pub rows-other : (k : ℕ) → Not2 k 6 7 → 1 ≡ valueRowCount (kindOf k)
+unfolding valueRowCount
+rows-other k n = go (kindOf k) (kind-view k)
+  where
+    go : (κ : Kind) → KindView k κ → 1 ≡ valueRowCount κ
+    go compute v = refl
+    go store v = refl
+    go load v = refl
+    go input v = refl
+    go assert v = refl
+    go assume (is6 e) = absurd (n .0 .1 e)
+    go lock (is7 e) = absurd (n .1 e)
     go unlock v = refl

@@ -10,6 +10,7 @@ ghost use Rattle.model.specs.CaseFile.{kindOf};
 ghost use Rattle.model.specs.Line.{localName, itemName, guardName, operandA, hasExpression, operandB, targetName, guardTrue, operandValue, expression, guardedInValue, guardedOutValue, valueOf};
 ghost use Rattle.model.specs.Line as model;
 ghost use Rattle.model.specs.Machine.{look, putLocal, putItem};
+ghost use Rattle.laws.specs.RowCounts.{valueRowCount};
 ghost use Rattle.case_file.specs.Records.{asLine};
 ghost use Rattle.line.specs.LineReads.{memory, readsAt};
 use case_file::Record;
@@ -96,6 +97,20 @@ pub fn target_name(globals: usize, l: Record) -> usize
         5 => NAMES,
         6 => NAMES,
         _ => LOCALS + (globals + target as usize),
+    }
+}
+
+// How many order rows a line has in the table: a 3, and a 1 or a 2.
+pub const ORDER_ROWS: usize = 2;
+
+// How many other rows a line of a kind has: a 4, and a 5 for assume and lock.
+pub fn value_rows(kind: u16) -> usize
+    ensures { λ r. ⌜ r ≡ valueRowCount (kindOf kind) ⌝ }
+{
+    match kind {
+        6 => 2,
+        7 => 2,
+        _ => 1,
     }
 }
 
