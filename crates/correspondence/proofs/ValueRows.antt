@@ -1,20 +1,17 @@
 -- Constraints 4 and 5 of the table hold just when each line has its value and meets its demand.
 -- Assumes nothing. Met again in Rows.
-use mathlib.Core.Path.{_≡_, refl, sym, ap, _∙_, subst, fun-ext}
+use mathlib.Core.Path.{_≡_, refl, sym, ap, _∙_, subst}
 use Prim.Native.Nat.{ℕ, zero, suc, _+_, _≤_, _<_}
-use mathlib.Core.Bool.{true, cond, not}
+use mathlib.Core.Bool.{true, not}
 use mathlib.Core.List.{List, [], _∷_}
 use native.Mathlib.Omega.{arith}
-use lib.Dec.{eqb, ltb}
 use lib.ListN.{getD, length}
 use borrow.Author.Tests.{eqb-true, eq-eqb, not-true}
-use Rattle.laws.proofs.Views.{EqView, same, diff, eq-view}
-use Rattle.model.specs.Word.{nonzero}
 use Rattle.model.specs.Limits.{localCount}
 use Rattle.model.specs.CaseFile.{Kind, compute, store, load, input, assert, assume, lock, unlock, Line, Case, itemCount, lineAt}
-use Rattle.model.specs.Line.{noName, guardName, targetName, Reads, readsOf, guardTrue, valueOf}
+use Rattle.model.specs.Line.{noName, targetName, guardTrue, valueOf}
 use Rattle.model.specs.Assignment.{Assignment}
-use Rattle.model.specs.Copies.{copyOf, readName, readAfter, readsAfter}
+use Rattle.model.specs.Copies.{readsAfter}
 use Rattle.model.specs.Table.{valueRow, demandRows, valueRows, allValueRows}
 use Rattle.model.specs.Holds.{readsWith, demandMet, holds}
 use Rattle.laws.specs.Order.{AllLines}

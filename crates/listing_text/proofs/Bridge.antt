@@ -163,6 +163,3 @@ pub whole-text :
 unfolding listedInto
 whole-text bytes slice x r size er h e ex =
     (cc (never-refused bytes (length slice) h), ex ∙ ap (λ (q : Listed). afterListed q (listingText bytes) slice) (never-refused bytes (length slice) h))
-
-pub length-of-text : (l : Listed) (size : ℕ) → l ≡ Text size → listedNumbers l .first ≤ mostListingBytes → size ≤ mostListingBytes
-length-of-text l size e h = rw e at h

@@ -2,106 +2,18 @@
 // each call answers and leaves in the lent slices is defined in `model`'s specs/Accept.antt, specs/Answers.antt and
 // specs/Listing.antt. The one statement about them all is proofs/Delivered.antt.
 ghost use mathlib.Core.Path.{_≡_};
-ghost use Prim.Native.Nat.{_≤_};
 ghost use lib.ListN.{length};
-ghost use Rattle.model.specs.Limits.{mostListingBytes};
 ghost use Rattle.model.specs.Accept.{verdict};
 ghost use Rattle.model.specs.Answers.{encoded, encodedInto, checked, decoded, decodedInto, replayed, replayedInto};
-ghost use Rattle.model.specs.Answers.{refusedNumbers, answerNumbers, verdictNumbers, encodedNumbers, checkedNumbers, decodedNumbers, replayedNumbers};
+ghost use Rattle.model.specs.Answers.{verdictNumbers, encodedNumbers, checkedNumbers, decodedNumbers, replayedNumbers};
 ghost use Rattle.model.specs.Listing.{listed, listedInto, listedNumbers};
-use model::Checked;
-use model::Decoded;
-use model::Encoded;
-use model::Listed;
+use answer_numbers::checked_numbers;
+use answer_numbers::decoded_numbers;
+use answer_numbers::encoded_numbers;
+use answer_numbers::listed_numbers;
+use answer_numbers::replayed_numbers;
+use answer_numbers::verdict_numbers;
 use model::Numbers;
-use model::Replayed;
-use model::Verdict;
-
-fn refusal(number: u16, place: u16) -> Numbers
-    ensures { λ r. ⌜ r ≡ refusedNumbers number place ⌝ }
-{
-    Numbers {
-        refusal: number,
-        place,
-        answer: 0,
-        first: 0,
-        second: 0,
-    }
-}
-
-fn answer(answer: u16, first: u16, second: u16) -> Numbers
-    ensures { λ r. ⌜ r ≡ answerNumbers answer first second ⌝ }
-{
-    Numbers {
-        refusal: 0,
-        place: 0,
-        answer,
-        first,
-        second,
-    }
-}
-
-fn verdict_numbers(v: Verdict) -> Numbers
-    ensures { λ r. ⌜ r ≡ verdictNumbers v ⌝ }
-{
-    match v {
-        Verdict::Accepted => answer(1, 0, 0),
-        Verdict::Refused { number, place } => refusal(number, place),
-    }
-}
-
-fn encoded_numbers(e: Encoded) -> Numbers
-    ensures { λ r. ⌜ r ≡ encodedNumbers e ⌝ }
-{
-    match e {
-        Encoded::Table {
-            constraints,
-            variables,
-        } => answer(1, constraints, variables),
-        Encoded::Refused { number, place } => refusal(number, place),
-    }
-}
-
-fn checked_numbers(c: Checked) -> Numbers
-    ensures { λ r. ⌜ r ≡ checkedNumbers c ⌝ }
-{
-    match c {
-        Checked::Meets => answer(1, 0, 0),
-        Checked::Fails(constraint) => answer(2, constraint, 0),
-        Checked::Refused { number, place } => refusal(number, place),
-    }
-}
-
-fn decoded_numbers(d: Decoded) -> Numbers
-    ensures { λ r. ⌜ r ≡ decodedNumbers d ⌝ }
-{
-    match d {
-        Decoded::Schedule { numbers } => answer(1, numbers, 0),
-        Decoded::Refused { number, place } => refusal(number, place),
-    }
-}
-
-fn replayed_numbers(p: Replayed) -> Numbers
-    ensures { λ r. ⌜ r ≡ replayedNumbers p ⌝ }
-{
-    match p {
-        Replayed::Violated(k) => answer(1, k, 0),
-        Replayed::Clean => answer(2, 0, 0),
-        Replayed::CutOff(k) => answer(3, k, 0),
-        Replayed::Refused { number, place } => refusal(number, place),
-    }
-}
-
-// A listing's length is a number of 16 bits.
-fn listed_numbers(l: Listed) -> Numbers
-    requires { ⌜ listedNumbers l .first ≤ mostListingBytes ⌝ }
-    ensures { λ r. ⌜ r ≡ listedNumbers l ⌝ }
-{
-    match l {
-        Listed::Text { bytes } => answer(1, bytes as u16, 0),
-        Listed::Refused { number, place } => refusal(number, place),
-    }
-}
 
 // Whether the calls take the case: checks 1 to 9.
 #[no_mangle]

@@ -1,8 +1,8 @@
--- `menduvo::verdict_numbers` meets its contract.
+-- `answer_numbers::verdict_numbers` meets its contract.
 -- Assumes nothing.
 use borrow.Author.Needs.{needs}
-use Rattle.menduvo.proofs.verdict_numbers.Statement.{statement}
-use Rattle.menduvo.proofs.verdict_numbers.Tie as tie
+use Rattle.answer_numbers.proofs.verdict_numbers.Statement.{statement}
+use Rattle.answer_numbers.proofs.verdict_numbers.Tie as tie
 
 enum-told : tie.Need-enum-told
 enum-told c = search needs

@@ -1,8 +1,8 @@
--- `menduvo::encoded_numbers` meets its contract.
+-- `answer_numbers::encoded_numbers` meets its contract.
 -- Assumes nothing.
 use borrow.Author.Needs.{needs}
-use Rattle.menduvo.proofs.encoded_numbers.Statement.{statement}
-use Rattle.menduvo.proofs.encoded_numbers.Tie as tie
+use Rattle.answer_numbers.proofs.encoded_numbers.Statement.{statement}
+use Rattle.answer_numbers.proofs.encoded_numbers.Tie as tie
 
 enum-known-e : tie.Need-enum-known-e
 enum-known-e c = search needs

@@ -1,8 +1,8 @@
--- `menduvo::decoded_numbers` meets its contract.
+-- `answer_numbers::decoded_numbers` meets its contract.
 -- Assumes nothing.
 use borrow.Author.Needs.{needs}
-use Rattle.menduvo.proofs.decoded_numbers.Statement.{statement}
-use Rattle.menduvo.proofs.decoded_numbers.Tie as tie
+use Rattle.answer_numbers.proofs.decoded_numbers.Statement.{statement}
+use Rattle.answer_numbers.proofs.decoded_numbers.Tie as tie
 
 enum-known-d : tie.Need-enum-known-d
 enum-known-d c = search needs

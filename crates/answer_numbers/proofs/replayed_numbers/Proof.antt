@@ -1,8 +1,8 @@
--- `menduvo::replayed_numbers` meets its contract.
+-- `answer_numbers::replayed_numbers` meets its contract.
 -- Assumes nothing.
 use borrow.Author.Needs.{needs}
-use Rattle.menduvo.proofs.replayed_numbers.Statement.{statement}
-use Rattle.menduvo.proofs.replayed_numbers.Tie as tie
+use Rattle.answer_numbers.proofs.replayed_numbers.Statement.{statement}
+use Rattle.answer_numbers.proofs.replayed_numbers.Tie as tie
 
 enum-known-p : tie.Need-enum-known-p
 enum-known-p c = search needs

@@ -1,10 +1,18 @@
--- `menduvo::listed_numbers` meets its contract.
+-- `answer_numbers::listed_numbers` meets its contract.
 -- Assumes nothing.
+use mathlib.Core.Path.{_≡_}
+use Prim.Native.Nat.{ℕ, _≤_}
 use borrow.Author.Needs.{needs}
 use native.Mathlib.Omega.{arith}
-use Rattle.listing_text.proofs.Bridge.{length-of-text}
-use Rattle.menduvo.proofs.listed_numbers.Statement.{statement}
-use Rattle.menduvo.proofs.listed_numbers.Tie as tie
+use Rattle.model.specs.Limits.{mostListingBytes}
+use Rattle.model.specs.Listing.{listedNumbers}
+use Rattle.model.specs.declared.Listed.{Listed}
+use Rattle.model.specs.declared.Listed.the-variants.{Text}
+use Rattle.answer_numbers.proofs.listed_numbers.Statement.{statement}
+use Rattle.answer_numbers.proofs.listed_numbers.Tie as tie
+
+length-of-text : (l : Listed) (size : ℕ) → l ≡ Text size → listedNumbers l .first ≤ mostListingBytes → size ≤ mostListingBytes
+length-of-text l size e h = rw e at h
 
 enum-known-l : tie.Need-enum-known-l
 enum-known-l c = search needs

@@ -1,8 +1,8 @@
--- `menduvo::checked_numbers` meets its contract.
+-- `answer_numbers::checked_numbers` meets its contract.
 -- Assumes nothing.
 use borrow.Author.Needs.{needs}
-use Rattle.menduvo.proofs.checked_numbers.Statement.{statement}
-use Rattle.menduvo.proofs.checked_numbers.Tie as tie
+use Rattle.answer_numbers.proofs.checked_numbers.Statement.{statement}
+use Rattle.answer_numbers.proofs.checked_numbers.Tie as tie
 
 enum-told : tie.Need-enum-told
 enum-told c = search needs
