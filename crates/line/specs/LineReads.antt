@@ -1,11 +1,16 @@
 -- What a line reads, where a thread's locals and the items have these values.
 -- Assumes nothing.
-use Prim.Native.Nat.{ℕ}
+use mathlib.Core.Path.{_≡_}
+use Prim.Native.Nat.{ℕ, _≤_}
+use mathlib.Core.Bool.{true}
 use mathlib.Core.List.{List}
 use lib.ListN.{take}
-use Rattle.model.specs.CaseFile.{Line}
-use Rattle.model.specs.Line.{Reads, readsOf}
+use Rattle.model.specs.Limits.{mostItems}
+use Rattle.model.specs.CaseFile.{Line, kindOf}
+use Rattle.model.specs.Line.{Reads, readsOf, hasExpression, expression}
 use Rattle.model.specs.Machine.{Memory, look}
+use Rattle.case_file.specs.declared.Record.{Record}
+use Rattle.case_file.specs.Records.{asLine}
 
 -- The memory of a thread with these locals, where the first so many items are those of the case.
 abbrev pub memory : List ℕ → List ℕ → ℕ → Memory
@@ -14,3 +19,8 @@ memory locals items count = record { locals = locals; items = take count items }
 -- What a line reads there, in a case with G globals, if it is given this value.
 abbrev pub readsAt : ℕ → ℕ → ℕ → List ℕ → List ℕ → Line → Reads
 readsAt G count given locals items l = readsOf G (look (memory locals items count)) l given
+
+-- The value of a record's expression, of a kind that has one: the thread's locals alone decide it.
+abbrev pub Expressed : List ℕ → Record → ℕ → Type 0
+Expressed locals l r = (G count given : ℕ) (items : List ℕ) (k : ℕ) → count ≤ mostItems → hasExpression (kindOf (l .kind)) ≡ true
+    → r ≡ expression (asLine l k) (readsAt G count given locals items (asLine l k))

@@ -7,12 +7,12 @@ ghost use lib.ListN.{take};
 ghost use Rattle.model.specs.Word.{bit};
 ghost use Rattle.model.specs.Limits.{mostGlobals, mostItems};
 ghost use Rattle.model.specs.CaseFile.{kindOf};
-ghost use Rattle.model.specs.Line.{localName, itemName, guardName, operandA, hasExpression, operandB, targetName, guardTrue, operandValue, expression, guardedInValue, guardedOutValue, valueOf};
+ghost use Rattle.model.specs.Line.{localName, itemName, guardName, operandA, hasExpression, operandB, targetName, guardTrue, operandValue, guardedInValue, guardedOutValue, valueOf};
 ghost use Rattle.model.specs.Line as model;
 ghost use Rattle.model.specs.Machine.{look, putLocal, putItem};
 ghost use Rattle.laws.specs.RowCounts.{valueRowCount};
 ghost use Rattle.case_file.specs.Records.{asLine};
-ghost use Rattle.line.specs.LineReads.{memory, readsAt};
+ghost use Rattle.line.specs.LineReads.{memory, readsAt, Expressed};
 use case_file::Record;
 use model::ITEMS;
 use model::LOCALS;
@@ -178,7 +178,7 @@ fn operand(locals: &[u16; LOCALS], x: u16, c: u16) -> u16
 
 // The value of the line's expression, of a kind that has one.
 pub fn expression_of(locals: &[u16; LOCALS], l: Record) -> u16
-    ensures { λ r. ⌜ ((G count given : ℕ) (items : List ℕ) (k : ℕ) → count ≤ mostItems → hasExpression (kindOf (l .kind)) ≡ true → r ≡ expression (asLine l k) (readsAt G count given (now (locals .entry)) items (asLine l k))) ⌝ }
+    ensures { λ r. ⌜ Expressed (now (locals .entry)) l r ⌝ }
 {
     let x = operand(locals, l.a, l.c);
     let y = operand(locals, l.b, l.c);
