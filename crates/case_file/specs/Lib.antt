@@ -1,3 +1,2 @@
 pub mod Records
-pub mod Passed
-pub mod Counts
+pub mod Sized

@@ -1,12 +1,8 @@
 -- A record as the code holds it, and the line that it is.
 -- Assumes nothing.
 use Prim.Native.Nat.{ℕ}
-use mathlib.Core.Bool.{Bool, _&&_}
-use mathlib.Core.List.{List, [], _∷_}
-use lib.Dec.{ltb}
-use Rattle.model.specs.Limits.{localCount}
-use Rattle.model.specs.CaseFile.{Kind, compute, store, load, input, assert, assume, lock, unlock, Line, recordField, kindOf}
-use Rattle.model.specs.Accept.{expressionOk, onlyOperandA, noExpression}
+use mathlib.Core.List.{List}
+use Rattle.model.specs.CaseFile.{Line, recordField, kindOf}
 use Rattle.case_file.specs.declared.Record.{Record}
 
 -- Record k of a case, from 1, as a line of thread t.
@@ -35,18 +31,3 @@ asLine l k = record {
   b = l .b;
   c = l .c;
 }
-
--- What the target of each kind is below, by the kind's number. 0 is no kind.
-abbrev pub targetLimits : ℕ → ℕ → List ℕ
-targetLimits G M = 0 ∷ localCount ∷ G ∷ localCount ∷ localCount ∷ 1 ∷ 1 ∷ M ∷ M ∷ []
-
--- The rule of a kind but for its target.
-unfoldable pub operandRule : Kind → ℕ → Line → Bool
-operandRule compute G l = expressionOk l
-operandRule store G l = expressionOk l
-operandRule load G l = ltb (l .a) G && onlyOperandA l
-operandRule input G l = noExpression l
-operandRule assert G l = expressionOk l
-operandRule assume G l = expressionOk l
-operandRule lock G l = noExpression l
-operandRule unlock G l = noExpression l

@@ -1,21 +1,20 @@
-// Reading a case, and which cases are accepted: checks 1 to 9 in order.
+// Reading a case: its header, its records, and how many variables it has.
 ghost use mathlib.Core.Path.{_≡_};
-ghost use mathlib.Core.Bool.{true, _&&_, _||_};
-ghost use Prim.Native.Nat.{_+_, _*_, _<_, _≤_};
+ghost use mathlib.Core.Bool.{_&&_};
+ghost use Prim.Native.Nat.{_+_, _-_, _*_, _<_, _≤_};
+ghost use lib.Dec.{leb};
 ghost use lib.ListN.{length};
 ghost use Rattle.model.specs.Limits.{mostThreads, mostSwitches, mostGlobals, mostItems, mostVariables, headerBytes, recordBytes};
 ghost use Rattle.model.specs.CaseFile.{field, records, threadCount, switchCount, globalCount, mutexCount, firstRecord, initialValue, nextRecord, recordField, caseOf, itemCount};
+ghost use Rattle.model.specs.Lists.{allFrom};
 ghost use Rattle.model.specs.Assignment.{variables};
-ghost use Rattle.model.specs.Accept.{sizeOk, verdict};
 ghost use Rattle.laws.specs.Accepted.{Accepted};
 ghost use Rattle.case_file.specs.Records.{recordOf};
-ghost use Rattle.case_file.specs.Passed.{HeaderPassed};
 
-mod header; // header.rt: checks 1 to 5
-mod links; // links.rt: checks 6 to 8
-mod rules; // rules.rt: check 9
+// Which field of the header is thread 0's first record, and which is global 0's initial value.
+pub const FIRSTS: usize = 4;
 
-use model::Verdict;
+pub const INITIALS: usize = 8;
 
 // A record as a line of a thread: the thread, and the record's fields but for its next number.
 pub struct Record {
@@ -81,7 +80,7 @@ pub fn first_of(case: &[u8], t: usize) -> usize
     requires { ⌜ (t < mostThreads) × (headerBytes ≤ length (now case)) ⌝ }
     ensures { λ r. ⌜ r ≡ firstRecord (now (case .entry)) t ⌝ }
 {
-    field_at(case, 4 + t) as usize
+    field_at(case, FIRSTS + t) as usize
 }
 
 // The initial value of global g.
@@ -89,7 +88,7 @@ pub fn initial_of(case: &[u8], g: usize) -> u16
     requires { ⌜ (g < mostGlobals) × (headerBytes ≤ length (now case)) ⌝ }
     ensures { λ r. ⌜ r ≡ initialValue (now (case .entry)) g ⌝ }
 {
-    field_at(case, 8 + g)
+    field_at(case, INITIALS + g)
 }
 
 // How many records there are.
@@ -122,21 +121,28 @@ pub fn variables(case: &[u8]) -> usize
     2 * records(case) + block_values(case)
 }
 
-// Record k, from 1, as a line of thread t.
+// Field j of record k, from 1.
+fn field_of(case: &[u8], k: usize, j: usize) -> u16
+    requires { ⌜ (j < 8) × (headerBytes + recordBytes * k ≤ length (now case)) ⌝ }
+    ensures { λ r. ⌜ r ≡ recordField (now (case .entry)) k j ⌝ }
+{
+    field_at(case, 8 + 8 * k + j)
+}
+
+// Record k as a line of thread t.
 pub fn record_at(case: &[u8], t: u16, k: usize) -> Record
     requires { ⌜ (1 ≤ k) × (headerBytes + recordBytes * k ≤ length (now case)) ⌝ }
     ensures { λ r. ⌜ r ≡ recordOf (now (case .entry)) t k ⌝ }
 {
-    let base = 8 + 8 * k;
     Record {
         thread: t,
-        kind: field_at(case, base + 1),
-        guard: field_at(case, base + 2),
-        target: field_at(case, base + 3),
-        op: field_at(case, base + 4),
-        a: field_at(case, base + 5),
-        b: field_at(case, base + 6),
-        c: field_at(case, base + 7),
+        kind: field_of(case, k, 1),
+        guard: field_of(case, k, 2),
+        target: field_of(case, k, 3),
+        op: field_of(case, k, 4),
+        a: field_of(case, k, 5),
+        b: field_of(case, k, 6),
+        c: field_of(case, k, 7),
     }
 }
 
@@ -145,7 +151,7 @@ pub fn kind_of(case: &[u8], k: usize) -> u16
     requires { ⌜ (1 ≤ k) × (headerBytes + recordBytes * k ≤ length (now case)) ⌝ }
     ensures { λ r. ⌜ r ≡ recordField (now (case .entry)) k 1 ⌝ }
 {
-    field_at(case, 8 + 8 * k + 1)
+    field_of(case, k, 1)
 }
 
 // The record after record k in its chain; 0 at the end.
@@ -156,78 +162,25 @@ pub fn next_of(case: &[u8], k: usize) -> usize
     field_at(case, 8 + 8 * k) as usize
 }
 
-// Checks 1 to 9: the first that fails gives the refusal.
-pub fn accept(case: &[u8]) -> Verdict
-    ensures { λ r. ⌜ r ≡ verdict (now (case .entry)) ⌝ }
+// Whether the header's fields from `base + from` to before `base + to` are at most a number.
+pub fn all_at_most(case: &[u8], base: usize, from: usize, to: usize, most: usize) -> bool
+    requires { ⌜ (2 * (base + to) ≤ headerBytes) × (headerBytes ≤ length (now case)) ⌝ }
+    ensures { λ r. ⌜ r ≡ allFrom (λ j. leb (field (now (case .entry)) (base + j)) most) from (to - from) ⌝ }
 {
-    if !header::size_ok(case) {
-        return Verdict::Refused {
-            number: 1,
-            place: 0,
-        };
+    let mut j = from;
+    while j < to {
+        let x = field_at(case, base + j) as usize;
+        if most < x {
+            return false;
+        }
+        j += 1;
     }
-    accept_header(case)
+    true
 }
 
-// Checks 2 to 9 of a case that passes 1.
-fn accept_header(case: &[u8]) -> Verdict
-    requires { ⌜ sizeOk (now case) ≡ true ⌝ }
-    ensures { λ r. ⌜ r ≡ verdict (now (case .entry)) ⌝ }
-{
-    if !header::threads_ok(case) {
-        return Verdict::Refused {
-            number: 2,
-            place: 0,
-        };
-    }
-    if !header::switches_ok(case) {
-        return Verdict::Refused {
-            number: 3,
-            place: 0,
-        };
-    }
-    if !header::items_ok(case) {
-        return Verdict::Refused {
-            number: 4,
-            place: 0,
-        };
-    }
-    if !header::absent_ok(case) {
-        return Verdict::Refused {
-            number: 5,
-            place: 0,
-        };
-    }
-    accept_records(case)
-}
-
-// Checks 6 to 9 of a case that passes 1 to 5.
-fn accept_records(case: &[u8]) -> Verdict
-    requires { ⌜ HeaderPassed (now case) ⌝ }
-    ensures { λ r. ⌜ r ≡ verdict (now (case .entry)) ⌝ }
-{
-    let number = links::links_refusal(case);
-    if number != 0 {
-        return Verdict::Refused { number, place: 0 };
-    }
-    let broken = rules::broken_record(case);
-    if broken != 0 {
-        return Verdict::Refused {
-            number: 9,
-            place: broken,
-        };
-    }
-    Verdict::Accepted
-}
-
-fn and(x: bool, y: bool) -> bool
+// Both, without a branch in the caller: the checks put their tests together with it.
+pub fn and(x: bool, y: bool) -> bool
     ensures { λ r. ⌜ r ≡ (x && y) ⌝ }
 {
     if x { y } else { false }
-}
-
-fn or(x: bool, y: bool) -> bool
-    ensures { λ r. ⌜ r ≡ (x || y) ⌝ }
-{
-    if x { true } else { y }
 }

@@ -1,0 +1,15 @@
+use borrow.Author.Needs.{needs}
+use Rattle.accept.proofs.header.threads_ok.Statement.{statement}
+use Rattle.accept.proofs.header.threads_ok.Tie as tie
+
+threads-requires : tie.Need-threads-requires
+threads-requires c κs = search needs
+
+and-requires : tie.Need-and-requires
+and-requires c κs = search needs
+
+returns : tie.Need-returns
+returns c = cc
+
+pub threads-ok-spec : {M : Type 1} → statement M
+threads-ok-spec = tie.close (tie.spec threads-requires and-requires returns)

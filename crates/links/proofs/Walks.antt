@@ -1,0 +1,172 @@
+-- The walk that marks what it reaches, as its loops meet it: along a chain, and over the threads.
+-- Assumes nothing.
+use mathlib.Core.Path.{_≡_, refl, sym, ap, _∙_}
+use mathlib.Core.Logic.{_≢_}
+use Prim.Native.Nat.{ℕ, suc, _+_, _-_, _≤_, _<_}
+use mathlib.Core.Bool.{Bool, true, false, _&&_, and-true}
+use mathlib.Core.List.{List, []}
+use native.Mathlib.Omega.{arith}
+use native.Mathlib.Nat.{zero-add}
+use lib.Dec.{leb}
+use lib.ListN.{length, getD, set, replicate, length-set, length-replicate}
+use lib.Seq.{getD-set-same, getD-set-other}
+use Rattle.model.specs.Limits.{mostLines, mostRecords, recordPlaces}
+use Rattle.model.specs.Lists.{allFrom, unless}
+use Rattle.model.specs.CaseFile.{records, threadCount, firstRecord, nextRecord, chain, chains}
+use Rattle.model.specs.Accept.{lengthsOk}
+use Rattle.laws.specs.Accepted.{linesFrom}
+use Rattle.laws.proofs.Views.{EqView, same, diff, eq-view}
+use Rattle.links.specs.Links.{LinksWithin, chainsRefusal}
+use Rattle.links.specs.Counts.{counted, countLines, countThreads, reachedOf, sumTo, Marks, Twice, Walked, Followed}
+use Rattle.case_file.proofs.Ranges.{all-at-end, all-next}
+use Rattle.laws.proofs.Chains.{chains-at, chain-length-any-thread}
+use Rattle.laws.proofs.Following.{chains-more, chains-end}
+use Rattle.links.proofs.Counts.{count-at-end, count-goes-on, lines-at-end, lines-go-on, count-grows, count-of-any, length-of-count, zeros-are-0, sum-of-zeros, sum-of-counted, sum-at-most, twice-goes-on, twice-reached, once-reached, all-reached, not-all-reached}
+
+-- Along the chain from `first`: at record k after n lines.
+pub record Walking (bytes start : List ℕ) (first : ℕ) (marked : List ℕ) (k n : ℕ) : Type 0 where
+  pub within : k ≤ records bytes
+  pub marks : Marks marked
+  pub counts : countLines marked (chain bytes 0 (suc (records bytes) - n) k) ≡ countLines start (linesFrom bytes 0 first)
+  pub lines : n + length (chain bytes 0 (suc (records bytes) - n) k) ≡ length (linesFrom bytes 0 first)
+  pub sum : sumTo marked (records bytes) ≡ sumTo start (records bytes) + n
+
+pub walking-starts : (bytes start : List ℕ) (first : ℕ) → first ≤ records bytes → Marks start → Walking bytes start first start first 0
+walking-starts bytes start first h marks = record { within = h; marks = marks; counts = rw e; lines = rw e (zero-add _); sum = omega arith }
+  where
+    e : suc (records bytes) - 0 ≡ suc (records bytes)
+    e = omega arith
+
+module _ (bytes start : List ℕ) (first : ℕ) (marked : List ℕ) (k n : ℕ) (links : LinksWithin bytes) (w : Walking bytes start first marked k n) where
+  -- Each line was marked anew, so there are no more than records.
+  pub few-passed : n ≤ records bytes
+  few-passed = omega (arith, w .sum, sum-at-most marked (records bytes) (w .marks .single))
+
+  pub walk-ends : k ≡ 0 → Followed bytes first start marked n
+  walk-ends h = record {
+    once = λ few. record {
+      counts = sym (count-at-end bytes (suc (records bytes) - n) k marked h) ∙ w .counts;
+      lines = lines-at-end bytes (suc (records bytes) - n) k n _ (w .lines) h;
+      marks = w .marks;
+      sum = w .sum;
+    };
+    twice = λ more. absurd (omega (arith, few-passed));
+  }
+
+  long : records bytes < length marked
+  long = omega (arith, w .marks .size, links .sized .few-records)
+
+  -- one more line is passed
+  goes-on : k ≢ 0 → countLines marked (chain bytes 0 (suc (records bytes) - n) k) ≡ countLines (counted marked k) (chain bytes 0 (suc (records bytes) - n - 1) (nextRecord bytes k))
+  goes-on z = count-goes-on bytes (suc (records bytes) - n) k marked (omega (arith, few-passed)) z
+
+  pub came-twice : (r : ℕ) → r ≡ records bytes + 1 → k ≢ 0 → getD marked k 0 ≢ 0 → Followed bytes first start marked r
+  came-twice r e z m = record {
+    once = λ few. absurd (omega arith);
+    twice = λ more. record {
+      place = k;
+      low = omega arith;
+      high = w .within;
+      count = rw (← w .counts, goes-on z)
+          (omega (
+            arith,
+            count-grows (counted marked k) (chain bytes 0 (suc (records bytes) - n - 1) (nextRecord bytes k)) k (omega (arith, long, w .within, length-set marked k (getD marked k 0 + 1))),
+            getD-set-same marked k (getD marked k 0 + 1) 0 (omega (arith, long, w .within)),
+          ));
+    };
+  }
+
+  module _ (z : k ≢ 0) (new : getD marked k 0 ≡ 0) where
+    mark : set marked k 1 ≡ counted marked k
+    mark = rw new
+
+    fewer : suc (records bytes) - n - 1 ≡ suc (records bytes) - (n + 1)
+    fewer = omega arith
+
+    single : (j : ℕ) → EqView j k → getD (set marked k 1) j 0 ≤ 1
+    single j (same e q) = rw (e, getD-set-same marked k 1 0 (omega (arith, long, w .within))) (omega arith)
+    single j (diff d q) = rw (getD-set-other marked k j 1 0 d) (w .marks .single j)
+
+    pub walk-on : Walking bytes start first (set marked k 1) (nextRecord bytes k) (n + 1)
+    walk-on = record {
+      within = links .nexts k (omega arith) (w .within);
+      marks = record { size = length-set marked k 1 ∙ w .marks .size; single = λ j. single j (eq-view j k) };
+      counts = rw (← fewer, mark) (sym (goes-on z) ∙ w .counts);
+      lines = rw (← fewer) (lines-go-on bytes (suc (records bytes) - n) k n _ (w .lines) (omega (arith, few-passed)) z);
+      sum = rw mark (omega (arith, w .sum, sum-of-counted marked k (records bytes) (omega arith) (w .within) long));
+    }
+
+-- Thread t has few lines.
+abbrev fewLines : List ℕ → ℕ → Bool
+fewLines bytes t = leb (length (getD (chains bytes 0 (threadCount bytes)) t [])) mostLines
+
+lines-of-thread : (bytes : List ℕ) (t first n : ℕ) → t < threadCount bytes → first ≡ firstRecord bytes t → n ≡ length (linesFrom bytes 0 first) → n ≡ length (getD (chains bytes 0 (threadCount bytes)) t [])
+lines-of-thread bytes t first n h ef en =
+    en ∙ ap (λ (k : ℕ). length (linesFrom bytes 0 k)) ef ∙ chain-length-any-thread bytes 0 t (suc (records bytes)) (firstRecord bytes t)
+    ∙ sym (ap length (chains-at bytes 0 (threadCount bytes) t h) ∙ ap (λ (u : ℕ). length (linesFrom bytes u (firstRecord bytes u))) (zero-add t))
+
+-- Over the threads: before thread t, with so many lines passed.
+pub record Following (bytes marked : List ℕ) (lines : ℕ) (few : Bool) (t : ℕ) : Type 0 where
+  pub within : t ≤ threadCount bytes
+  pub marks : Marks marked
+  pub counts : countThreads marked (chains bytes t (threadCount bytes - t)) ≡ reachedOf bytes
+  pub sum : sumTo marked (records bytes) ≡ lines
+  pub lengths : (few && allFrom (fewLines bytes) t (threadCount bytes - t)) ≡ lengthsOk bytes
+
+pub following-starts : (bytes marked : List ℕ) → marked ≡ replicate recordPlaces 0 → Following bytes marked 0 true 0
+following-starts bytes marked e = record {
+  within = omega arith;
+  marks = rw e (record { size = length-replicate {A = ℕ} recordPlaces 0; single = λ j. omega (arith, zeros-are-0 recordPlaces j) });
+  counts = rw (e, all);
+  sum = rw e (sum-of-zeros recordPlaces (records bytes));
+  lengths = rw all;
+}
+  where
+    all : threadCount bytes - 0 ≡ threadCount bytes
+    all = omega arith
+
+module _ (bytes marked : List ℕ) (lines : ℕ) (few : Bool) (t : ℕ) (f : Following bytes marked lines few t) where
+  pub few-followed : lines ≤ records bytes
+  few-followed = omega (arith, f .sum, sum-at-most marked (records bytes) (f .marks .single))
+
+  -- One thread more.
+  module _ (first n : ℕ) (after : List ℕ) (h : t < threadCount bytes) (ef : first ≡ firstRecord bytes t) (fo : Followed bytes first marked after n) where
+    rest-of : countThreads (countLines marked (linesFrom bytes 0 first)) (chains bytes (t + 1) (threadCount bytes - (t + 1))) ≡ reachedOf bytes
+    unfolding countThreads
+    rest-of = rw (ef, count-of-any bytes marked 0 t (suc (records bytes)) (firstRecord bytes t)) (sym (ap (countThreads marked) (chains-more bytes t (threadCount bytes) h)) ∙ f .counts)
+
+    pub follow-on : (few′ : Bool) → n ≤ records bytes → few′ ≡ (few && leb n mostLines) → Following bytes after (lines + n) few′ (t + 1)
+    follow-on few′ within e = record {
+      within = omega arith;
+      marks = walked .marks;
+      counts = rw (walked .counts) rest-of;
+      sum = omega (arith, walked .sum, f .sum);
+      lengths = rw (e, lines-of-thread bytes t first n h ef (walked .lines)) (and-next few (fewLines bytes) t (threadCount bytes) h ∙ f .lengths);
+    }
+      where
+        walked : Walked marked (linesFrom bytes 0 first) (records bytes) after n
+        walked = fo .once within
+
+        and-next : (q : Bool) (test : ℕ → Bool) (i to : ℕ) → i < to → (q && test i && allFrom test (i + 1) (to - (i + 1))) ≡ (q && allFrom test i (to - i))
+        and-next true test i to h = sym (all-next test i to h)
+        and-next false test i to h = refl
+
+    pub fails-6 : records bytes ≤ mostRecords → records bytes < n → 6 ≡ chainsRefusal bytes
+    fails-6 small more =
+        rw (twice-reached bytes small two)
+      where
+        two : Twice (reachedOf bytes) (records bytes)
+        two = rw (← rest-of) (twice-goes-on _ _ (records bytes) (omega (arith, f .marks .size, length-of-count marked (linesFrom bytes 0 first))) (fo .twice more))
+
+  module _ (small : records bytes ≤ mostRecords) (end : threadCount bytes ≤ t) where
+    all-counts : marked ≡ reachedOf bytes
+    unfolding countThreads
+    all-counts = sym (ap (countThreads marked) (chains-end bytes t (threadCount bytes) end)) ∙ f .counts
+
+    pub fails-7 : lines < records bytes → 7 ≡ chainsRefusal bytes
+    fails-7 less = rw (once-reached bytes small marked all-counts (f .marks), not-all-reached bytes small marked all-counts (f .marks) (omega (arith, f .sum)))
+
+    pub passes-7 : records bytes ≤ lines → (r : ℕ) → r ≡ unless few 8 0 → r ≡ chainsRefusal bytes
+    passes-7 full r e =
+        let last : lengthsOk bytes ≡ few = sym (f .lengths) ∙ ap (λ (q : Bool). few && q) (all-at-end (fewLines bytes) t (threadCount bytes) end) ∙ and-true few in
+        rw (once-reached bytes small marked all-counts (f .marks), all-reached bytes small marked all-counts (f .marks) (omega (arith, f .sum)), last) e

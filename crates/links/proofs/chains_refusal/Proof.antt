@@ -1,0 +1,95 @@
+use borrow.Author.Needs.{needs}
+use Prim.Native.Nat.{_-_}
+use native.Mathlib.Omega.{arith}
+use Rattle.links.proofs.Walks.{Following, following-starts, few-followed, follow-on, fails-6, fails-7, passes-7}
+use Rattle.links.proofs.chains_refusal.Statement.{statement}
+use Rattle.links.proofs.chains_refusal.Tie as tie
+
+abbrev Inv-loop : tie.InvT-loop
+Inv-loop case reached₀ threads most lines₀ few₀ t₀ reached lines few t = Following case reached lines few t
+
+abbrev μ-loop : tie.MeasureT-loop
+μ-loop case reached₀ threads most lines₀ few₀ t₀ reached lines few t = threads - t
+
+threads-requires : tie.Need-threads-requires Inv-loop μ-loop
+threads-requires c κs = search needs
+
+cast-threads : tie.Need-cast-threads Inv-loop μ-loop
+cast-threads c = search needs
+
+records-requires : tie.Need-records-requires Inv-loop μ-loop
+records-requires c κs = search needs
+
+loop-holds : tie.Need-loop-holds Inv-loop μ-loop
+loop-holds c = following-starts _ _ (c .before .before .before .before .pre .1)
+
+first-of-requires : tie.Need-first-of-requires Inv-loop μ-loop
+first-of-requires c κs = search needs
+
+follow-requires : tie.Need-follow-requires Inv-loop μ-loop
+follow-requires c κs = (c .before .before .before .before .before .before .before .before .pre .0, (rw (c .before .first-of .ensures) (c .before .before .before .before .before .before .before .before .pre .0 .firsts _ (search needs)), c .before .before .before .loop .inv .marks))
+
+same-length : tie.Need-same-length Inv-loop μ-loop
+same-length c = search needs
+
+returns : tie.Need-returns Inv-loop μ-loop
+returns c = fails-6 _ _ _ _ _ (c .before .before .before .before .before .before .before .loop .inv) _ _ _ (search needs) (c .before .before .before .before .before .first-of .ensures) (c .before .before .before .follow .ensures) (c .before .before .before .before .before .before .before .before .before .before .before .before .pre .0 .sized .few-records) (search needs)
+
+add-lines : tie.Need-add-lines Inv-loop μ-loop
+add-lines c = omega (arith, few-followed _ _ _ _ _ (c .before .before .before .before .before .before .before .loop .inv), c .before .before .before .before .before .before .before .before .before .before .before .before .pre .0 .sized .few-records)
+
+and-requires : tie.Need-and-requires Inv-loop μ-loop
+and-requires c κs = search needs
+
+add-t : tie.Need-add-t Inv-loop μ-loop
+add-t c = search needs
+
+loop-less : tie.Need-loop-less Inv-loop μ-loop
+loop-less c = search needs
+
+loop-again : tie.Need-loop-again Inv-loop μ-loop
+loop-again c = follow-on _ _ _ _ _ (c .before .before .before .before .before .before .before .before .loop .inv) _ _ _ (search needs) (c .before .before .before .before .before .before .first-of .ensures) (c .before .before .before .before .follow .ensures) _ (search needs) (c .and .ensures)
+
+same-length-2 : tie.Need-same-length-2 Inv-loop μ-loop
+same-length-2 c = search needs
+
+returns-2 : tie.Need-returns-2 Inv-loop μ-loop
+returns-2 c = fails-7 _ _ _ _ _ (c .before .before .loop .inv) (c .before .before .before .before .before .before .before .pre .0 .sized .few-records) (search needs) (search needs)
+
+same-length-3 : tie.Need-same-length-3 Inv-loop μ-loop
+same-length-3 c = search needs
+
+returns-3 : tie.Need-returns-3 Inv-loop μ-loop
+returns-3 c = passes-7 _ _ _ _ _ (c .before .before .before .loop .inv) (c .before .before .before .before .before .before .before .before .pre .0 .sized .few-records) (search needs) (search needs) _ (rw (c .if3 .taken))
+
+same-length-4 : tie.Need-same-length-4 Inv-loop μ-loop
+same-length-4 c = search needs
+
+returns-4 : tie.Need-returns-4 Inv-loop μ-loop
+returns-4 c = passes-7 _ _ _ _ _ (c .before .before .before .loop .inv) (c .before .before .before .before .before .before .before .before .pre .0 .sized .few-records) (search needs) (search needs) _ (rw (c .if3 .left))
+
+pub chains-refusal-spec : {M : Type 1} → statement M
+chains-refusal-spec =
+    tie.close
+    (tie.spec
+    Inv-loop
+    μ-loop
+    threads-requires
+    cast-threads
+    records-requires
+    loop-holds
+    first-of-requires
+    follow-requires
+    same-length
+    returns
+    add-lines
+    and-requires
+    add-t
+    loop-less
+    loop-again
+    same-length-2
+    returns-2
+    same-length-3
+    returns-3
+    same-length-4
+    returns-4)

@@ -1,0 +1,112 @@
+// Check 9: the rules of a record's fields.
+ghost use mathlib.Core.Path.{_≡_};
+ghost use mathlib.Core.Bool.{_||_};
+ghost use Prim.Native.Nat.{ℕ, _+_, _*_, _≤_};
+ghost use lib.ListN.{length};
+ghost use Rattle.model.specs.Limits.{headerBytes, recordBytes};
+ghost use Rattle.model.specs.CaseFile.{globalCount, mutexCount};
+ghost use Rattle.model.specs.Accept.{expressionOk, onlyOperandA, noExpression, ruleOk, brokenRecord};
+ghost use Rattle.case_file.specs.Records.{asLine};
+ghost use Rattle.case_file.specs.Sized.{Sized};
+ghost use Rattle.rules.specs.RulesByKind.{mostB, keepsKindRule};
+use case_file::Record;
+use case_file::and;
+use case_file::globals;
+use case_file::mutexes;
+use case_file::record_at;
+use case_file::records;
+
+// A local is below this, and this as an operand is the constant.
+const LOCALS: u16 = model::LOCALS as u16;
+
+fn or(x: bool, y: bool) -> bool
+    ensures { λ r. ⌜ r ≡ (x || y) ⌝ }
+{
+    if x { true } else { y }
+}
+
+// What operand b is at most.
+fn most_b(op: u16) -> u16
+    ensures { λ r. ⌜ r ≡ mostB op ⌝ }
+{
+    match op {
+        0 => 0,
+        _ => LOCALS,
+    }
+}
+
+fn expression_ok(l: Record) -> bool
+    ensures { λ r. ⌜ r ≡ expressionOk (asLine l 0) ⌝ }
+{
+    if model::HIGHEST_OP < l.op {
+        return false;
+    }
+    if LOCALS < l.a {
+        return false;
+    }
+    if most_b(l.op) < l.b {
+        return false;
+    }
+    or(l.a == LOCALS, or(l.b == LOCALS, l.c == 0))
+}
+
+fn only_operand_a(l: Record) -> bool
+    ensures { λ r. ⌜ r ≡ onlyOperandA (asLine l 0) ⌝ }
+{
+    and(l.op == 0, and(l.b == 0, l.c == 0))
+}
+
+fn no_expression(l: Record) -> bool
+    ensures { λ r. ⌜ r ≡ noExpression (asLine l 0) ⌝ }
+{
+    and(l.a == 0, only_operand_a(l))
+}
+
+// Whether a record has a kind and keeps that kind's rule. Its number makes no difference.
+fn kind_rule_ok(l: Record, globals: u16, mutexes: u16) -> bool
+    ensures { λ r. ⌜ ((k : ℕ) → r ≡ keepsKindRule (l .kind) globals mutexes (asLine l k)) ⌝ }
+{
+    let kind = l.kind;
+    match kind {
+        1 => and(l.target < LOCALS, expression_ok(l)),
+        2 => and(l.target < globals, expression_ok(l)),
+        3 => and(l.target < LOCALS, and(l.a < globals, only_operand_a(l))),
+        4 => and(l.target < LOCALS, no_expression(l)),
+        5 => and(l.target == 0, expression_ok(l)),
+        6 => and(l.target == 0, expression_ok(l)),
+        7 => and(l.target < mutexes, no_expression(l)),
+        8 => and(l.target < mutexes, no_expression(l)),
+        _ => false,
+    }
+}
+
+// Whether record k keeps the rules of its fields, in a case with so many globals and mutexes.
+fn rule_ok(case: &[u8], k: usize, globals: u16, mutexes: u16) -> bool
+    requires { ⌜ (1 ≤ k) × (headerBytes + recordBytes * k ≤ length (now case)) ⌝ }
+    requires { ⌜ (globals ≡ globalCount (now case)) × (mutexes ≡ mutexCount (now case)) ⌝ }
+    ensures { λ r. ⌜ r ≡ ruleOk (now (case .entry)) k ⌝ }
+{
+    let l = record_at(case, 0, k);
+    if model::HIGHEST_GUARD < l.guard {
+        return false;
+    }
+    kind_rule_ok(l, globals, mutexes)
+}
+
+// 9: the lowest record that breaks the rules; 0 if none does.
+pub fn broken_record(case: &[u8]) -> u16
+    requires { ⌜ Sized (now case) ⌝ }
+    ensures { λ r. ⌜ r ≡ brokenRecord (now (case .entry)) ⌝ }
+{
+    let most = records(case);
+    let globals = globals(case);
+    let mutexes = mutexes(case);
+    let mut k = 1;
+    while k < most + 1 {
+        if !rule_ok(case, k, globals, mutexes) {
+            return k as u16;
+        }
+        k += 1;
+    }
+    0
+}
