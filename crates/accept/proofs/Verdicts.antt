@@ -2,16 +2,16 @@
 -- Assumes nothing.
 use mathlib.Core.Path.{_≡_, refl, sym, ap, ap₂, _∙_}
 use mathlib.Core.Logic.{_≢_}
-use Prim.Native.Nat.{ℕ, zero, suc, _+_, _-_, _%_, _≤_}
-use mathlib.Core.Bool.{Bool, true, false, not, cond, _&&_}
+use Prim.Native.Nat.{ℕ, zero, suc, _-_, _%_, _≤_}
+use mathlib.Core.Bool.{Bool, true, false, cond, _&&_}
 use mathlib.Core.List.{List}
 use native.Mathlib.Omega.{arith}
-use borrow.Author.Tests.{eq-eqb, ne-eqb, leb-true, eqb-true, le-leb, lt-leb, not-true, not-false}
+use borrow.Author.Tests.{eq-eqb, ne-eqb, leb-true, eqb-true, le-leb, lt-leb}
 use lib.Dec.{leb, eqb}
 use lib.ListN.{length}
 use Rattle.model.specs.Limits.{leastThreads, mostThreads, mostGlobals, mostRecords, headerBytes, recordBytes}
 use Rattle.model.specs.Lists.{allFrom, unless}
-use Rattle.model.specs.CaseFile.{field, records, threadCount, globalCount, firstRecord, nextRecord}
+use Rattle.model.specs.CaseFile.{records, threadCount, globalCount, firstRecord, initialValue}
 use Rattle.model.specs.Accept.{sizeOk, threadsOk, switchesOk, itemsOk, absentOk, linksOk, reachedOk, lengthsOk, brokenRecord, verdict}
 use Rattle.model.specs.declared.Verdict.{Verdict}
 use Rattle.model.specs.declared.Verdict.the-variants.{Accepted, Refused}
@@ -116,12 +116,12 @@ leb-of-0 x = go (eq-view x 0)
     go (same e q) = rw q (le-leb x 0 (omega arith))
     go (diff n q) = rw q (lt-leb x 0 (omega arith))
 
--- The header's fields from number i on are 0.
-zeros : (bytes : List ℕ) (base from i to : ℕ) (r : Bool) → from ≡ i → r ≡ allFrom (λ j. leb (field bytes (base + j)) 0) from (to - from) → r ≡ allFrom (λ j. eqb (field bytes (base + j)) 0) i (to - i)
-zeros bytes base from i to r e er = rw (← e) (er ∙ all-of-same _ _ from (to - from) (λ j. leb-of-0 (field bytes (base + j))))
+-- Fields of the header from number i on are 0.
+zeros : (at : ℕ → ℕ) (from i to : ℕ) (r : Bool) → from ≡ i → r ≡ allFrom (λ j. leb (at j) 0) from (to - from) → r ≡ allFrom (λ j. eqb (at j) 0) i (to - i)
+zeros at from i to r e er = rw (← e) (er ∙ all-of-same _ _ from (to - from) (λ j. leb-of-0 (at j)))
 
 pub absent-is-ok :
-    (bytes : List ℕ) (T G : ℕ) (firsts initials all : Bool) → T ≡ threadCount bytes → G ≡ globalCount bytes → firsts ≡ allFrom (λ j. leb (field bytes (4 + j)) 0) T (mostThreads - T) →
-    initials ≡ allFrom (λ j. leb (field bytes (8 + j)) 0) G (mostGlobals - G) → all ≡ (firsts && initials) → all ≡ absentOk bytes
-absent-is-ok bytes T G firsts initials all eT eG ef ei ea =
-    ea ∙ ap₂ (λ (x y : Bool). x && y) (zeros bytes 4 T (threadCount bytes) mostThreads firsts eT ef) (zeros bytes 8 G (globalCount bytes) mostGlobals initials eG ei)
+    (bytes : List ℕ) (T G : ℕ) (firsts initials : Bool) → T ≡ threadCount bytes → G ≡ globalCount bytes → firsts ≡ allFrom (λ t. leb (firstRecord bytes t) 0) T (mostThreads - T) →
+    initials ≡ allFrom (λ g. leb (initialValue bytes g) 0) G (mostGlobals - G) → (firsts && initials) ≡ absentOk bytes
+absent-is-ok bytes T G firsts initials eT eG ef ei =
+    ap₂ (λ (x y : Bool). x && y) (zeros (firstRecord bytes) T (threadCount bytes) mostThreads firsts eT ef) (zeros (initialValue bytes) G (globalCount bytes) mostGlobals initials eG ei)

@@ -5,12 +5,12 @@ ghost use Rattle.case_file.specs.Sized.{Sized};
 use case_file::FIRSTS;
 use case_file::INITIALS;
 use case_file::all_at_most;
-use case_file::and;
 use case_file::globals;
 use case_file::mutexes;
 use case_file::switches;
 use case_file::threads;
 use model::HEADER_BYTES;
+use model::MOST_RECORDS;
 use model::RECORD_BYTES;
 use model::THREADS;
 
@@ -22,10 +22,8 @@ pub fn size_ok(case: &[u8]) -> bool
     if n < HEADER_BYTES {
         return false;
     }
-    and(
-        (n - HEADER_BYTES) % RECORD_BYTES == 0,
-        (n - HEADER_BYTES) / RECORD_BYTES <= model::MOST_RECORDS,
-    )
+    let bytes = n - HEADER_BYTES;
+    (bytes % RECORD_BYTES == 0) & (bytes / RECORD_BYTES <= MOST_RECORDS)
 }
 
 // 2
@@ -34,10 +32,7 @@ pub fn threads_ok(case: &[u8]) -> bool
     ensures { λ r. ⌜ r ≡ threadsOk (now (case .entry)) ⌝ }
 {
     let threads = threads(case);
-    and(
-        model::LEAST_THREADS <= threads,
-        threads <= model::MOST_THREADS,
-    )
+    (model::LEAST_THREADS <= threads) & (threads <= model::MOST_THREADS)
 }
 
 // 3
@@ -53,12 +48,7 @@ pub fn items_ok(case: &[u8]) -> bool
     requires { ⌜ Sized (now case) ⌝ }
     ensures { λ r. ⌜ r ≡ itemsOk (now (case .entry)) ⌝ }
 {
-    let globals = globals(case);
-    let mutexes = mutexes(case);
-    and(
-        globals <= model::MOST_GLOBALS,
-        mutexes <= model::MOST_MUTEXES,
-    )
+    (globals(case) <= model::MOST_GLOBALS) & (mutexes(case) <= model::MOST_MUTEXES)
 }
 
 // 5
@@ -68,7 +58,6 @@ pub fn absent_ok(case: &[u8]) -> bool
 {
     let threads = threads(case) as usize;
     let globals = globals(case) as usize;
-    let firsts = all_at_most(case, FIRSTS, threads, THREADS, 0);
-    let initials = all_at_most(case, INITIALS, globals, model::MOST_GLOBALS as usize, 0);
-    and(firsts, initials)
+    all_at_most(case, FIRSTS, threads, THREADS, 0)
+        & all_at_most(case, INITIALS, globals, model::MOST_GLOBALS as usize, 0)
 }

@@ -1,6 +1,5 @@
 // Reading a case: its header, its records, and how many variables it has.
 ghost use mathlib.Core.Path.{_≡_};
-ghost use mathlib.Core.Bool.{_&&_};
 ghost use Prim.Native.Nat.{_+_, _-_, _*_, _<_, _≤_};
 ghost use lib.Dec.{leb};
 ghost use lib.ListN.{length};
@@ -176,11 +175,4 @@ pub fn all_at_most(case: &[u8], base: usize, from: usize, to: usize, most: usize
         j += 1;
     }
     true
-}
-
-// Both, without a branch in the caller: the checks put their tests together with it.
-pub fn and(x: bool, y: bool) -> bool
-    ensures { λ r. ⌜ r ≡ (x && y) ⌝ }
-{
-    if x { y } else { false }
 }

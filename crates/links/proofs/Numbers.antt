@@ -17,10 +17,10 @@ use Rattle.case_file.specs.Sized.{Sized}
 use Rattle.links.specs.Links.{firstsIn, nextsIn, numbersOk, onceOk, LinksWithin, failing6to8, linksRefusal, chainsRefusal}
 
 pub numbers-are-ok :
-    (bytes : List ℕ) (T most : ℕ) (firsts nexts all : Bool) → T ≡ threadCount bytes → most ≡ records bytes → firsts ≡ allFrom (λ t. leb (firstRecord bytes t) most) 0 (T - 0) →
-    nexts ≡ nextsIn bytes (records bytes) → all ≡ (firsts && nexts) → all ≡ numbersOk bytes
-numbers-are-ok bytes T most firsts nexts all eT em ef en ea =
-    ea ∙ ap₂ (λ (x y : Bool). x && y) (ef ∙ ap₂ (λ (m n : ℕ). allFrom (λ t. leb (firstRecord bytes t) m) 0 n) em (omega arith)) en
+    (bytes : List ℕ) (T most : ℕ) (firsts nexts : Bool) → T ≡ threadCount bytes → most ≡ records bytes → firsts ≡ allFrom (λ t. leb (firstRecord bytes t) most) 0 (T - 0) →
+    nexts ≡ nextsIn bytes (records bytes) → (firsts && nexts) ≡ numbersOk bytes
+numbers-are-ok bytes T most firsts nexts eT em ef en =
+    ap₂ (λ (x y : Bool). x && y) (ef ∙ ap₂ (λ (m n : ℕ). allFrom (λ t. leb (firstRecord bytes t) m) 0 n) em (omega arith)) en
 
 and-stop : (p q r : Bool) → (p && q) ≡ false → false ≡ (p && (q && r))
 and-stop true q r e = rw e

@@ -135,13 +135,13 @@ module _ (bytes marked : List ℕ) (lines : ℕ) (few : Bool) (t : ℕ) (f : Fol
     unfolding countThreads
     rest-of = rw (ef, count-of-any bytes marked 0 t (suc (records bytes)) (firstRecord bytes t)) (sym (ap (countThreads marked) (chains-more bytes t (threadCount bytes) h)) ∙ f .counts)
 
-    pub follow-on : (few′ : Bool) → n ≤ records bytes → few′ ≡ (few && leb n mostLines) → Following bytes after (lines + n) few′ (t + 1)
-    follow-on few′ within e = record {
+    pub follow-on : n ≤ records bytes → Following bytes after (lines + n) (few && leb n mostLines) (t + 1)
+    follow-on within = record {
       within = omega arith;
       marks = walked .marks;
       counts = rw (walked .counts) rest-of;
       sum = omega (arith, walked .sum, f .sum);
-      lengths = rw (e, lines-of-thread bytes t first n h ef (walked .lines)) (and-next few (fewLines bytes) t (threadCount bytes) h ∙ f .lengths);
+      lengths = rw (lines-of-thread bytes t first n h ef (walked .lines)) (and-next few (fewLines bytes) t (threadCount bytes) h ∙ f .lengths);
     }
       where
         walked : Walked marked (linesFrom bytes 0 first) (records bytes) after n

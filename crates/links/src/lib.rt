@@ -9,7 +9,6 @@ ghost use Rattle.links.specs.Links.{nextsIn, numbersOk, LinksWithin, lin
 ghost use Rattle.links.specs.Counts.{Marks, Followed};
 use case_file::FIRSTS;
 use case_file::all_at_most;
-use case_file::and;
 use case_file::first_of;
 use case_file::next_of;
 use case_file::records;
@@ -37,10 +36,7 @@ fn numbers_ok(case: &[u8]) -> bool
     ensures { λ r. ⌜ r ≡ numbersOk (now (case .entry)) ⌝ }
 {
     let threads = threads(case) as usize;
-    and(
-        all_at_most(case, FIRSTS, 0, threads, records(case)),
-        nexts_ok(case),
-    )
+    all_at_most(case, FIRSTS, 0, threads, records(case)) & nexts_ok(case)
 }
 
 // Follows the chain from a record and marks what it reaches, each record with 1: how many lines the chain has, or more than there
@@ -80,7 +76,7 @@ fn chains_refusal(case: &[u8], reached: &mut [u8]) -> u16
             return 6;
         }
         lines += n;
-        few = and(few, n <= model::MOST_LINES);
+        few = few & (n <= model::MOST_LINES);
         t += 1;
     }
     if lines < most {

@@ -1,46 +1,23 @@
 -- The rules of a record's fields, over the record as the code holds it.
 -- Assumes nothing.
-use mathlib.Core.Path.{_≡_, sym, ap, _∙_}
+use mathlib.Core.Path.{_≡_, ap, _∙_}
 use mathlib.Core.Logic.{_≢_}
 use Prim.Native.Nat.{ℕ, suc, _+_, _-_, _≤_, _<_}
-use mathlib.Core.Bool.{Bool, true, false, not, _&&_, _||_}
+use mathlib.Core.Bool.{Bool, true, false, _&&_}
 use mathlib.Core.List.{List}
 use native.Mathlib.Omega.{arith}
 use native.Mathlib.Numerals.{add-one}
-use borrow.Author.Tests.{le-leb, lt-leb}
-use lib.Dec.{leb, eqb}
-use Rattle.model.specs.Limits.{localCount, highestKind, highestGuard, highestOp}
+use borrow.Author.Tests.{lt-leb}
+use lib.Dec.{leb}
+use Rattle.model.specs.Limits.{highestKind, highestGuard}
 use Rattle.model.specs.Lists.{lowestFailing}
 use Rattle.model.specs.CaseFile.{globalCount, mutexCount, recordField}
-use Rattle.model.specs.Accept.{expressionOk, ruleOk}
-use Rattle.laws.proofs.Views.{EqView, same, diff, eq-view, LeView, within, beyond, le-view, and-false}
+use Rattle.model.specs.Accept.{ruleOk}
+use Rattle.laws.proofs.Views.{LeView, within, beyond, le-view, and-false}
 use Rattle.case_file.specs.declared.Record.{Record}
 use Rattle.case_file.specs.Records.{recordOf, asLine}
 use Rattle.case_file.proofs.Ranges.{over-leb, under-leb}
-use Rattle.rules.specs.RulesByKind.{mostB, keepsKindRule}
-
--- The two tests of operand b in one.
-b-in-one : (op b : ℕ) (rest : Bool) → (leb b localCount && ((not (eqb op 0) || eqb b 0) && rest)) ≡ (leb b (mostB op) && rest)
-b-in-one op b rest = go (eq-view op 0) (eq-view b 0)
-  where
-    go : EqView op 0 → EqView b 0 → (leb b localCount && ((not (eqb op 0) || eqb b 0) && rest)) ≡ (leb b (mostB op) && rest)
-    go (same e q) (same z p) = rw (q, p, le-leb b localCount (omega arith), le-leb b 0 (omega arith))
-    go (same e q) (diff z p) = rw (q, p, lt-leb b 0 (omega arith), and-false (leb b localCount))
-    go (diff e q) v = rw q
-
--- An expression whose op and operand a are in range: operand b, then whether the constant is used or 0.
-module _ (l : Record) (op-ok : l .op ≤ highestOp) (a-ok : l .a ≤ localCount) (most : ℕ) (e : most ≡ mostB (l .op)) where
-  abbrev constantOk : Bool
-  constantOk = eqb (l .a) localCount || (eqb (l .b) localCount || eqb (l .c) 0)
-
-  two-are-left : expressionOk (asLine l 0) ≡ (leb (l .b) most && constantOk)
-  two-are-left = rw (le-leb (l .op) highestOp op-ok, le-leb (l .a) localCount a-ok, e) (b-in-one (l .op) (l .b) constantOk)
-
-  pub b-fails : most < l .b → false ≡ expressionOk (asLine l 0)
-  b-fails h = sym (two-are-left ∙ rw (lt-leb (l .b) most h))
-
-  pub constant-decides : l .b ≤ most → (r : Bool) → r ≡ constantOk → r ≡ expressionOk (asLine l 0)
-  constant-decides h r q = q ∙ sym (two-are-left ∙ rw (le-leb (l .b) most h))
+use Rattle.rules.specs.KindRule.{keepsKindRule}
 
 -- What the last arm of a `match` on kinds knows: the number is none of 1 to 8.
 abbrev NotTo4 : ℕ → Type 0

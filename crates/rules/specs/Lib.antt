@@ -1,1 +1,1 @@
-pub mod RulesByKind
+pub mod KindRule

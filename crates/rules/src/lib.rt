@@ -1,16 +1,16 @@
 // Check 9: the rules of a record's fields.
 ghost use mathlib.Core.Path.{_≡_};
-ghost use mathlib.Core.Bool.{_||_};
+ghost use mathlib.Core.Bool.{not, _||_};
 ghost use Prim.Native.Nat.{ℕ, _+_, _*_, _≤_};
+ghost use lib.Dec.{eqb};
 ghost use lib.ListN.{length};
 ghost use Rattle.model.specs.Limits.{headerBytes, recordBytes};
 ghost use Rattle.model.specs.CaseFile.{globalCount, mutexCount};
 ghost use Rattle.model.specs.Accept.{expressionOk, onlyOperandA, noExpression, ruleOk, brokenRecord};
 ghost use Rattle.case_file.specs.Records.{asLine};
 ghost use Rattle.case_file.specs.Sized.{Sized};
-ghost use Rattle.rules.specs.RulesByKind.{mostB, keepsKindRule};
+ghost use Rattle.rules.specs.KindRule.{keepsKindRule};
 use case_file::Record;
-use case_file::and;
 use case_file::globals;
 use case_file::mutexes;
 use case_file::record_at;
@@ -19,47 +19,34 @@ use case_file::records;
 // A local is below this, and this as an operand is the constant.
 const LOCALS: u16 = model::LOCALS as u16;
 
-fn or(x: bool, y: bool) -> bool
-    ensures { λ r. ⌜ r ≡ (x || y) ⌝ }
-{
-    if x { true } else { y }
-}
-
-// What operand b is at most.
-fn most_b(op: u16) -> u16
-    ensures { λ r. ⌜ r ≡ mostB op ⌝ }
+// Whether operand b is 0 where the op does not use it.
+fn unused_b_ok(op: u16, b: u16) -> bool
+    ensures { λ r. ⌜ r ≡ (not (eqb op 0) || eqb b 0) ⌝ }
 {
     match op {
-        0 => 0,
-        _ => LOCALS,
+        0 => b == 0,
+        _ => true,
     }
 }
 
 fn expression_ok(l: Record) -> bool
     ensures { λ r. ⌜ r ≡ expressionOk (asLine l 0) ⌝ }
 {
-    if model::HIGHEST_OP < l.op {
-        return false;
-    }
-    if LOCALS < l.a {
-        return false;
-    }
-    if most_b(l.op) < l.b {
-        return false;
-    }
-    or(l.a == LOCALS, or(l.b == LOCALS, l.c == 0))
+    let constant_ok = (l.a == LOCALS) | ((l.b == LOCALS) | (l.c == 0));
+    let b_ok = (l.b <= LOCALS) & (unused_b_ok(l.op, l.b) & constant_ok);
+    (l.op <= model::HIGHEST_OP) & ((l.a <= LOCALS) & b_ok)
 }
 
 fn only_operand_a(l: Record) -> bool
     ensures { λ r. ⌜ r ≡ onlyOperandA (asLine l 0) ⌝ }
 {
-    and(l.op == 0, and(l.b == 0, l.c == 0))
+    (l.op == 0) & ((l.b == 0) & (l.c == 0))
 }
 
 fn no_expression(l: Record) -> bool
     ensures { λ r. ⌜ r ≡ noExpression (asLine l 0) ⌝ }
 {
-    and(l.a == 0, only_operand_a(l))
+    (l.a == 0) & only_operand_a(l)
 }
 
 // Whether a record has a kind and keeps that kind's rule. Its number makes no difference.
@@ -68,14 +55,14 @@ fn kind_rule_ok(l: Record, globals: u16, mutexes: u16) -> bool
 {
     let kind = l.kind;
     match kind {
-        1 => and(l.target < LOCALS, expression_ok(l)),
-        2 => and(l.target < globals, expression_ok(l)),
-        3 => and(l.target < LOCALS, and(l.a < globals, only_operand_a(l))),
-        4 => and(l.target < LOCALS, no_expression(l)),
-        5 => and(l.target == 0, expression_ok(l)),
-        6 => and(l.target == 0, expression_ok(l)),
-        7 => and(l.target < mutexes, no_expression(l)),
-        8 => and(l.target < mutexes, no_expression(l)),
+        1 => (l.target < LOCALS) & expression_ok(l),
+        2 => (l.target < globals) & expression_ok(l),
+        3 => (l.target < LOCALS) & ((l.a < globals) & only_operand_a(l)),
+        4 => (l.target < LOCALS) & no_expression(l),
+        5 => (l.target == 0) & expression_ok(l),
+        6 => (l.target == 0) & expression_ok(l),
+        7 => (l.target < mutexes) & no_expression(l),
+        8 => (l.target < mutexes) & no_expression(l),
         _ => false,
     }
 }

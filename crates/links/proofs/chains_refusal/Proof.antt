@@ -38,9 +38,6 @@ returns c = fails-6 _ _ _ _ _ (c .before .before .before .before .before .before
 add-lines : tie.Need-add-lines Inv-loop μ-loop
 add-lines c = omega (arith, few-followed _ _ _ _ _ (c .before .before .before .before .before .before .before .loop .inv), c .before .before .before .before .before .before .before .before .before .before .before .before .pre .0 .sized .few-records)
 
-and-requires : tie.Need-and-requires Inv-loop μ-loop
-and-requires c κs = search needs
-
 add-t : tie.Need-add-t Inv-loop μ-loop
 add-t c = search needs
 
@@ -48,7 +45,7 @@ loop-less : tie.Need-loop-less Inv-loop μ-loop
 loop-less c = search needs
 
 loop-again : tie.Need-loop-again Inv-loop μ-loop
-loop-again c = follow-on _ _ _ _ _ (c .before .before .before .before .before .before .before .before .loop .inv) _ _ _ (search needs) (c .before .before .before .before .before .before .first-of .ensures) (c .before .before .before .before .follow .ensures) _ (search needs) (c .and .ensures)
+loop-again c = follow-on _ _ _ _ _ (c .before .before .before .before .before .before .before .loop .inv) _ _ _ (search needs) (c .before .before .before .before .before .first-of .ensures) (c .before .before .before .follow .ensures) (search needs)
 
 same-length-2 : tie.Need-same-length-2 Inv-loop μ-loop
 same-length-2 c = search needs
@@ -83,7 +80,6 @@ chains-refusal-spec =
     same-length
     returns
     add-lines
-    and-requires
     add-t
     loop-less
     loop-again

@@ -18,9 +18,6 @@ all-at-most-requires c κs = search needs
 nexts-ok-requires : tie.Need-nexts-ok-requires
 nexts-ok-requires c κs = search needs
 
-and-requires : tie.Need-and-requires
-and-requires c κs = search needs
-
 returns : tie.Need-returns
 returns c = search numbers-are-ok
 
@@ -33,5 +30,4 @@ numbers-ok-spec =
     records-requires
     all-at-most-requires
     nexts-ok-requires
-    and-requires
     returns)

@@ -5,11 +5,8 @@ use Rattle.rules.proofs.no_expression.Tie as tie
 only-operand-a-requires : tie.Need-only-operand-a-requires
 only-operand-a-requires c κs = search needs
 
-and-requires : tie.Need-and-requires
-and-requires c κs = search needs
-
 returns : tie.Need-returns
-returns c = cc
+returns c = rw (c .only-operand-a .ensures)
 
 pub no-expression-spec : {M : Type 1} → statement M
-no-expression-spec = tie.close (tie.spec only-operand-a-requires and-requires returns)
+no-expression-spec = tie.close (tie.spec only-operand-a-requires returns)

@@ -24,9 +24,6 @@ cast-all-at-most c = search needs
 all-at-most-requires-2 : tie.Need-all-at-most-requires-2
 all-at-most-requires-2 c κs = search needs
 
-and-requires : tie.Need-and-requires
-and-requires c κs = search needs
-
 returns : tie.Need-returns
 returns c = search absent-is-ok
 
@@ -41,5 +38,4 @@ absent-ok-spec =
     all-at-most-requires
     cast-all-at-most
     all-at-most-requires-2
-    and-requires
     returns)

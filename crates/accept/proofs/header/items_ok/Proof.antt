@@ -8,11 +8,8 @@ globals-requires c κs = search needs
 mutexes-requires : tie.Need-mutexes-requires
 mutexes-requires c κs = search needs
 
-and-requires : tie.Need-and-requires
-and-requires c κs = search needs
-
 returns : tie.Need-returns
-returns c = cc
+returns c = rw (c .before .globals .ensures, c .mutexes .ensures)
 
 pub items-ok-spec : {M : Type 1} → statement M
-items-ok-spec = tie.close (tie.spec globals-requires mutexes-requires and-requires returns)
+items-ok-spec = tie.close (tie.spec globals-requires mutexes-requires returns)

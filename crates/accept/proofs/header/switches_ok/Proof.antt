@@ -6,7 +6,7 @@ switches-requires : tie.Need-switches-requires
 switches-requires c κs = search needs
 
 returns : tie.Need-returns
-returns c = cc
+returns c = rw (c .switches .ensures)
 
 pub switches-ok-spec : {M : Type 1} → statement M
 switches-ok-spec = tie.close (tie.spec switches-requires returns)

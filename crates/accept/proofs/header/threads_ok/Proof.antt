@@ -5,11 +5,8 @@ use Rattle.accept.proofs.header.threads_ok.Tie as tie
 threads-requires : tie.Need-threads-requires
 threads-requires c κs = search needs
 
-and-requires : tie.Need-and-requires
-and-requires c κs = search needs
-
 returns : tie.Need-returns
-returns c = cc
+returns c = rw (c .threads .ensures)
 
 pub threads-ok-spec : {M : Type 1} → statement M
-threads-ok-spec = tie.close (tie.spec threads-requires and-requires returns)
+threads-ok-spec = tie.close (tie.spec threads-requires returns)

@@ -1,15 +1,11 @@
--- The rules of a record's fields as the code asks for them.
+-- The rule of a kind, asked by the kind's number.
 -- Assumes nothing.
 use Prim.Native.Nat.{ℕ}
-use mathlib.Core.Bool.{Bool, cond, _&&_}
-use lib.Dec.{leb, eqb}
-use Rattle.model.specs.Limits.{localCount, highestKind}
+use mathlib.Core.Bool.{Bool, _&&_}
+use lib.Dec.{leb}
+use Rattle.model.specs.Limits.{highestKind}
 use Rattle.model.specs.CaseFile.{Line, kindOf}
 use Rattle.model.specs.Accept.{kindRule}
-
--- What operand b is at most: "0 gives a (then b is 0)".
-abbrev pub mostB : ℕ → ℕ
-mostB op = cond (eqb op 0) 0 localCount
 
 -- A number that is a kind, and this kind's rule.
 abbrev pub keepsKindRule : ℕ → ℕ → ℕ → Line → Bool
