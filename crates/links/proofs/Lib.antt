@@ -1,3 +1,3 @@
-pub mod Numbers
-pub mod Counts
-pub mod Walks
+pub mod LinkNumbers
+pub mod ReachCounts
+pub mod ChainWalks

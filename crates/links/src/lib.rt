@@ -6,7 +6,7 @@ ghost use Rattle.model.specs.Limits.{mostThreads, recordPlaces};
 ghost use Rattle.model.specs.CaseFile.{records, threadCount};
 ghost use Rattle.case_file.specs.Sized.{Sized};
 ghost use Rattle.links.specs.Links.{nextsIn, numbersOk, LinksWithin, linksRefusal, chainsRefusal};
-ghost use Rattle.links.specs.Counts.{Marks, Followed};
+ghost use Rattle.links.specs.ReachCounts.{Marks, Followed};
 use case_file::FIRSTS;
 use case_file::all_at_most;
 use case_file::first_of;

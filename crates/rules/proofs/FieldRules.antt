@@ -16,7 +16,7 @@ use Rattle.model.specs.Accept.{ruleOk}
 use Rattle.laws.proofs.Views.{LeView, within, beyond, le-view, and-false}
 use Rattle.case_file.specs.declared.Record.{Record}
 use Rattle.case_file.specs.Records.{recordOf, asLine}
-use Rattle.case_file.proofs.Ranges.{over-leb, under-leb}
+use Rattle.case_file.proofs.LoopTests.{over-leb, under-leb}
 use Rattle.rules.specs.KindRule.{keepsKindRule}
 
 -- What the last arm of a `match` on kinds knows: the number is none of 1 to 8.

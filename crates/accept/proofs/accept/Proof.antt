@@ -1,4 +1,4 @@
-use Rattle.case_file.proofs.Ranges.{failed, passed}
+use Rattle.case_file.proofs.LoopTests.{failed, passed}
 use Rattle.accept.proofs.Verdicts.{sized, refused-1, refused-2, refused-3, refused-4, refused-5}
 use borrow.Author.Needs.{needs}
 use Rattle.accept.proofs.accept.Statement.{statement}

@@ -4,7 +4,7 @@ use Prim.Native.Nat.{_+_, _-_}
 use lib.Dec.{leb}
 use Rattle.model.specs.CaseFile.{field}
 use Rattle.model.specs.Lists.{allFrom}
-use Rattle.case_file.proofs.Ranges.{all-at-end, all-fails, all-goes-on, over-leb, under-leb}
+use Rattle.case_file.proofs.LoopTests.{all-at-end, all-fails, all-goes-on, over-leb, under-leb}
 use Rattle.case_file.proofs.all_at_most.Statement.{statement}
 use Rattle.case_file.proofs.all_at_most.Tie as tie
 

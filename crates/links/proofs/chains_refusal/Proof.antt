@@ -1,7 +1,7 @@
 use borrow.Author.Needs.{needs}
 use Prim.Native.Nat.{_-_}
 use native.Mathlib.Omega.{arith}
-use Rattle.links.proofs.Walks.{Following, following-starts, few-followed, follow-on, fails-6, fails-7, passes-7}
+use Rattle.links.proofs.ChainWalks.{Following, following-starts, few-followed, follow-on, fails-6, fails-7, passes-7}
 use Rattle.links.proofs.chains_refusal.Statement.{statement}
 use Rattle.links.proofs.chains_refusal.Tie as tie
 

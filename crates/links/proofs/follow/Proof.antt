@@ -2,7 +2,7 @@ use borrow.Author.Needs.{needs}
 use Prim.Native.Nat.{suc, _-_}
 use native.Mathlib.Omega.{arith}
 use Rattle.model.specs.CaseFile.{records}
-use Rattle.links.proofs.Walks.{Walking, walking-starts, few-passed, walk-ends, came-twice, walk-on}
+use Rattle.links.proofs.ChainWalks.{Walking, walking-starts, few-passed, walk-ends, came-twice, walk-on}
 use Rattle.links.proofs.follow.Statement.{statement}
 use Rattle.links.proofs.follow.Tie as tie
 

@@ -5,7 +5,7 @@ use lib.Dec.{leb}
 use Rattle.model.specs.CaseFile.{records, nextRecord}
 use Rattle.model.specs.Lists.{allFrom}
 use Rattle.links.specs.Links.{nextsIn}
-use Rattle.case_file.proofs.Ranges.{all-at-end, all-fails, all-goes-on, one-less, over-leb, under-leb}
+use Rattle.case_file.proofs.LoopTests.{all-at-end, all-fails, all-goes-on, one-less, over-leb, under-leb}
 use Rattle.links.proofs.nexts_ok.Statement.{statement}
 use Rattle.links.proofs.nexts_ok.Tie as tie
 

@@ -1,4 +1,4 @@
-use Rattle.links.proofs.Numbers.{numbers-are-ok}
+use Rattle.links.proofs.LinkNumbers.{numbers-are-ok}
 use borrow.Author.Needs.{needs}
 use Rattle.links.proofs.numbers_ok.Statement.{statement}
 use Rattle.links.proofs.numbers_ok.Tie as tie

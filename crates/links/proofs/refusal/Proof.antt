@@ -1,4 +1,4 @@
-use Rattle.links.proofs.Numbers.{numbers-fail, numbers-link, numbers-pass}
+use Rattle.links.proofs.LinkNumbers.{numbers-fail, numbers-link, numbers-pass}
 use borrow.Author.Needs.{needs}
 use Rattle.links.proofs.refusal.Statement.{statement}
 use Rattle.links.proofs.refusal.Tie as tie

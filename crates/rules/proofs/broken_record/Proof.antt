@@ -2,7 +2,7 @@ use mathlib.Core.Path.{_≡_, sym, ap, _∙_}
 use Prim.Native.Nat.{_+_, _-_, _≤_}
 use Rattle.model.specs.Lists.{lowestFailing}
 use Rattle.model.specs.Accept.{ruleOk}
-use Rattle.case_file.proofs.Ranges.{one-less, failed, passed}
+use Rattle.case_file.proofs.LoopTests.{one-less, failed, passed}
 use Rattle.rules.proofs.FieldRules.{lowest-at-end, lowest-found, lowest-goes-on}
 use borrow.Author.Needs.{needs}
 use Rattle.rules.proofs.broken_record.Statement.{statement}

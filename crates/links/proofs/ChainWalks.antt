@@ -17,11 +17,11 @@ use Rattle.model.specs.Accept.{lengthsOk}
 use Rattle.laws.specs.Accepted.{linesFrom}
 use Rattle.laws.proofs.Views.{EqView, same, diff, eq-view}
 use Rattle.links.specs.Links.{LinksWithin, chainsRefusal}
-use Rattle.links.specs.Counts.{counted, countLines, countThreads, reachedOf, sumTo, Marks, Twice, Walked, Followed}
-use Rattle.case_file.proofs.Ranges.{all-at-end, all-next}
+use Rattle.links.specs.ReachCounts.{oneMoreAt, countLines, countThreads, reachedOf, sumTo, Marks, Twice, Walked, Followed}
+use Rattle.case_file.proofs.LoopTests.{all-at-end, all-next}
 use Rattle.laws.proofs.Chains.{chains-at, chain-length-any-thread}
 use Rattle.laws.proofs.Following.{chains-more, chains-end}
-use Rattle.links.proofs.Counts.{count-at-end, count-goes-on, lines-at-end, lines-go-on, count-grows, count-of-any, length-of-count, zeros-are-0, sum-of-zeros, sum-of-counted, sum-at-most, twice-goes-on, twice-reached, once-reached, all-reached, not-all-reached}
+use Rattle.links.proofs.ReachCounts.{count-at-end, count-goes-on, lines-told, lines-left, count-grows, count-of-any, length-of-count, zeros-are-0, sum-of-zeros, sum-of-one-more, sum-at-most, twice-goes-on, twice-reached, once-reached, all-reached, not-all-reached}
 
 -- Along the chain from `first`: at record k after n lines.
 pub record Walking (bytes start : List ℕ) (first : ℕ) (marked : List ℕ) (k n : ℕ) : Type 0 where
@@ -46,7 +46,7 @@ module _ (bytes start : List ℕ) (first : ℕ) (marked : List ℕ) (k n : ℕ) 
   walk-ends h = record {
     once = λ few. record {
       counts = sym (count-at-end bytes (suc (records bytes) - n) k marked h) ∙ w .counts;
-      lines = lines-at-end bytes (suc (records bytes) - n) k n _ (w .lines) h;
+      lines = lines-told bytes (suc (records bytes) - n) k n _ (w .lines) h;
       marks = w .marks;
       sum = w .sum;
     };
@@ -57,7 +57,7 @@ module _ (bytes start : List ℕ) (first : ℕ) (marked : List ℕ) (k n : ℕ) 
   long = omega (arith, w .marks .size, links .sized .few-records)
 
   -- one more line is passed
-  goes-on : k ≢ 0 → countLines marked (chain bytes 0 (suc (records bytes) - n) k) ≡ countLines (counted marked k) (chain bytes 0 (suc (records bytes) - n - 1) (nextRecord bytes k))
+  goes-on : k ≢ 0 → countLines marked (chain bytes 0 (suc (records bytes) - n) k) ≡ countLines (oneMoreAt marked k) (chain bytes 0 (suc (records bytes) - n - 1) (nextRecord bytes k))
   goes-on z = count-goes-on bytes (suc (records bytes) - n) k marked (omega (arith, few-passed)) z
 
   pub came-twice : (r : ℕ) → r ≡ records bytes + 1 → k ≢ 0 → getD marked k 0 ≢ 0 → Followed bytes first start marked r
@@ -70,14 +70,14 @@ module _ (bytes start : List ℕ) (first : ℕ) (marked : List ℕ) (k n : ℕ) 
       count = rw (← w .counts, goes-on z)
           (omega (
             arith,
-            count-grows (counted marked k) (chain bytes 0 (suc (records bytes) - n - 1) (nextRecord bytes k)) k (omega (arith, long, w .within, length-set marked k (getD marked k 0 + 1))),
+            count-grows (oneMoreAt marked k) (chain bytes 0 (suc (records bytes) - n - 1) (nextRecord bytes k)) k (omega (arith, long, w .within, length-set marked k (getD marked k 0 + 1))),
             getD-set-same marked k (getD marked k 0 + 1) 0 (omega (arith, long, w .within)),
           ));
     };
   }
 
   module _ (z : k ≢ 0) (new : getD marked k 0 ≡ 0) where
-    mark : set marked k 1 ≡ counted marked k
+    mark : set marked k 1 ≡ oneMoreAt marked k
     mark = rw new
 
     fewer : suc (records bytes) - n - 1 ≡ suc (records bytes) - (n + 1)
@@ -92,8 +92,8 @@ module _ (bytes start : List ℕ) (first : ℕ) (marked : List ℕ) (k n : ℕ) 
       within = links .nexts k (omega arith) (w .within);
       marks = record { size = length-set marked k 1 ∙ w .marks .size; single = λ j. single j (eq-view j k) };
       counts = rw (← fewer, mark) (sym (goes-on z) ∙ w .counts);
-      lines = rw (← fewer) (lines-go-on bytes (suc (records bytes) - n) k n _ (w .lines) (omega (arith, few-passed)) z);
-      sum = rw mark (omega (arith, w .sum, sum-of-counted marked k (records bytes) (omega arith) (w .within) long));
+      lines = rw (← fewer) (lines-left bytes (suc (records bytes) - n) k n _ (w .lines) (omega (arith, few-passed)) z);
+      sum = rw mark (omega (arith, w .sum, sum-of-one-more marked k (records bytes) (omega arith) (w .within) long));
     }
 
 -- Thread t has few lines.

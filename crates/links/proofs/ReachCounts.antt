@@ -19,7 +19,7 @@ use Rattle.laws.proofs.Views.{EqView, same, diff, eq-view}
 use Rattle.laws.proofs.Ranges.{all-from-gives, all-from-of}
 use Rattle.laws.proofs.Chains.{chain-end}
 use Rattle.links.specs.Links.{onceOk}
-use Rattle.links.specs.Counts.{counted, countLines, countThreads, reachedOf, sumTo, Marks, Twice}
+use Rattle.links.specs.ReachCounts.{oneMoreAt, countLines, countThreads, reachedOf, sumTo, Marks, Twice}
 
 -- Along a chain that is followed for so many steps.
 chain-of-record : (bytes : List ℕ) (most k : ℕ) → 0 < most → k ≢ 0 → chain bytes 0 most k ≡ lineOf bytes 0 k ∷ chain bytes 0 (most - 1) (nextRecord bytes k)
@@ -36,16 +36,16 @@ module _ (bytes : List ℕ) (most k : ℕ) where
   unfolding countLines
   count-at-end counts h = rw (chain-of-end h)
 
-  pub count-goes-on : (counts : List ℕ) → 0 < most → k ≢ 0 → countLines counts (chain bytes 0 most k) ≡ countLines (counted counts k) (chain bytes 0 (most - 1) (nextRecord bytes k))
+  pub count-goes-on : (counts : List ℕ) → 0 < most → k ≢ 0 → countLines counts (chain bytes 0 most k) ≡ countLines (oneMoreAt counts k) (chain bytes 0 (most - 1) (nextRecord bytes k))
   unfolding countLines
   count-goes-on counts h n = rw (chain-of-record bytes most k h n)
 
   -- How many lines there are: n so far, and those that are left.
-  pub lines-at-end : (n all : ℕ) → n + length (chain bytes 0 most k) ≡ all → k ≡ 0 → n ≡ all
-  lines-at-end n all e h = omega (arith, e, ap length (chain-of-end h))
+  pub lines-told : (n all : ℕ) → n + length (chain bytes 0 most k) ≡ all → k ≡ 0 → n ≡ all
+  lines-told n all e h = omega (arith, e, ap length (chain-of-end h))
 
-  pub lines-go-on : (n all : ℕ) → n + length (chain bytes 0 most k) ≡ all → 0 < most → k ≢ 0 → n + 1 + length (chain bytes 0 (most - 1) (nextRecord bytes k)) ≡ all
-  lines-go-on n all e h z = omega (arith, e, ap length (chain-of-record bytes most k h z))
+  pub lines-left : (n all : ℕ) → n + length (chain bytes 0 most k) ≡ all → 0 < most → k ≢ 0 → n + 1 + length (chain bytes 0 (most - 1) (nextRecord bytes k)) ≡ all
+  lines-left n all e h z = omega (arith, e, ap length (chain-of-record bytes most k h z))
 
 pub zeros-are-0 : (n j : ℕ) → getD (replicate n 0) j 0 ≤ 0
 zeros-are-0 zero j = omega arith
@@ -55,19 +55,19 @@ zeros-are-0 (suc n) (suc j) = zeros-are-0 n j
 pub length-of-count : (counts : List ℕ) (ls : List Line) → length (countLines counts ls) ≡ length counts
 unfolding countLines
 length-of-count counts [] = refl
-length-of-count counts (l ∷ ls) = length-of-count (counted counts (l .number)) ls ∙ length-set counts (l .number) (getD counts (l .number) 0 + 1)
+length-of-count counts (l ∷ ls) = length-of-count (oneMoreAt counts (l .number)) ls ∙ length-set counts (l .number) (getD counts (l .number) 0 + 1)
 
 -- Each count grows by how many of the lines have its number.
 count-of-lines : (counts : List ℕ) (ls : List Line) (j : ℕ) → j < length counts → getD (countLines counts ls) j 0 ≡ getD counts j 0 + sumOfLines (hasNumber j) ls
 unfolding countLines
 count-of-lines counts [] j h = omega arith
 count-of-lines counts (l ∷ ls) j h =
-    go (eq-view (l .number) j) (count-of-lines (counted counts (l .number)) ls j (omega (arith, length-set counts (l .number) (getD counts (l .number) 0 + 1))))
+    go (eq-view (l .number) j) (count-of-lines (oneMoreAt counts (l .number)) ls j (omega (arith, length-set counts (l .number) (getD counts (l .number) 0 + 1))))
   where
-    go : EqView (l .number) j → getD (countLines (counted counts (l .number)) ls) j 0 ≡ getD (counted counts (l .number)) j 0 + sumOfLines (hasNumber j) ls
-        → getD (countLines (counted counts (l .number)) ls) j 0 ≡ getD counts j 0 + (bit (eqb (l .number) j) + sumOfLines (hasNumber j) ls)
+    go : EqView (l .number) j → getD (countLines (oneMoreAt counts (l .number)) ls) j 0 ≡ getD (oneMoreAt counts (l .number)) j 0 + sumOfLines (hasNumber j) ls
+        → getD (countLines (oneMoreAt counts (l .number)) ls) j 0 ≡ getD counts j 0 + (bit (eqb (l .number) j) + sumOfLines (hasNumber j) ls)
     go (same e q) ih =
-        let s : getD (counted counts (l .number)) j 0 ≡ getD counts j 0 + 1 = rw e (getD-set-same counts j (getD counts j 0 + 1) 0 h) in
+        let s : getD (oneMoreAt counts (l .number)) j 0 ≡ getD counts j 0 + 1 = rw e (getD-set-same counts j (getD counts j 0 + 1) 0 h) in
         rw q (omega (arith, ih, s))
     go (diff n q) ih = rw q (omega (arith, ih, getD-set-other counts (l .number) j (getD counts (l .number) 0 + 1) 0 (λ p. n (sym p))))
 
@@ -90,7 +90,7 @@ pub count-of-any : (bytes counts : List ℕ) (t u most k : ℕ) → countLines c
 unfolding countLines chain
 count-of-any bytes counts t u zero k = refl
 count-of-any bytes counts t u (suc most) zero = refl
-count-of-any bytes counts t u (suc most) (suc k) = count-of-any bytes (counted counts (suc k)) t u most (nextRecord bytes (suc k))
+count-of-any bytes counts t u (suc most) (suc k) = count-of-any bytes (oneMoreAt counts (suc k)) t u most (nextRecord bytes (suc k))
 
 -- The sum of the counts of records 1 to `most`.
 pub sum-of-zeros : (n most : ℕ) → sumTo (replicate n 0) most ≡ 0
@@ -103,14 +103,14 @@ unfolding sumTo
 sum-beyond counts k x zero h = refl
 sum-beyond counts k x (suc most) h = omega (arith, sum-beyond counts k x most (omega arith), getD-set-other counts k (suc most) x 0 (λ e. omega arith))
 
-pub sum-of-counted : (counts : List ℕ) (k most : ℕ) → 0 < k → k ≤ most → most < length counts → sumTo (counted counts k) most ≡ sumTo counts most + 1
+pub sum-of-one-more : (counts : List ℕ) (k most : ℕ) → 0 < k → k ≤ most → most < length counts → sumTo (oneMoreAt counts k) most ≡ sumTo counts most + 1
 unfolding sumTo
-sum-of-counted counts k zero p h l = absurd (omega arith)
-sum-of-counted counts k (suc most) p h l = go (λ i. sum-of-counted counts k most p i (omega arith)) (eq-view (suc most) k)
+sum-of-one-more counts k zero p h l = absurd (omega arith)
+sum-of-one-more counts k (suc most) p h l = go (λ i. sum-of-one-more counts k most p i (omega arith)) (eq-view (suc most) k)
   where
-    go : (k ≤ most → sumTo (counted counts k) most ≡ sumTo counts most + 1) → EqView (suc most) k → sumTo (counted counts k) most + getD (counted counts k) (suc most) 0 ≡ sumTo counts most + getD counts (suc most) 0 + 1
+    go : (k ≤ most → sumTo (oneMoreAt counts k) most ≡ sumTo counts most + 1) → EqView (suc most) k → sumTo (oneMoreAt counts k) most + getD (oneMoreAt counts k) (suc most) 0 ≡ sumTo counts most + getD counts (suc most) 0 + 1
     go before (same e q) =
-        let s : getD (counted counts k) (suc most) 0 ≡ getD counts (suc most) 0 + 1 = rw e (getD-set-same counts k (getD counts k 0 + 1) 0 (omega arith)) in
+        let s : getD (oneMoreAt counts k) (suc most) 0 ≡ getD counts (suc most) 0 + 1 = rw e (getD-set-same counts k (getD counts k 0 + 1) 0 (omega arith)) in
         omega (arith, s, sum-beyond counts k (getD counts k 0 + 1) most (omega arith))
     go before (diff n q) = omega (arith, before (omega arith), getD-set-other counts k (suc most) (getD counts k 0 + 1) 0 n)
 

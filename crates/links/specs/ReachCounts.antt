@@ -9,12 +9,12 @@ use Rattle.model.specs.CaseFile.{Line, records, threadCount, chains}
 use Rattle.laws.specs.Accepted.{linesFrom}
 
 -- The counts with one more at k; for each of the lines; for each line of the threads.
-abbrev pub counted : List ℕ → ℕ → List ℕ
-counted counts k = set counts k (getD counts k 0 + 1)
+abbrev pub oneMoreAt : List ℕ → ℕ → List ℕ
+oneMoreAt counts k = set counts k (getD counts k 0 + 1)
 
 unfoldable pub countLines : List ℕ → List Line → List ℕ
 countLines counts [] = counts
-countLines counts (l ∷ ls) = countLines (counted counts (l .number)) ls
+countLines counts (l ∷ ls) = countLines (oneMoreAt counts (l .number)) ls
 
 unfoldable pub countThreads : List ℕ → List (List Line) → List ℕ
 countThreads counts [] = counts
