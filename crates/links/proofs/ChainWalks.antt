@@ -25,19 +25,20 @@ use Rattle.links.proofs.ReachCounts.{count-at-end, count-goes-on, lines
 
 -- Along the chain from `first`: at record k after n lines.
 pub record Walking (bytes start : List ℕ) (first : ℕ) (marked : List ℕ) (k n : ℕ) : Type 0 where
+  pub links : LinksWithin bytes
   pub within : k ≤ records bytes
   pub marks : Marks marked
   pub counts : countLines marked (chain bytes 0 (suc (records bytes) - n) k) ≡ countLines start (linesFrom bytes 0 first)
   pub lines : n + length (chain bytes 0 (suc (records bytes) - n) k) ≡ length (linesFrom bytes 0 first)
   pub sum : sumTo marked (records bytes) ≡ sumTo start (records bytes) + n
 
-pub walking-starts : (bytes start : List ℕ) (first : ℕ) → first ≤ records bytes → Marks start → Walking bytes start first start first 0
-walking-starts bytes start first h marks = record { within = h; marks = marks; counts = rw e; lines = rw e (zero-add _); sum = omega arith }
+pub walking-starts : (bytes start : List ℕ) (first : ℕ) → LinksWithin bytes → first ≤ records bytes → Marks start → Walking bytes start first start first 0
+walking-starts bytes start first links h marks = record { links = links; within = h; marks = marks; counts = rw e; lines = rw e (zero-add _); sum = omega arith }
   where
     e : suc (records bytes) - 0 ≡ suc (records bytes)
     e = omega arith
 
-module _ (bytes start : List ℕ) (first : ℕ) (marked : List ℕ) (k n : ℕ) (links : LinksWithin bytes) (w : Walking bytes start first marked k n) where
+module _ (bytes start : List ℕ) (first : ℕ) (marked : List ℕ) (k n : ℕ) (w : Walking bytes start first marked k n) where
   -- Each line was marked anew, so there are no more than records.
   pub few-passed : n ≤ records bytes
   few-passed = omega (arith, w .sum, sum-at-most marked (records bytes) (w .marks .single))
@@ -54,7 +55,7 @@ module _ (bytes start : List ℕ) (first : ℕ) (marked : List ℕ) (k n : ℕ) 
   }
 
   long : records bytes < length marked
-  long = omega (arith, w .marks .size, links .sized .few-records)
+  long = omega (arith, w .marks .size, w .links .sized .few-records)
 
   -- one more line is passed
   goes-on : k ≢ 0 → countLines marked (chain bytes 0 (suc (records bytes) - n) k) ≡ countLines (oneMoreAt marked k) (chain bytes 0 (suc (records bytes) - n - 1) (nextRecord bytes k))
@@ -89,7 +90,8 @@ module _ (bytes start : List ℕ) (first : ℕ) (marked : List ℕ) (k n : ℕ) 
 
     pub walk-on : Walking bytes start first (set marked k 1) (nextRecord bytes k) (n + 1)
     walk-on = record {
-      within = links .nexts k (omega arith) (w .within);
+      links = w .links;
+      within = w .links .nexts k (omega arith) (w .within);
       marks = record { size = length-set marked k 1 ∙ w .marks .size; single = λ j. single j (eq-view j k) };
       counts = rw (← fewer, mark) (sym (goes-on z) ∙ w .counts);
       lines = rw (← fewer) (lines-left bytes (suc (records bytes) - n) k n _ (w .lines) (omega (arith, few-passed)) z);
@@ -107,14 +109,16 @@ lines-of-thread bytes t first n h ef en =
 
 -- Over the threads: before thread t, with so many lines passed.
 pub record Following (bytes marked : List ℕ) (lines : ℕ) (few : Bool) (t : ℕ) : Type 0 where
+  pub small : records bytes ≤ mostRecords
   pub within : t ≤ threadCount bytes
   pub marks : Marks marked
   pub counts : countThreads marked (chains bytes t (threadCount bytes - t)) ≡ reachedOf bytes
   pub sum : sumTo marked (records bytes) ≡ lines
   pub lengths : (few && allFrom (fewLines bytes) t (threadCount bytes - t)) ≡ lengthsOk bytes
 
-pub following-starts : (bytes marked : List ℕ) → marked ≡ replicate recordPlaces 0 → Following bytes marked 0 true 0
-following-starts bytes marked e = record {
+pub following-starts : (bytes marked : List ℕ) → LinksWithin bytes → marked ≡ replicate recordPlaces 0 → Following bytes marked 0 true 0
+following-starts bytes marked links e = record {
+  small = links .sized .few-records;
   within = omega arith;
   marks = rw e (record { size = length-replicate {A = ℕ} recordPlaces 0; single = λ j. omega (arith, zeros-are-0 recordPlaces j) });
   counts = rw (e, all);
@@ -137,6 +141,7 @@ module _ (bytes marked : List ℕ) (lines : ℕ) (few : Bool) (t : ℕ) (f : Fol
 
     pub follow-on : n ≤ records bytes → Following bytes after (lines + n) (few && leb n mostLines) (t + 1)
     follow-on within = record {
+      small = f .small;
       within = omega arith;
       marks = walked .marks;
       counts = rw (walked .counts) rest-of;
@@ -151,22 +156,22 @@ module _ (bytes marked : List ℕ) (lines : ℕ) (few : Bool) (t : ℕ) (f : Fol
         and-next true test i to h = sym (all-next test i to h)
         and-next false test i to h = refl
 
-    pub fails-6 : records bytes ≤ mostRecords → records bytes < n → 6 ≡ chainsRefusal bytes
-    fails-6 small more =
-        rw (twice-reached bytes small two)
+    pub fails-6 : records bytes < n → 6 ≡ chainsRefusal bytes
+    fails-6 more =
+        rw (twice-reached bytes (f .small) two)
       where
         two : Twice (reachedOf bytes) (records bytes)
-        two = rw (← rest-of) (twice-goes-on _ _ (records bytes) (omega (arith, f .marks .size, length-of-count marked (linesFrom bytes 0 first))) (fo .twice more))
+        two = rw (← rest-of) (twice-goes-on _ _ (records bytes) (omega (arith, f .small, f .marks .size, length-of-count marked (linesFrom bytes 0 first))) (fo .twice more))
 
-  module _ (small : records bytes ≤ mostRecords) (end : threadCount bytes ≤ t) where
+  module _ (end : threadCount bytes ≤ t) where
     all-counts : marked ≡ reachedOf bytes
     unfolding countThreads
     all-counts = sym (ap (countThreads marked) (chains-end bytes t (threadCount bytes) end)) ∙ f .counts
 
     pub fails-7 : lines < records bytes → 7 ≡ chainsRefusal bytes
-    fails-7 less = rw (once-reached bytes small marked all-counts (f .marks), not-all-reached bytes small marked all-counts (f .marks) (omega (arith, f .sum)))
+    fails-7 less = rw (once-reached bytes (f .small) marked all-counts (f .marks), not-all-reached bytes (f .small) marked all-counts (f .marks) (omega (arith, f .sum)))
 
     pub passes-7 : records bytes ≤ lines → (r : ℕ) → r ≡ unless few 8 0 → r ≡ chainsRefusal bytes
     passes-7 full r e =
         let last : lengthsOk bytes ≡ few = sym (f .lengths) ∙ ap (λ (q : Bool). few && q) (all-at-end (fewLines bytes) t (threadCount bytes) end) ∙ and-true few in
-        rw (once-reached bytes small marked all-counts (f .marks), all-reached bytes small marked all-counts (f .marks) (omega (arith, f .sum)), last) e
+        rw (once-reached bytes (f .small) marked all-counts (f .marks), all-reached bytes (f .small) marked all-counts (f .marks) (omega (arith, f .sum)), last) e

@@ -21,7 +21,7 @@ records-requires : tie.Need-records-requires Inv-loop μ-loop
 records-requires c κs = search needs
 
 loop-holds : tie.Need-loop-holds Inv-loop μ-loop
-loop-holds c = following-starts _ _ (c .before .before .before .before .pre .1)
+loop-holds c = search following-starts
 
 first-of-requires : tie.Need-first-of-requires Inv-loop μ-loop
 first-of-requires c κs = search needs
@@ -33,10 +33,10 @@ same-length : tie.Need-same-length Inv-loop μ-loop
 same-length c = search needs
 
 returns : tie.Need-returns Inv-loop μ-loop
-returns c = fails-6 _ _ _ _ _ (c .before .before .before .before .before .before .before .loop .inv) _ _ _ (search needs) (c .before .before .before .before .before .first-of .ensures) (c .before .before .before .follow .ensures) (c .before .before .before .before .before .before .before .before .before .before .before .before .pre .0 .sized .few-records) (search needs)
+returns c = fails-6 _ _ _ _ _ (c .before .before .before .before .before .before .before .loop .inv) _ _ _ (search needs) (c .before .before .before .before .before .first-of .ensures) (c .before .before .before .follow .ensures) (search needs)
 
 add-lines : tie.Need-add-lines Inv-loop μ-loop
-add-lines c = omega (arith, few-followed _ _ _ _ _ (c .before .before .before .before .before .before .before .loop .inv), c .before .before .before .before .before .before .before .before .before .before .before .before .pre .0 .sized .few-records)
+add-lines c = omega (arith, few-followed _ _ _ _ _ (c .before .before .before .before .before .before .before .loop .inv))
 
 add-t : tie.Need-add-t Inv-loop μ-loop
 add-t c = search needs
@@ -51,19 +51,19 @@ same-length-2 : tie.Need-same-length-2 Inv-loop μ-loop
 same-length-2 c = search needs
 
 returns-2 : tie.Need-returns-2 Inv-loop μ-loop
-returns-2 c = fails-7 _ _ _ _ _ (c .before .before .loop .inv) (c .before .before .before .before .before .before .before .pre .0 .sized .few-records) (search needs) (search needs)
+returns-2 c = fails-7 _ _ _ _ _ (c .before .before .loop .inv) (search needs) (search needs)
 
 same-length-3 : tie.Need-same-length-3 Inv-loop μ-loop
 same-length-3 c = search needs
 
 returns-3 : tie.Need-returns-3 Inv-loop μ-loop
-returns-3 c = passes-7 _ _ _ _ _ (c .before .before .before .loop .inv) (c .before .before .before .before .before .before .before .before .pre .0 .sized .few-records) (search needs) (search needs) _ (rw (c .if3 .taken))
+returns-3 c = passes-7 _ _ _ _ _ (c .before .before .before .loop .inv) (search needs) (search needs) _ (rw (c .if3 .taken))
 
 same-length-4 : tie.Need-same-length-4 Inv-loop μ-loop
 same-length-4 c = search needs
 
 returns-4 : tie.Need-returns-4 Inv-loop μ-loop
-returns-4 c = passes-7 _ _ _ _ _ (c .before .before .before .loop .inv) (c .before .before .before .before .before .before .before .before .pre .0 .sized .few-records) (search needs) (search needs) _ (rw (c .if3 .left))
+returns-4 c = passes-7 _ _ _ _ _ (c .before .before .before .loop .inv) (search needs) (search needs) _ (rw (c .if3 .left))
 
 pub chains-refusal-spec : {M : Type 1} → statement M
 chains-refusal-spec =
