@@ -38,7 +38,7 @@ walking-starts bytes start first links h marks = record { links = links; within 
     e : suc (records bytes) - 0 ≡ suc (records bytes)
     e = omega arith
 
-module _ (bytes start : List ℕ) (first : ℕ) (marked : List ℕ) (k n : ℕ) (w : Walking bytes start first marked k n) where
+module _ {bytes start : List ℕ} {first : ℕ} {marked : List ℕ} {k n : ℕ} (w : Walking bytes start first marked k n) where
   -- Each line was marked anew, so there are no more than records.
   pub few-passed : n ≤ records bytes
   few-passed = omega (arith, w .sum, sum-at-most marked (records bytes) (w .marks .single))
@@ -61,8 +61,8 @@ module _ (bytes start : List ℕ) (first : ℕ) (marked : List ℕ) (k n : ℕ) 
   goes-on : k ≢ 0 → countLines marked (chain bytes 0 (suc (records bytes) - n) k) ≡ countLines (oneMoreAt marked k) (chain bytes 0 (suc (records bytes) - n - 1) (nextRecord bytes k))
   goes-on z = count-goes-on bytes (suc (records bytes) - n) k marked (omega (arith, few-passed)) z
 
-  pub came-twice : (r : ℕ) → r ≡ records bytes + 1 → k ≢ 0 → getD marked k 0 ≢ 0 → Followed bytes first start marked r
-  came-twice r e z m = record {
+  pub came-twice : {r : ℕ} → r ≡ records bytes + 1 → k ≢ 0 → getD marked k 0 ≢ 0 → Followed bytes first start marked r
+  came-twice e z m = record {
     once = λ few. absurd (omega arith);
     twice = λ more. record {
       place = k;
@@ -129,12 +129,12 @@ following-starts bytes marked links e = record {
     all : threadCount bytes - 0 ≡ threadCount bytes
     all = omega arith
 
-module _ (bytes marked : List ℕ) (lines : ℕ) (few : Bool) (t : ℕ) (f : Following bytes marked lines few t) where
+module _ {bytes marked : List ℕ} {lines : ℕ} {few : Bool} {t : ℕ} (f : Following bytes marked lines few t) where
   pub few-followed : lines ≤ records bytes
   few-followed = omega (arith, f .sum, sum-at-most marked (records bytes) (f .marks .single))
 
   -- One thread more.
-  module _ (first n : ℕ) (after : List ℕ) (h : t < threadCount bytes) (ef : first ≡ firstRecord bytes t) (fo : Followed bytes first marked after n) where
+  module _ {first n : ℕ} {after : List ℕ} (h : t < threadCount bytes) (ef : first ≡ firstRecord bytes t) (fo : Followed bytes first marked after n) where
     rest-of : countThreads (countLines marked (linesFrom bytes 0 first)) (chains bytes (t + 1) (threadCount bytes - (t + 1))) ≡ reachedOf bytes
     unfolding countThreads
     rest-of = rw (ef, count-of-any bytes marked 0 t (suc (records bytes)) (firstRecord bytes t)) (sym (ap (countThreads marked) (chains-more bytes t (threadCount bytes) h)) ∙ f .counts)
@@ -171,7 +171,7 @@ module _ (bytes marked : List ℕ) (lines : ℕ) (few : Bool) (t : ℕ) (f : Fol
     pub fails-7 : lines < records bytes → 7 ≡ chainsRefusal bytes
     fails-7 less = rw (once-reached bytes (f .small) marked all-counts (f .marks), not-all-reached bytes (f .small) marked all-counts (f .marks) (omega (arith, f .sum)))
 
-    pub passes-7 : records bytes ≤ lines → (r : ℕ) → r ≡ unless few 8 0 → r ≡ chainsRefusal bytes
-    passes-7 full r e =
+    pub passes-7 : records bytes ≤ lines → {r : ℕ} → r ≡ unless few 8 0 → r ≡ chainsRefusal bytes
+    passes-7 full e =
         let last : lengthsOk bytes ≡ few = sym (f .lengths) ∙ ap (λ (q : Bool). few && q) (all-at-end (fewLines bytes) t (threadCount bytes) end) ∙ and-true few in
         rw (once-reached bytes (f .small) marked all-counts (f .marks), all-reached bytes (f .small) marked all-counts (f .marks) (omega (arith, f .sum)), last) e

@@ -33,10 +33,10 @@ same-length : tie.Need-same-length Inv-loop μ-loop
 same-length c = search needs
 
 returns : tie.Need-returns Inv-loop μ-loop
-returns c = fails-6 _ _ _ _ _ (c .before .before .before .before .before .before .before .loop .inv) _ _ _ (search needs) (c .before .before .before .before .before .first-of .ensures) (c .before .before .before .follow .ensures) (search needs)
+returns c = fails-6 (c .before .before .before .before .before .before .before .loop .inv) (search needs) (c .before .before .before .before .before .first-of .ensures) (c .before .before .before .follow .ensures) (search needs)
 
 add-lines : tie.Need-add-lines Inv-loop μ-loop
-add-lines c = omega (arith, few-followed _ _ _ _ _ (c .before .before .before .before .before .before .before .loop .inv))
+add-lines c = omega (arith, few-followed (c .before .before .before .before .before .before .before .loop .inv))
 
 add-t : tie.Need-add-t Inv-loop μ-loop
 add-t c = search needs
@@ -45,25 +45,25 @@ loop-less : tie.Need-loop-less Inv-loop μ-loop
 loop-less c = search needs
 
 loop-again : tie.Need-loop-again Inv-loop μ-loop
-loop-again c = follow-on _ _ _ _ _ (c .before .before .before .before .before .before .before .loop .inv) _ _ _ (search needs) (c .before .before .before .before .before .first-of .ensures) (c .before .before .before .follow .ensures) (search needs)
+loop-again c = follow-on (c .before .before .before .before .before .before .before .loop .inv) (search needs) (c .before .before .before .before .before .first-of .ensures) (c .before .before .before .follow .ensures) (search needs)
 
 same-length-2 : tie.Need-same-length-2 Inv-loop μ-loop
 same-length-2 c = search needs
 
 returns-2 : tie.Need-returns-2 Inv-loop μ-loop
-returns-2 c = fails-7 _ _ _ _ _ (c .before .before .loop .inv) (search needs) (search needs)
+returns-2 c = fails-7 (c .before .before .loop .inv) (search needs) (search needs)
 
 same-length-3 : tie.Need-same-length-3 Inv-loop μ-loop
 same-length-3 c = search needs
 
 returns-3 : tie.Need-returns-3 Inv-loop μ-loop
-returns-3 c = passes-7 _ _ _ _ _ (c .before .before .before .loop .inv) (search needs) (search needs) _ (rw (c .if3 .taken))
+returns-3 c = passes-7 (c .before .before .before .loop .inv) (search needs) (search needs) (rw (c .if3 .taken))
 
 same-length-4 : tie.Need-same-length-4 Inv-loop μ-loop
 same-length-4 c = search needs
 
 returns-4 : tie.Need-returns-4 Inv-loop μ-loop
-returns-4 c = passes-7 _ _ _ _ _ (c .before .before .before .loop .inv) (search needs) (search needs) _ (rw (c .if3 .left))
+returns-4 c = passes-7 (c .before .before .before .loop .inv) (search needs) (search needs) (rw (c .if3 .left))
 
 pub chains-refusal-spec : {M : Type 1} → statement M
 chains-refusal-spec =

@@ -28,7 +28,7 @@ same-length : tie.Need-same-length Inv-loop μ-loop
 same-length c = search needs
 
 returns : tie.Need-returns Inv-loop μ-loop
-returns c = came-twice _ _ _ _ _ _ (c .before .before .before .before .loop .inv) _ (omega arith) (c .before .before .before .loop-test .taken) (c .before .if1 .taken)
+returns c = came-twice (c .before .before .before .before .loop .inv) (omega arith) (c .before .before .before .loop-test .taken) (c .before .if1 .taken)
 
 slice-write-reached : tie.Need-slice-write-reached Inv-loop μ-loop
 slice-write-reached c = search needs
@@ -37,19 +37,19 @@ next-of-requires : tie.Need-next-of-requires Inv-loop μ-loop
 next-of-requires c κs = search needs
 
 add-n : tie.Need-add-n Inv-loop μ-loop
-add-n c = omega (arith, few-passed _ _ _ _ _ _ (c .before .before .before .before .loop .inv))
+add-n c = omega (arith, few-passed (c .before .before .before .before .loop .inv))
 
 loop-less : tie.Need-loop-less Inv-loop μ-loop
-loop-less c = omega (arith, few-passed _ _ _ _ _ _ (c .before .before .before .before .loop .inv))
+loop-less c = omega (arith, few-passed (c .before .before .before .before .loop .inv))
 
 loop-again : tie.Need-loop-again Inv-loop μ-loop
-loop-again c = rw (c .next-of .ensures) (walk-on _ _ _ _ _ _ (c .before .before .before .before .loop .inv) (c .before .before .before .loop-test .taken) (c .before .if1 .left))
+loop-again c = rw (c .next-of .ensures) (walk-on (c .before .before .before .before .loop .inv) (c .before .before .before .loop-test .taken) (c .before .if1 .left))
 
 same-length-2 : tie.Need-same-length-2 Inv-loop μ-loop
 same-length-2 c = search needs
 
 returns-2 : tie.Need-returns-2 Inv-loop μ-loop
-returns-2 c = walk-ends _ _ _ _ _ _ (c .before .loop .inv) (c .loop-test .left)
+returns-2 c = walk-ends (c .before .loop .inv) (c .loop-test .left)
 
 pub follow-spec : {M : Type 1} → statement M
 follow-spec =
