@@ -14,40 +14,40 @@ use Rattle.model.specs.Limits.{mostLines, mostRecords, recordPlaces}
 use Rattle.model.specs.Lists.{allFrom, unless}
 use Rattle.model.specs.CaseFile.{records, threadCount, firstRecord, nextRecord, chain, chains}
 use Rattle.model.specs.Accept.{lengthsOk}
-use Rattle.laws.specs.Accepted.{linesFrom}
+use Rattle.laws.specs.Accepted.{threadLines}
 use Rattle.laws.proofs.Views.{EqView, same, diff, eq-view}
 use Rattle.links.specs.Links.{LinksWithin, chainsRefusal}
 use Rattle.links.specs.ReachCounts.{oneMoreAt, countLines, countThreads, reachedOf, sumTo, Marks, Twice, Walked, Followed}
 use Rattle.case_file.proofs.LoopTests.{all-at-end, all-next}
-use Rattle.laws.proofs.Chains.{chains-at, chain-length-any-thread}
+use Rattle.laws.proofs.Chains.{threads-are}
 use Rattle.laws.proofs.Following.{chains-more, chains-end}
-use Rattle.links.proofs.ReachCounts.{count-at-end, count-goes-on, lines-told, lines-left, count-grows, count-of-any, length-of-count, zeros-are-0, sum-of-zeros, sum-of-one-more, sum-at-most, twice-goes-on, twice-reached, once-reached, all-reached, not-all-reached}
+use Rattle.links.proofs.ReachCounts.{count-at-end, count-goes-on, lines-told, lines-left, count-grows, length-of-count, zeros-are-0, sum-of-zeros, sum-of-one-more, sum-at-most, twice-goes-on, twice-reached, once-reached, all-reached, not-all-reached}
 
--- Along the chain from `first`: at record k after n lines.
-pub record Walking (bytes start : List ℕ) (first : ℕ) (marked : List ℕ) (k n : ℕ) : Type 0 where
+-- Along the chain of thread t: at record k after n lines.
+pub record Walking (bytes start : List ℕ) (t : ℕ) (marked : List ℕ) (k n : ℕ) : Type 0 where
   pub links : LinksWithin bytes
   pub within : k ≤ records bytes
   pub marks : Marks marked
-  pub counts : countLines marked (chain bytes 0 (suc (records bytes) - n) k) ≡ countLines start (linesFrom bytes 0 first)
-  pub lines : n + length (chain bytes 0 (suc (records bytes) - n) k) ≡ length (linesFrom bytes 0 first)
+  pub counts : countLines marked (chain bytes t (suc (records bytes) - n) k) ≡ countLines start (threadLines bytes t)
+  pub lines : n + length (chain bytes t (suc (records bytes) - n) k) ≡ length (threadLines bytes t)
   pub sum : sumTo marked (records bytes) ≡ sumTo start (records bytes) + n
 
-pub walking-starts : (bytes start : List ℕ) (first : ℕ) → LinksWithin bytes → first ≤ records bytes → Marks start → Walking bytes start first start first 0
-walking-starts bytes start first links h marks = record { links = links; within = h; marks = marks; counts = rw e; lines = rw e (zero-add _); sum = omega arith }
+pub walking-starts : {bytes start : List ℕ} {t first : ℕ} → LinksWithin bytes → t < threadCount bytes → Marks start → first ≡ firstRecord bytes t → Walking bytes start t start first 0
+walking-starts {bytes} {start} {t} links h marks ef = record { links = links; within = rw ef (links .firsts t h); marks = marks; counts = rw (ef, e); lines = rw (ef, e) (zero-add _); sum = omega arith }
   where
     e : suc (records bytes) - 0 ≡ suc (records bytes)
     e = omega arith
 
-module _ {bytes start : List ℕ} {first : ℕ} {marked : List ℕ} {k n : ℕ} (w : Walking bytes start first marked k n) where
+module _ {bytes start : List ℕ} {t : ℕ} {marked : List ℕ} {k n : ℕ} (w : Walking bytes start t marked k n) where
   -- Each line was marked anew, so there are no more than records.
   pub few-passed : n ≤ records bytes
   few-passed = omega (arith, w .sum, sum-at-most marked (records bytes) (w .marks .single))
 
-  pub walk-ends : k ≡ 0 → Followed bytes first start marked n
+  pub walk-ends : k ≡ 0 → Followed bytes t start marked n
   walk-ends h = record {
     once = λ few. record {
-      counts = sym (count-at-end bytes (suc (records bytes) - n) k marked h) ∙ w .counts;
-      lines = lines-told bytes (suc (records bytes) - n) k n _ (w .lines) h;
+      counts = sym (count-at-end bytes t (suc (records bytes) - n) k marked h) ∙ w .counts;
+      lines = lines-told bytes t (suc (records bytes) - n) k n _ (w .lines) h;
       marks = w .marks;
       sum = w .sum;
     };
@@ -58,10 +58,10 @@ module _ {bytes start : List ℕ} {first : ℕ} {marked : List ℕ} {k n : ℕ} 
   long = omega (arith, w .marks .size, w .links .sized .few-records)
 
   -- one more line is passed
-  goes-on : k ≢ 0 → countLines marked (chain bytes 0 (suc (records bytes) - n) k) ≡ countLines (oneMoreAt marked k) (chain bytes 0 (suc (records bytes) - n - 1) (nextRecord bytes k))
-  goes-on z = count-goes-on bytes (suc (records bytes) - n) k marked (omega (arith, few-passed)) z
+  goes-on : k ≢ 0 → countLines marked (chain bytes t (suc (records bytes) - n) k) ≡ countLines (oneMoreAt marked k) (chain bytes t (suc (records bytes) - n - 1) (nextRecord bytes k))
+  goes-on z = count-goes-on bytes t (suc (records bytes) - n) k marked (omega (arith, few-passed)) z
 
-  pub came-twice : {r : ℕ} → r ≡ records bytes + 1 → k ≢ 0 → getD marked k 0 ≢ 0 → Followed bytes first start marked r
+  pub came-twice : {r : ℕ} → r ≡ records bytes + 1 → k ≢ 0 → getD marked k 0 ≢ 0 → Followed bytes t start marked r
   came-twice e z m = record {
     once = λ few. absurd (omega arith);
     twice = λ more. record {
@@ -71,7 +71,7 @@ module _ {bytes start : List ℕ} {first : ℕ} {marked : List ℕ} {k n : ℕ} 
       count = rw (← w .counts, goes-on z)
           (omega (
             arith,
-            count-grows (oneMoreAt marked k) (chain bytes 0 (suc (records bytes) - n - 1) (nextRecord bytes k)) k (omega (arith, long, w .within, length-set marked k (getD marked k 0 + 1))),
+            count-grows (oneMoreAt marked k) (chain bytes t (suc (records bytes) - n - 1) (nextRecord bytes k)) k (omega (arith, long, w .within, length-set marked k (getD marked k 0 + 1))),
             getD-set-same marked k (getD marked k 0 + 1) 0 (omega (arith, long, w .within)),
           ));
     };
@@ -88,24 +88,19 @@ module _ {bytes start : List ℕ} {first : ℕ} {marked : List ℕ} {k n : ℕ} 
     single j (same e q) = rw (e, getD-set-same marked k 1 0 (omega (arith, long, w .within))) (omega arith)
     single j (diff d q) = rw (getD-set-other marked k j 1 0 d) (w .marks .single j)
 
-    pub walk-on : Walking bytes start first (set marked k 1) (nextRecord bytes k) (n + 1)
+    pub walk-on : Walking bytes start t (set marked k 1) (nextRecord bytes k) (n + 1)
     walk-on = record {
       links = w .links;
       within = w .links .nexts k (omega arith) (w .within);
       marks = record { size = length-set marked k 1 ∙ w .marks .size; single = λ j. single j (eq-view j k) };
       counts = rw (← fewer, mark) (sym (goes-on z) ∙ w .counts);
-      lines = rw (← fewer) (lines-left bytes (suc (records bytes) - n) k n _ (w .lines) (omega (arith, few-passed)) z);
+      lines = rw (← fewer) (lines-left bytes t (suc (records bytes) - n) k n _ (w .lines) (omega (arith, few-passed)) z);
       sum = rw mark (omega (arith, w .sum, sum-of-one-more marked k (records bytes) (omega arith) (w .within) long));
     }
 
 -- Thread t has few lines.
 abbrev fewLines : List ℕ → ℕ → Bool
 fewLines bytes t = leb (length (getD (chains bytes 0 (threadCount bytes)) t [])) mostLines
-
-lines-of-thread : (bytes : List ℕ) (t first n : ℕ) → t < threadCount bytes → first ≡ firstRecord bytes t → n ≡ length (linesFrom bytes 0 first) → n ≡ length (getD (chains bytes 0 (threadCount bytes)) t [])
-lines-of-thread bytes t first n h ef en =
-    en ∙ ap (λ (k : ℕ). length (linesFrom bytes 0 k)) ef ∙ chain-length-any-thread bytes 0 t (suc (records bytes)) (firstRecord bytes t)
-    ∙ sym (ap length (chains-at bytes 0 (threadCount bytes) t h) ∙ ap (λ (u : ℕ). length (linesFrom bytes u (firstRecord bytes u))) (zero-add t))
 
 -- Over the threads: before thread t, with so many lines passed.
 pub record Following (bytes marked : List ℕ) (lines : ℕ) (few : Bool) (t : ℕ) : Type 0 where
@@ -134,10 +129,10 @@ module _ {bytes marked : List ℕ} {lines : ℕ} {few : Bool} {t : ℕ} (f : Fol
   few-followed = omega (arith, f .sum, sum-at-most marked (records bytes) (f .marks .single))
 
   -- One thread more.
-  module _ {first n : ℕ} {after : List ℕ} (h : t < threadCount bytes) (ef : first ≡ firstRecord bytes t) (fo : Followed bytes first marked after n) where
-    rest-of : countThreads (countLines marked (linesFrom bytes 0 first)) (chains bytes (t + 1) (threadCount bytes - (t + 1))) ≡ reachedOf bytes
+  module _ {n : ℕ} {after : List ℕ} (h : t < threadCount bytes) (fo : Followed bytes t marked after n) where
+    rest-of : countThreads (countLines marked (threadLines bytes t)) (chains bytes (t + 1) (threadCount bytes - (t + 1))) ≡ reachedOf bytes
     unfolding countThreads
-    rest-of = rw (ef, count-of-any bytes marked 0 t (suc (records bytes)) (firstRecord bytes t)) (sym (ap (countThreads marked) (chains-more bytes t (threadCount bytes) h)) ∙ f .counts)
+    rest-of = sym (ap (countThreads marked) (chains-more bytes t (threadCount bytes) h)) ∙ f .counts
 
     pub follow-on : n ≤ records bytes → Following bytes after (lines + n) (few && leb n mostLines) (t + 1)
     follow-on within = record {
@@ -146,10 +141,10 @@ module _ {bytes marked : List ℕ} {lines : ℕ} {few : Bool} {t : ℕ} (f : Fol
       marks = walked .marks;
       counts = rw (walked .counts) rest-of;
       sum = omega (arith, walked .sum, f .sum);
-      lengths = rw (lines-of-thread bytes t first n h ef (walked .lines)) (and-next few (fewLines bytes) t (threadCount bytes) h ∙ f .lengths);
+      lengths = rw (walked .lines ∙ sym (ap length (threads-are bytes t h))) (and-next few (fewLines bytes) t (threadCount bytes) h ∙ f .lengths);
     }
       where
-        walked : Walked marked (linesFrom bytes 0 first) (records bytes) after n
+        walked : Walked marked (threadLines bytes t) (records bytes) after n
         walked = fo .once within
 
         and-next : (q : Bool) (test : ℕ → Bool) (i to : ℕ) → i < to → (q && test i && allFrom test (i + 1) (to - (i + 1))) ≡ (q && allFrom test i (to - i))
@@ -161,7 +156,7 @@ module _ {bytes marked : List ℕ} {lines : ℕ} {few : Bool} {t : ℕ} (f : Fol
         rw (twice-reached bytes (f .small) two)
       where
         two : Twice (reachedOf bytes) (records bytes)
-        two = rw (← rest-of) (twice-goes-on _ _ (records bytes) (omega (arith, f .small, f .marks .size, length-of-count marked (linesFrom bytes 0 first))) (fo .twice more))
+        two = rw (← rest-of) (twice-goes-on _ _ (records bytes) (omega (arith, f .small, f .marks .size, length-of-count marked (threadLines bytes t))) (fo .twice more))
 
   module _ (end : threadCount bytes ≤ t) where
     all-counts : marked ≡ reachedOf bytes

@@ -22,30 +22,30 @@ use Rattle.links.specs.Links.{onceOk}
 use Rattle.links.specs.ReachCounts.{oneMoreAt, countLines, countThreads, reachedOf, sumTo, Marks, Twice}
 
 -- Along a chain that is followed for so many steps.
-chain-of-record : (bytes : List ℕ) (most k : ℕ) → 0 < most → k ≢ 0 → chain bytes 0 most k ≡ lineOf bytes 0 k ∷ chain bytes 0 (most - 1) (nextRecord bytes k)
+chain-of-record : (bytes : List ℕ) (t most k : ℕ) → 0 < most → k ≢ 0 → chain bytes t most k ≡ lineOf bytes t k ∷ chain bytes t (most - 1) (nextRecord bytes k)
 unfolding chain
-chain-of-record bytes zero k h n = absurd (omega arith)
-chain-of-record bytes (suc most) zero h n = absurd (n refl)
-chain-of-record bytes (suc most) (suc k) h n = let e : suc most - 1 ≡ most = omega arith in rw e
+chain-of-record bytes t zero k h n = absurd (omega arith)
+chain-of-record bytes t (suc most) zero h n = absurd (n refl)
+chain-of-record bytes t (suc most) (suc k) h n = let e : suc most - 1 ≡ most = omega arith in rw e
 
-module _ (bytes : List ℕ) (most k : ℕ) where
-  chain-of-end : k ≡ 0 → chain bytes 0 most k ≡ []
-  chain-of-end h = rw h (chain-end bytes 0 most)
+module _ (bytes : List ℕ) (t most k : ℕ) where
+  chain-of-end : k ≡ 0 → chain bytes t most k ≡ []
+  chain-of-end h = rw h (chain-end bytes t most)
 
-  pub count-at-end : (counts : List ℕ) → k ≡ 0 → countLines counts (chain bytes 0 most k) ≡ counts
+  pub count-at-end : (counts : List ℕ) → k ≡ 0 → countLines counts (chain bytes t most k) ≡ counts
   unfolding countLines
   count-at-end counts h = rw (chain-of-end h)
 
-  pub count-goes-on : (counts : List ℕ) → 0 < most → k ≢ 0 → countLines counts (chain bytes 0 most k) ≡ countLines (oneMoreAt counts k) (chain bytes 0 (most - 1) (nextRecord bytes k))
+  pub count-goes-on : (counts : List ℕ) → 0 < most → k ≢ 0 → countLines counts (chain bytes t most k) ≡ countLines (oneMoreAt counts k) (chain bytes t (most - 1) (nextRecord bytes k))
   unfolding countLines
-  count-goes-on counts h n = rw (chain-of-record bytes most k h n)
+  count-goes-on counts h n = rw (chain-of-record bytes t most k h n)
 
   -- How many lines there are: n so far, and those that are left.
-  pub lines-told : (n all : ℕ) → n + length (chain bytes 0 most k) ≡ all → k ≡ 0 → n ≡ all
+  pub lines-told : (n all : ℕ) → n + length (chain bytes t most k) ≡ all → k ≡ 0 → n ≡ all
   lines-told n all e h = omega (arith, e, ap length (chain-of-end h))
 
-  pub lines-left : (n all : ℕ) → n + length (chain bytes 0 most k) ≡ all → 0 < most → k ≢ 0 → n + 1 + length (chain bytes 0 (most - 1) (nextRecord bytes k)) ≡ all
-  lines-left n all e h z = omega (arith, e, ap length (chain-of-record bytes most k h z))
+  pub lines-left : (n all : ℕ) → n + length (chain bytes t most k) ≡ all → 0 < most → k ≢ 0 → n + 1 + length (chain bytes t (most - 1) (nextRecord bytes k)) ≡ all
+  lines-left n all e h z = omega (arith, e, ap length (chain-of-record bytes t most k h z))
 
 pub zeros-are-0 : (n j : ℕ) → getD (replicate n 0) j 0 ≤ 0
 zeros-are-0 zero j = omega arith
@@ -84,13 +84,6 @@ count-grows counts ls j h = omega (arith, count-of-lines counts ls j h)
 pub twice-goes-on : (counts : List ℕ) (threads : List (List Line)) (most : ℕ) → most < length counts → Twice counts most → Twice (countThreads counts threads) most
 twice-goes-on counts threads most h two =
     record { place = two .place; low = two .low; high = two .high; count = omega (arith, two .count, count-of-threads counts threads (two .place) (omega (arith, two .high))) }
-
--- The thread plays no part in the counts.
-pub count-of-any : (bytes counts : List ℕ) (t u most k : ℕ) → countLines counts (chain bytes t most k) ≡ countLines counts (chain bytes u most k)
-unfolding countLines chain
-count-of-any bytes counts t u zero k = refl
-count-of-any bytes counts t u (suc most) zero = refl
-count-of-any bytes counts t u (suc most) (suc k) = count-of-any bytes (oneMoreAt counts (suc k)) t u most (nextRecord bytes (suc k))
 
 -- The sum of the counts of records 1 to `most`.
 pub sum-of-zeros : (n most : ℕ) → sumTo (replicate n 0) most ≡ 0

@@ -6,7 +6,7 @@ use mathlib.Core.List.{List, [], _∷_}
 use lib.ListN.{length, getD, set, replicate}
 use Rattle.model.specs.Limits.{recordPlaces}
 use Rattle.model.specs.CaseFile.{Line, records, threadCount, chains}
-use Rattle.laws.specs.Accepted.{linesFrom}
+use Rattle.laws.specs.Accepted.{threadLines}
 
 -- The counts with one more at k; for each of the lines; for each line of the threads.
 abbrev pub oneMoreAt : List ℕ → ℕ → List ℕ
@@ -48,7 +48,7 @@ pub record Walked (before : List ℕ) (ls : List Line) (most : ℕ) (after : Lis
   pub marks : Marks after
   pub sum : sumTo after most ≡ sumTo before most + n
 
--- What following the chain from `first` answers: its number of lines, or one over the records if a record is reached twice.
-pub record Followed (bytes : List ℕ) (first : ℕ) (before after : List ℕ) (r : ℕ) : Type 0 where
-  pub once : r ≤ records bytes → Walked before (linesFrom bytes 0 first) (records bytes) after r
-  pub twice : records bytes < r → Twice (countLines before (linesFrom bytes 0 first)) (records bytes)
+-- What following the chain of thread t answers: its number of lines, or one over the records if a record is reached twice.
+pub record Followed (bytes : List ℕ) (t : ℕ) (before after : List ℕ) (r : ℕ) : Type 0 where
+  pub once : r ≤ records bytes → Walked before (threadLines bytes t) (records bytes) after r
+  pub twice : records bytes < r → Twice (countLines before (threadLines bytes t)) (records bytes)

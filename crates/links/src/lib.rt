@@ -1,6 +1,6 @@
 // Checks 6 to 8: first and next numbers, how often each record is reached, how long the chains are.
 ghost use mathlib.Core.Path.{_≡_};
-ghost use Prim.Native.Nat.{_≤_};
+ghost use Prim.Native.Nat.{_≤_, _<_};
 ghost use lib.ListN.{replicate};
 ghost use Rattle.model.specs.Limits.{mostThreads, recordPlaces};
 ghost use Rattle.model.specs.CaseFile.{records, threadCount};
@@ -39,15 +39,15 @@ fn numbers_ok(case: &[u8]) -> bool
     all_at_most(case, FIRSTS, 0, threads, records(case)) & nexts_ok(case)
 }
 
-// Follows the chain from a record and marks what it reaches, each record with 1: how many lines the chain has, or more than there
+// Follows the chain of thread t and marks what it reaches, each record with 1: how many lines the chain has, or more than there
 // are records if it comes to a record that is marked.
-fn follow(case: &[u8], first: usize, reached: &mut [u8]) -> usize
+fn follow(case: &[u8], t: usize, reached: &mut [u8]) -> usize
     requires { ⌜ LinksWithin (now case) ⌝ }
-    requires { ⌜ (first ≤ records (now case)) × Marks (now reached) ⌝ }
-    ensures { λ r. ⌜ Followed (now (case .entry)) first (now (reached .entry)) (now (reached .exit)) r ⌝ }
+    requires { ⌜ (t < threadCount (now case)) × Marks (now reached) ⌝ }
+    ensures { λ r. ⌜ Followed (now (case .entry)) t (now (reached .entry)) (now (reached .exit)) r ⌝ }
 {
     let mut n = 0;
-    let mut k = first;
+    let mut k = first_of(case, t);
     while k != 0 {
         if reached[k] != 0 {
             return records(case) + 1;
@@ -71,7 +71,7 @@ fn chains_refusal(case: &[u8], reached: &mut [u8]) -> u16
     let mut few = true;
     let mut t = 0;
     while t < threads {
-        let n = follow(case, first_of(case, t), reached);
+        let n = follow(case, t, reached);
         if most < n {
             return 6;
         }

@@ -23,20 +23,17 @@ records-requires c κs = search needs
 loop-holds : tie.Need-loop-holds Inv-loop μ-loop
 loop-holds c = search following-starts
 
-first-of-requires : tie.Need-first-of-requires Inv-loop μ-loop
-first-of-requires c κs = search needs
-
 follow-requires : tie.Need-follow-requires Inv-loop μ-loop
-follow-requires c κs = (c .before .before .before .before .before .before .before .before .pre .0, (rw (c .before .first-of .ensures) (c .before .before .before .before .before .before .before .before .pre .0 .firsts _ (search needs)), c .before .before .before .loop .inv .marks))
+follow-requires c κs = search needs
 
 same-length : tie.Need-same-length Inv-loop μ-loop
 same-length c = search needs
 
 returns : tie.Need-returns Inv-loop μ-loop
-returns c = fails-6 (c .before .before .before .before .before .before .before .loop .inv) (search needs) (c .before .before .before .before .before .first-of .ensures) (c .before .before .before .follow .ensures) (search needs)
+returns c = fails-6 (c .before .before .before .before .before .before .loop .inv) (search needs) (c .before .before .before .follow .ensures) (search needs)
 
 add-lines : tie.Need-add-lines Inv-loop μ-loop
-add-lines c = omega (arith, few-followed (c .before .before .before .before .before .before .before .loop .inv))
+add-lines c = omega (arith, few-followed (c .before .before .before .before .before .before .loop .inv))
 
 add-t : tie.Need-add-t Inv-loop μ-loop
 add-t c = search needs
@@ -45,7 +42,7 @@ loop-less : tie.Need-loop-less Inv-loop μ-loop
 loop-less c = search needs
 
 loop-again : tie.Need-loop-again Inv-loop μ-loop
-loop-again c = follow-on (c .before .before .before .before .before .before .before .loop .inv) (search needs) (c .before .before .before .before .before .first-of .ensures) (c .before .before .before .follow .ensures) (search needs)
+loop-again c = follow-on (c .before .before .before .before .before .before .loop .inv) (search needs) (c .before .before .before .follow .ensures) (search needs)
 
 same-length-2 : tie.Need-same-length-2 Inv-loop μ-loop
 same-length-2 c = search needs
@@ -75,7 +72,6 @@ chains-refusal-spec =
     cast-threads
     records-requires
     loop-holds
-    first-of-requires
     follow-requires
     same-length
     returns

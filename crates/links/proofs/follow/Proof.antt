@@ -7,10 +7,13 @@ use Rattle.links.proofs.follow.Statement.{statement}
 use Rattle.links.proofs.follow.Tie as tie
 
 abbrev Inv-loop : tie.InvT-loop
-Inv-loop case first reached₀ n₀ k₀ reached n k = Walking case reached₀ first reached k n
+Inv-loop case t reached₀ n₀ k₀ reached n k = Walking case reached₀ t reached k n
 
 abbrev μ-loop : tie.MeasureT-loop
-μ-loop case first reached₀ n₀ k₀ reached n k = suc (records case) - n
+μ-loop case t reached₀ n₀ k₀ reached n k = suc (records case) - n
+
+first-of-requires : tie.Need-first-of-requires Inv-loop μ-loop
+first-of-requires c κs = search needs
 
 loop-holds : tie.Need-loop-holds Inv-loop μ-loop
 loop-holds c = search walking-starts
@@ -57,6 +60,7 @@ follow-spec =
     (tie.spec
     Inv-loop
     μ-loop
+    first-of-requires
     loop-holds
     slice-read-if1
     records-requires
