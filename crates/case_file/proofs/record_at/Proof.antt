@@ -24,7 +24,7 @@ field-of-requires-7 : tie.Need-field-of-requires-7
 field-of-requires-7 c κs = search needs
 
 returns : tie.Need-returns
-returns c = cc
+returns c = rw (c .before .before .before .before .before .before .field-of .ensures, c .before .before .before .before .before .field-of2 .ensures, c .before .before .before .before .field-of3 .ensures, c .before .before .before .field-of4 .ensures, c .before .before .field-of5 .ensures, c .before .field-of6 .ensures, c .field-of7 .ensures)
 
 pub record-at-spec : {M : Type 1} → statement M
 record-at-spec =
