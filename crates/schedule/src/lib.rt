@@ -1,26 +1,45 @@
-// How many numbers a schedule has: its block lengths and a value for each input line.
+// The schedule of an assignment: how many numbers it has, and its numbers, written into a lent slice.
 ghost use mathlib.Core.Path.{_≡_};
-ghost use Prim.Native.Nat.{_≤_};
+ghost use mathlib.Core.List.{[]};
+ghost use Prim.Native.Nat.{ℕ, _+_, _<_, _≤_};
+ghost use lib.ListN.{length, getD};
 ghost use Rattle.model.specs.Word.{bit};
-ghost use Rattle.model.specs.CaseFile.{kindOf, caseOf};
+ghost use Rattle.model.specs.Limits.{mostScheduleNumbers};
+ghost use Rattle.model.specs.Lists.{writtenOver};
+ghost use Rattle.model.specs.CaseFile.{kindOf, threadCount, switchCount, caseOf};
 ghost use Rattle.model.specs.Line.{isInput};
 ghost use Rattle.model.specs.Schedule.{scheduleSize};
 ghost use Rattle.laws.specs.Accepted.{Accepted};
-use case_file::field_at;
+ghost use Rattle.laws.specs.Written.{numbersAt};
+ghost use Rattle.schedule.specs.Schedules.{scheduleOf, valuesOf, threadValues, CountsOf, AllCounts, lengthsIn, withLine, inputNumber, ownNumbers, Put};
+use assignment::block_of;
+use assignment::value_of;
+use case_file::Record;
+use case_file::first_of;
+use case_file::globals;
+use case_file::kind_of;
+use case_file::next_of;
 use case_file::record_at;
 use case_file::records;
+use case_file::switches;
+use case_file::threads;
+use line::guarded;
+use line::put_local;
+use line::target_name;
+use model::BLOCKS;
+use model::LOCALS;
+use model::THREADS;
 
 // The size of a schedule of an accepted case: each of its records is one line, so no chain is followed.
 pub fn schedule_size(case: &[u8]) -> usize
     requires { ⌜ Accepted (now case) ⌝ }
-    ensures { λ r. ⌜ (r ≡ scheduleSize (caseOf (now (case .entry)))) × (r ≤ 272) ⌝ }
+    ensures { λ r. ⌜ (r ≡ scheduleSize (caseOf (now (case .entry)))) × (r ≤ mostScheduleNumbers) ⌝ }
 {
     let last = records(case);
-    let mut n = field_at(case, 1) as usize + 1;
+    let mut n = switches(case) as usize + 1;
     let mut k = 1;
     while k <= last {
-        let l = record_at(case, k);
-        n += inputs_of(l.kind);
+        n += inputs_of(kind_of(case, k));
         k += 1;
     }
     n
@@ -30,5 +49,137 @@ pub fn schedule_size(case: &[u8]) -> usize
 fn inputs_of(kind: u16) -> usize
     ensures { λ r. ⌜ r ≡ bit (isInput (kindOf kind)) ⌝ }
 {
-    if kind == 4 { 1 } else { 0 }
+    match kind {
+        4 => 1,
+        _ => 0,
+    }
+}
+
+// The schedule of an assignment, from the slice's start.
+pub fn write_schedule(case: &[u8], assignment: &[u16], schedule: &mut [u16])
+    requires { ⌜ Accepted (now case) ⌝ }
+    requires { ⌜ scheduleSize (caseOf (now case)) ≤ length (now schedule) ⌝ }
+    ensures { λ r. ⌜ now (schedule .exit) ≡ writtenOver (scheduleOf (now (case .entry)) (now (assignment .entry))) (now (schedule .entry)) ⌝ }
+{
+    let last = switches(case) as usize;
+    let counts = write_all_values(case, assignment, schedule, last + 1);
+    write_lengths(case, schedule, &counts);
+}
+
+// The lengths of the blocks, from the slice's start: block i's is the count of thread i modulo T.
+fn write_lengths(case: &[u8], schedule: &mut [u16], counts: &[[u16; BLOCKS]; THREADS])
+    requires { ⌜ Accepted (now case) ⌝ }
+    requires { ⌜ switchCount (now case) + 1 ≤ length (now schedule) ⌝ }
+    ensures { λ r. ⌜ now (schedule .exit) ≡ numbersAt (now (schedule .entry)) 0 (lengthsIn (now (case .entry)) (now (counts .entry))) ⌝ }
+{
+    let many = threads(case) as usize;
+    let last = switches(case) as usize;
+    let mut i = 0;
+    while i <= last {
+        let t = i % many;
+        schedule[i] = counts[t][i];
+        i += 1;
+    }
+}
+
+// One more line is in a block; what is no block changes nothing.
+fn count_line(counts: &mut [u16; BLOCKS], block: u16)
+    requires { ⌜ getD (now counts) block 0 < 65535 ⌝ }
+    ensures { λ r. ⌜ now (counts .exit) ≡ withLine (now (counts .entry)) block ⌝ }
+{
+    let i = block as usize;
+    if i < BLOCKS {
+        counts[i] += 1;
+    }
+}
+
+// An input line's number: its variable's value where its guard is true, else 0.
+fn input_number(l: Record, locals: &[u16; LOCALS], value: u16) -> u16
+    ensures { λ r. ⌜ r ≡ inputNumber l (now (locals .entry)) value ⌝ }
+{
+    if guarded(locals, l) { value } else { 0 }
+}
+
+// The number of a line, if it is an input, at a place; the place after it.
+fn put_number(
+    schedule: &mut [u16],
+    at: usize,
+    l: Record,
+    locals: &[u16; LOCALS],
+    value: u16,
+) -> usize
+    requires { ⌜ at + length (ownNumbers l (now locals) value) ≤ length (now schedule) ⌝ }
+    ensures { λ r. ⌜ Put (ownNumbers l (now (locals .entry)) value) (now (schedule .entry)) at (now (schedule .exit)) r ⌝ }
+{
+    let kind = l.kind;
+    match kind {
+        4 => {
+            schedule[at] = input_number(l, locals, value);
+            at + 1
+        }
+        _ => at,
+    }
+}
+
+// What a walk over a thread's lines gives: the place after its input values, and how many lines each block has.
+struct Walked {
+    at: usize,
+    counts: [u16; BLOCKS],
+}
+
+// The values of thread t's input lines, from a place on; its lines are counted by block on the way.
+fn write_values(
+    case: &[u8],
+    assignment: &[u16],
+    schedule: &mut [u16],
+    start: usize,
+    t: u16,
+) -> Walked
+    requires { ⌜ Accepted (now case) ⌝ }
+    requires { ⌜ t < threadCount (now case) ⌝ }
+    requires { ⌜ start + length (threadValues (now case) (now assignment) t) ≤ length (now schedule) ⌝ }
+    ensures { λ r. ⌜ Put (threadValues (now (case .entry)) (now (assignment .entry)) t) (now (schedule .entry)) start (now (schedule .exit)) (r .at) ⌝ }
+    ensures { λ r. ⌜ CountsOf (now (case .entry)) (now (assignment .entry)) t (r .counts) ⌝ }
+{
+    let many = globals(case) as usize;
+    let mut locals = [0u16; LOCALS];
+    let mut counts = [0u16; BLOCKS];
+    let mut at = start;
+    let mut k = first_of(case, t as usize);
+    while k != 0 {
+        let l = record_at(case, t, k);
+        let number = k as u16;
+        let value = value_of(assignment, number);
+        at = put_number(schedule, at, l, &locals, value);
+        put_local(&mut locals, target_name(many, l), value);
+        count_line(&mut counts, block_of(assignment, number));
+        k = next_of(case, k);
+    }
+    Walked { at, counts }
+}
+
+// The values of all input lines, by thread and then by chain, from a place on; how many lines of each thread each block has.
+fn write_all_values(
+    case: &[u8],
+    assignment: &[u16],
+    schedule: &mut [u16],
+    start: usize,
+) -> [[u16; BLOCKS]; THREADS]
+    requires { ⌜ Accepted (now case) ⌝ }
+    requires { ⌜ start + length (valuesOf (now case) (now assignment)) ≤ length (now schedule) ⌝ }
+    ensures { λ r. ⌜ now (schedule .exit) ≡ numbersAt (now (schedule .entry)) start (valuesOf (now (case .entry)) (now (assignment .entry))) ⌝ }
+    ensures { λ r. ⌜ AllCounts (now (case .entry)) (now (assignment .entry)) r ⌝ }
+{
+    let many = threads(case);
+    let mut counts = [[0u16; BLOCKS]; THREADS];
+    let mut at = start;
+    let mut t = 0u16;
+    while t < many {
+        let walked = write_values(case, assignment, schedule, at, t);
+        let own = walked.counts;
+        counts[t as usize] = own;
+        at = walked.at;
+        t += 1;
+    }
+    counts
 }

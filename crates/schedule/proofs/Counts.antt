@@ -1,0 +1,109 @@
+-- Laws of the counts of a thread's lines by block, and of the lengths that they give.
+-- Assumes nothing. Met again in Walks.
+use mathlib.Core.Path.{_≡_, refl, sym, ap₂, _∙_}
+use Prim.Native.Nat.{ℕ, zero, suc, _+_, _-_, _%_, _≤_, _<_}
+use mathlib.Core.Bool.{Bool, true, false, cond}
+use mathlib.Core.List.{List, [], _∷_, _++_}
+use native.Mathlib.Omega.{arith}
+use native.Mathlib.Nat.{mod-lt}
+use native.Mathlib.Numerals.{add-one}
+use lib.Dec.{eqb, ltb}
+use lib.ListN.{getD, set, length, replicate, length-set, getD-replicate, List·getD-eq-default}
+use lib.Seq.{getD-set-same, getD-set-other}
+use borrow.Author.Tests.{ne-eqb}
+use Rattle.model.specs.Limits.{mostThreads, mostBlocks}
+use Rattle.model.specs.Lists.{numbersFrom}
+use Rattle.model.specs.CaseFile.{Line, threadCount, switchCount, caseOf, linesOf}
+use Rattle.model.specs.Assignment.{assignmentOf}
+use Rattle.model.specs.Schedule.{linesInBlock, countedLengths}
+use Rattle.laws.specs.Accepted.{Accepted}
+use Rattle.laws.proofs.Chains.{threads-are}
+use Rattle.laws.proofs.Views.{EqView, same, diff, eq-view, LtView, below, above, lt-view}
+use Rattle.assignment.specs.Numbers.{recordBlock}
+use Rattle.schedule.specs.Schedules.{AllCounts, withLine, lengthsIn}
+
+count-at-most : (block : ℕ → ℕ) (i : ℕ) (ls : List Line) → linesInBlock block i ls ≤ length ls
+unfolding linesInBlock
+count-at-most block i [] = omega arith
+count-at-most block i (l ∷ ls) = go (eqb (block (l .number)) i) (count-at-most block i ls)
+  where
+    go : (q : Bool) → linesInBlock block i ls ≤ length ls → cond q (suc (linesInBlock block i ls)) (linesInBlock block i ls) ≤ suc (length ls)
+    go true h = omega arith
+    go false h = omega arith
+
+-- The counts so far of a thread's lines by block, the lines that are left, and all its lines.
+pub record Counting (counts : List ℕ) (block : ℕ → ℕ) (rest all : List Line) : Type 0 where
+  pub places : length counts ≡ mostBlocks
+  pub each : (i : ℕ) → i < mostBlocks → getD counts i 0 + linesInBlock block i rest ≡ linesInBlock block i all
+
+pub counting-start : (block : ℕ → ℕ) (ls : List Line) → Counting (replicate mostBlocks 0) block ls ls
+counting-start block ls = record { places = refl; each = λ i h. omega (arith, getD-replicate {A = ℕ} mostBlocks i 0 0 h) }
+
+pub counting-few : (counts : List ℕ) (block : ℕ → ℕ) (rest all : List Line) → Counting counts block rest all → (i : ℕ) → getD counts i 0 ≤ length all
+counting-few counts block rest all v i = go (lt-view i mostBlocks)
+  where
+    go : LtView i mostBlocks → getD counts i 0 ≤ length all
+    go (below h q) = omega (arith, v .each i h, count-at-most block i all)
+    go (above h q) = omega (arith, List·getD-eq-default counts 0 {n = i} (omega (arith, v .places)))
+
+pub counting-more : (counts : List ℕ) (block : ℕ → ℕ) (l : Line) (rest all : List Line) → Counting counts block (l ∷ rest) all
+    → Counting (withLine counts (block (l .number))) block rest all
+unfolding withLine linesInBlock
+counting-more counts block l rest all v = go (lt-view b mostBlocks)
+  where
+    b : ℕ
+    b = block (l .number)
+
+    up : List ℕ
+    up = set counts b (getD counts b 0 + 1)
+
+    go : LtView b mostBlocks → Counting (cond (ltb b mostBlocks) up counts) block rest all
+    go (below h q) = rw q (record { places = length-set counts b _ ∙ v .places; each = λ i few. at i few (eq-view b i) })
+      where
+        at : (i : ℕ) → i < mostBlocks → EqView b i → getD up i 0 + linesInBlock block i rest ≡ linesInBlock block i all
+        at i few (same e s) =
+            let raised : getD up i 0 ≡ getD counts i 0 + 1 = rw (← e) (getD-set-same counts b (getD counts b 0 + 1) 0 (omega (arith, v .places))) in
+            omega (arith, raised, rw s at (v .each i few))
+        at i few (diff n s) = omega (arith, getD-set-other counts b i (getD counts b 0 + 1) 0 (λ z. n (sym z)), rw s at (v .each i few))
+    go (above h q) = rw q (record { places = v .places; each = λ i few. omega (arith, rw (ne-eqb b i (λ e. omega (arith, e))) at (v .each i few)) })
+
+pub counting-end : (counts : List ℕ) (block : ℕ → ℕ) (all : List Line) → Counting counts block [] all → (i : ℕ) → i < mostBlocks → getD counts i 0 ≡ linesInBlock block i all
+unfolding linesInBlock
+counting-end counts block all v i h = omega (arith, v .each i h)
+
+-- The thread of a block has counts.
+pub turn-few : (bytes : List ℕ) → Accepted bytes → (i many : ℕ) → many ≡ threadCount bytes → i % many < mostThreads
+turn-few bytes ok i many e = let some : 0 < many = omega (arith, ok .some-threads) in omega (arith, mod-lt i some, ok .few-threads)
+
+-- The lengths of the blocks from block i on, by the counts.
+abbrev pub lengthsFrom : List ℕ → List (List ℕ) → ℕ → List ℕ
+lengthsFrom bytes counts i = numbersFrom (λ j. getD (getD counts (j % threadCount bytes) []) j 0) i (suc (switchCount bytes) - i)
+
+module _ (bytes : List ℕ) (counts : List (List ℕ)) (i : ℕ) where
+  pub lengths-go-on : i ≤ switchCount bytes → (many : ℕ) → many ≡ threadCount bytes
+      → lengthsFrom bytes counts i ≡ (getD (getD counts (i % many) []) i 0 ∷ []) ++ lengthsFrom bytes counts (i + 1)
+  unfolding numbersFrom
+  lengths-go-on h many em =
+      let s : suc (switchCount bytes) - i ≡ suc (suc (switchCount bytes) - (i + 1)) = omega arith in
+      rw (s, ← (add-one i), em)
+
+  pub lengths-end : switchCount bytes < i → lengthsFrom bytes counts i ≡ []
+  unfolding numbersFrom
+  lengths-end h = let s : suc (switchCount bytes) - i ≡ 0 = omega arith in rw s
+
+numbers-same : (f g : ℕ → ℕ) (i many : ℕ) → ((j : ℕ) → j < i + many → f j ≡ g j) → numbersFrom f i many ≡ numbersFrom g i many
+unfolding numbersFrom
+numbers-same f g i zero h = refl
+numbers-same f g i (suc many) h = ap₂ _∷_ (h i (omega arith)) (numbers-same f g (suc i) many (λ j under. h j (omega arith)))
+
+-- The counts of all threads give the lengths that decoding counts.
+pub lengths-counted : (bytes xs : List ℕ) → Accepted bytes → (counts : List (List ℕ)) → AllCounts bytes xs counts
+    → lengthsIn bytes counts ≡ countedLengths (caseOf bytes) (assignmentOf (caseOf bytes) xs)
+unfolding assignmentOf
+lengths-counted bytes xs ok counts h = numbers-same _ _ 0 (suc (switchCount bytes)) at
+  where
+    at : (i : ℕ) → i < 0 + suc (switchCount bytes)
+        → getD (getD counts (i % threadCount bytes) []) i 0 ≡ linesInBlock (recordBlock xs) i (linesOf (caseOf bytes) (i % threadCount bytes))
+    at i under =
+        let own : i % threadCount bytes < threadCount bytes = mod-lt i (omega (arith, ok .some-threads)) in
+        rw (threads-are bytes (i % threadCount bytes) own) (h (i % threadCount bytes) own i (omega (arith, ok .few-switches)))

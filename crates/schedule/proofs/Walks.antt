@@ -1,0 +1,161 @@
+-- The two loops that write input values: over a thread's lines, and over the threads. What holds as each starts, goes on and ends.
+-- Assumes nothing. Met again in write_values and write_all_values.
+use mathlib.Core.Path.{_≡_, refl, sym, ap, _∙_}
+use mathlib.Core.Logic.{_≢_}
+use Prim.Native.Nat.{ℕ, _+_, _-_, _≤_, _<_}
+use mathlib.Core.Bool.{Bool, true, false, cond}
+use mathlib.Core.List.{List, [], _∷_, _++_}
+use native.Mathlib.Omega.{arith}
+use lib.ListN.{getD, set, length, replicate, length-set, length-append}
+use lib.Seq.{getD-set-same, getD-set-other}
+use Rattle.model.specs.Limits.{mostThreads, mostItems, mostBlocks, localCount}
+use Rattle.model.specs.CaseFile.{Line, records, threadCount, globalCount, firstRecord, nextRecord, kindOf, lineOf, chains, caseOf, itemCount}
+use Rattle.model.specs.Line.{guardName, targetName, guardTrue, isInput}
+use Rattle.model.specs.Machine.{putLocal}
+use Rattle.model.specs.Assignment.{assignmentOf}
+use Rattle.model.specs.Copies.{readsAfter}
+use Rattle.model.specs.Schedule.{decodedValues, allDecodedValues}
+use Rattle.laws.specs.Accepted.{Accepted, linesFrom, threadLines}
+use Rattle.laws.specs.Written.{numbersAt}
+use Rattle.laws.proofs.Following.{lines-end, lines-more, next-low, lines-less, chains-more, chains-end}
+use Rattle.laws.proofs.Lines.{few-lines-from}
+use Rattle.laws.proofs.Views.{EqView, same, diff, eq-view}
+use Rattle.laws.proofs.Writing.{numbers-none, numbers-one, Writing, writing-start, writing-more, writing-end}
+use Rattle.case_file.specs.declared.Record.{Record}
+use Rattle.case_file.specs.Records.{recordOf, asLine}
+use Rattle.line.proofs.KindNumbers.{kind-4, input-other}
+use Rattle.assignment.specs.Numbers.{recordBlock, recordValue}
+use Rattle.schedule.specs.Schedules.{valuesOf, threadValues, CountsOf, AllCounts, withLine, inputNumber, ownNumbers, Put}
+use Rattle.schedule.proofs.Locals.{LocalsAre, locals-start, locals-step, guard-same}
+use Rattle.schedule.proofs.Counts.{Counting, counting-start, counting-few, counting-more, counting-end}
+
+-- The values of the lines from record k of thread t on, after these earlier lines, and of the threads from thread t on.
+abbrev valuesFrom : List ℕ → List ℕ → ℕ → List Line → ℕ → List ℕ
+valuesFrom bytes xs t earlier k = decodedValues (caseOf bytes) (assignmentOf (caseOf bytes) xs) earlier (linesFrom bytes t k)
+
+abbrev threadsFrom : List ℕ → List ℕ → ℕ → List ℕ
+threadsFrom bytes xs t = allDecodedValues (caseOf bytes) (assignmentOf (caseOf bytes) xs) (chains bytes t (threadCount bytes - t))
+
+-- Before record k of thread t: the slice and the place so far, the locals and the counts; the slice and the place at the start.
+pub record Walk (bytes xs : List ℕ) (t : ℕ) (before : List ℕ) (start : ℕ) (out : List ℕ) (at : ℕ) (locals counts : List ℕ) (k : ℕ) : Type 0 where
+  pub ok : Accepted bytes
+  pub thread : t < threadCount bytes
+  pub within : k ≤ records bytes
+  pub earlier : List Line
+  pub held : LocalsAre (caseOf bytes) xs locals earlier
+  pub writing : Writing out at (valuesFrom bytes xs t earlier k) (numbersAt before start (threadValues bytes xs t)) (start + length (threadValues bytes xs t)) (length before)
+  pub counting : Counting counts (recordBlock xs) (linesFrom bytes t k) (threadLines bytes t)
+
+pub walk-start : {bytes xs : List ℕ} {t : ℕ} {before : List ℕ} {start k : ℕ} → Accepted bytes → t < threadCount bytes → k ≡ firstRecord bytes t
+    → Walk bytes xs t before start before start (replicate localCount 0) (replicate mostBlocks 0) k
+walk-start {bytes} {xs} {t} {before} {start} {k} ok thread e = record {
+  ok = ok;
+  thread = thread;
+  within = rw e (ok .firsts t thread);
+  earlier = [];
+  held = locals-start (caseOf bytes) xs;
+  writing = writing-start before start _ _ (ap (valuesFrom bytes xs t []) e);
+  counting = rw e (counting-start (recordBlock xs) (threadLines bytes t));
+}
+
+-- The number of an input, and none for another line, as the code writes them.
+pub own-one : (l : Record) (locals : List ℕ) (value : ℕ) → l .kind ≡ 4 → ownNumbers l locals value ≡ inputNumber l locals value ∷ []
+unfolding ownNumbers
+own-one l locals value e = rw (kind-4 (l .kind) e)
+
+pub put-one : (l : Record) (locals : List ℕ) (value : ℕ) (out : List ℕ) (at r : ℕ) → l .kind ≡ 4 → r ≡ inputNumber l locals value
+    → Put (ownNumbers l locals value) out at (set out at r) (at + 1)
+put-one l locals value out at r e er = rw (own-one l locals value e, ← er) (record { slice = numbers-one out at r; place = refl })
+
+pub put-none : (l : Record) (locals : List ℕ) (value : ℕ) (out : List ℕ) (at : ℕ) → Unit {0} × l .kind ≢ 4 → Put (ownNumbers l locals value) out at out at
+unfolding ownNumbers
+put-none l locals value out at n = rw (input-other (l .kind) n) (record { slice = sym (numbers-none out at); place = omega arith })
+
+-- The numbers of record k, and then those of the records after it.
+own-and-rest : (bytes xs : List ℕ) → Accepted bytes → (t k : ℕ) → k ≢ 0 → k ≤ records bytes → (locals : List ℕ) (earlier : List Line)
+    → LocalsAre (caseOf bytes) xs locals earlier → (l : Record) → l ≡ recordOf bytes t k → (value : ℕ) → value ≡ recordValue xs k
+    → valuesFrom bytes xs t earlier k ≡ ownNumbers l locals value ++ valuesFrom bytes xs t (lineOf bytes t k ∷ earlier) (nextRecord bytes k)
+unfolding decodedValues ownNumbers inputNumber assignmentOf guardTrue guardName
+own-and-rest bytes xs ok t k low high locals earlier are l el value ev =
+    rw (lines-more bytes ok t k low high, el, ev) (go (isInput (lineOf bytes t k .kind)))
+  where
+    rest : List ℕ
+    rest = valuesFrom bytes xs t (lineOf bytes t k ∷ earlier) (nextRecord bytes k)
+
+    go : (q : Bool)
+        → cond q (cond (guardTrue (lineOf bytes t k) (readsAfter (caseOf bytes) (assignmentOf (caseOf bytes) xs) earlier (lineOf bytes t k))) (recordValue xs k) 0 ∷ rest) rest
+        ≡ cond q (inputNumber (recordOf bytes t k) locals (recordValue xs k) ∷ []) [] ++ rest
+    go true = ap (λ (on : Bool). cond on (recordValue xs k) 0 ∷ rest) (sym (guard-same (caseOf bytes) xs (omega (arith, ok .few-globals, ok .few-mutexes)) locals earlier are (lineOf bytes t k)))
+    go false = refl
+
+module _ {bytes xs : List ℕ} {t : ℕ} {before : List ℕ} {start : ℕ} {out : List ℕ} {at : ℕ} {locals counts : List ℕ} {k : ℕ}
+    (v : Walk bytes xs t before start out at locals counts k) where
+  pub walk-few : (i : ℕ) → getD counts i 0 < 65535
+  walk-few i =
+      omega (arith, counting-few counts (recordBlock xs) _ _ (v .counting) i, few-lines-from bytes (v .ok) t (firstRecord bytes t) (v .ok .firsts t (v .thread)))
+
+  pub walk-end : k ≡ 0 → Put (threadValues bytes xs t) before start out at × CountsOf bytes xs t counts
+  unfolding decodedValues
+  walk-end e =
+      let done = writing-end _ _ _ _ _ _ (v .writing) (rw (lines-end bytes t k e)) in
+      (record { slice = done .0; place = done .1 }, counting-end counts (recordBlock xs) _ (rw (lines-end bytes t k e) at (v .counting)))
+
+  module _ (low : k ≢ 0) where
+    pub walk-less : {next : ℕ} → next ≡ nextRecord bytes k → length (linesFrom bytes t next) < length (linesFrom bytes t k)
+    walk-less {next} e = lines-less bytes (v .ok) t k low (v .within) next e
+
+    module _ {l : Record} {value : ℕ} (el : l ≡ recordOf bytes t k) (ev : value ≡ recordValue xs k) where
+      go-on : valuesFrom bytes xs t (v .earlier) k ≡ ownNumbers l locals value ++ valuesFrom bytes xs t (lineOf bytes t k ∷ v .earlier) (nextRecord bytes k)
+      go-on = own-and-rest bytes xs (v .ok) t k low (v .within) locals (v .earlier) (v .held) l el value ev
+
+      pub walk-room : start + length (threadValues bytes xs t) ≤ length before → at + length (ownNumbers l locals value) ≤ length out
+      walk-room room = omega (arith, v .writing .same, v .writing .room, simp length-append at (ap length go-on))
+
+      pub walk-more : {out' : List ℕ} {at' : ℕ} {locals' counts' : List ℕ} {globals name block next : ℕ} → Put (ownNumbers l locals value) out at out' at'
+          → globals ≡ globalCount bytes → ((j : ℕ) → name ≡ targetName globals (asLine l j)) → locals' ≡ putLocal true name value locals
+          → block ≡ recordBlock xs k → counts' ≡ withLine counts block → next ≡ nextRecord bytes k → Walk bytes xs t before start out' at' locals' counts' next
+      walk-more put eg en elocals eb ecounts ek = record {
+        ok = v .ok;
+        thread = v .thread;
+        within = rw ek (next-low bytes (v .ok) t k low (v .within));
+        earlier = lineOf bytes t k ∷ v .earlier;
+        held = rw (elocals, en k, eg, el, ev) (locals-step (caseOf bytes) xs locals (v .earlier) (v .held) (lineOf bytes t k) (omega arith));
+        writing = rw ek (writing-more _ _ _ _ _ _ (v .writing) _ _ _ _ go-on (put .slice) (put .place));
+        counting = rw (ecounts, eb, ek)
+            (counting-more counts (recordBlock xs) (lineOf bytes t k) _ _ (rw (lines-more bytes (v .ok) t k low (v .within)) at (v .counting)));
+      }
+
+-- Before thread t: the slice and the place so far, and the counts of the threads before it; the slice and the place at the start.
+pub record Threads (bytes xs before : List ℕ) (start : ℕ) (out : List ℕ) (at : ℕ) (counts : List (List ℕ)) (t : ℕ) : Type 0 where
+  pub writing : Writing out at (threadsFrom bytes xs t) (numbersAt before start (valuesOf bytes xs)) (start + length (valuesOf bytes xs)) (length before)
+  pub rows : length counts ≡ mostThreads
+  pub counted : (u : ℕ) → u < t → CountsOf bytes xs u (getD counts u [])
+
+pub threads-start : {bytes xs before : List ℕ} {start : ℕ} → Threads bytes xs before start before start (replicate mostThreads (replicate mostBlocks 0)) 0
+threads-start {bytes} {xs} {before} {start} =
+    let all : threadCount bytes - 0 ≡ threadCount bytes = omega arith in
+    record { writing = writing-start before start _ _ (rw all); rows = refl; counted = λ u under. absurd (omega arith) }
+
+module _ {bytes xs before : List ℕ} {start : ℕ} {out : List ℕ} {at : ℕ} {counts : List (List ℕ)} {t : ℕ} (v : Threads bytes xs before start out at counts t) where
+  threads-go-on : t < threadCount bytes → threadsFrom bytes xs t ≡ threadValues bytes xs t ++ threadsFrom bytes xs (t + 1)
+  unfolding allDecodedValues
+  threads-go-on h = rw (chains-more bytes t (threadCount bytes) h)
+
+  pub threads-room : t < threadCount bytes → start + length (valuesOf bytes xs) ≤ length before → at + length (threadValues bytes xs t) ≤ length out
+  threads-room h room = omega (arith, v .writing .same, v .writing .room, simp length-append at (ap length (threads-go-on h)))
+
+  pub threads-more : {out' : List ℕ} {at' : ℕ} → t < threadCount bytes → t < mostThreads → Put (threadValues bytes xs t) out at out' at'
+      → (own : List ℕ) → CountsOf bytes xs t own → Threads bytes xs before start out' at' (set counts t own) (t + 1)
+  threads-more h few put own counts-own = record {
+    writing = writing-more _ _ _ _ _ _ (v .writing) _ _ _ _ (threads-go-on h) (put .slice) (put .place);
+    rows = length-set counts t own ∙ v .rows;
+    counted = λ u under. row u under (eq-view t u);
+  }
+    where
+      row : (u : ℕ) → u < t + 1 → EqView t u → CountsOf bytes xs u (getD (set counts t own) u [])
+      row u under (same e s) = rw (← e, getD-set-same counts t own [] (omega (arith, v .rows))) counts-own
+      row u under (diff n s) = rw (getD-set-other counts t u own [] (λ z. n (sym z))) (v .counted u (omega arith))
+
+  pub threads-end : threadCount bytes ≤ t → (out ≡ numbersAt before start (valuesOf bytes xs)) × AllCounts bytes xs counts
+  unfolding allDecodedValues
+  threads-end h = (writing-end _ _ _ _ _ _ (v .writing) (rw (chains-end bytes t (threadCount bytes) h)) .0, λ u under. v .counted u (omega arith))

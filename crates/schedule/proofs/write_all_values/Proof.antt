@@ -1,0 +1,66 @@
+-- `schedule::write_all_values` meets its contract. Assumes nothing.
+use native.Mathlib.Omega.{arith}
+use borrow.Author.Needs.{needs}
+use Prim.Native.Nat.{_-_}
+use Rattle.schedule.proofs.Walks.{Threads, threads-start, threads-room, threads-more, threads-end}
+use Rattle.schedule.proofs.write_all_values.Statement.{statement}
+use Rattle.schedule.proofs.write_all_values.Tie as tie
+
+abbrev Inv-loop : tie.InvT-loop
+Inv-loop case assignment schedule₀ start many counts₀ at₀ t₀ schedule counts at t = Threads case assignment schedule₀ start schedule at counts t
+
+abbrev μ-loop : tie.MeasureT-loop
+μ-loop case assignment schedule₀ start many counts₀ at₀ t₀ schedule counts at t = many - t
+
+threads-requires : tie.Need-threads-requires Inv-loop μ-loop
+threads-requires c κs = search needs
+
+loop-holds : tie.Need-loop-holds Inv-loop μ-loop
+loop-holds c = threads-start
+
+write-values-requires : tie.Need-write-values-requires Inv-loop μ-loop
+write-values-requires c κs = (c .before .before .before .before .before .before .before .pre .0, (omega (arith, c .before .before .before .threads .ensures), threads-room (c .before .before .loop .inv) (omega (arith, c .before .before .before .threads .ensures)) (c .before .before .before .before .before .before .before .pre .1)))
+
+cast-counts : tie.Need-cast-counts Inv-loop μ-loop
+cast-counts c = search needs
+
+mul-counts : tie.Need-mul-counts Inv-loop μ-loop
+mul-counts c = record { fits = omega (arith, c .before .before .before .before .before .before .before .threads .ensures, c .before .before .before .before .before .before .before .before .before .before .before .pre .0 .few-threads) }
+
+array-set-from-counts : tie.Need-array-set-from-counts Inv-loop μ-loop
+array-set-from-counts c = omega (arith, c .before .before .before .before .before .before .before .threads .ensures, c .before .before .before .before .before .before .before .before .before .before .before .pre .0 .few-threads)
+
+add-t : tie.Need-add-t Inv-loop μ-loop
+add-t c = search needs
+
+loop-less : tie.Need-loop-less Inv-loop μ-loop
+loop-less c = omega arith
+
+loop-again : tie.Need-loop-again Inv-loop μ-loop
+loop-again c =
+    threads-more (c .before .before .before .before .before .before .loop .inv) (omega (arith, c .before .before .before .before .before .before .before .threads .ensures)) (omega (arith, c .before .before .before .before .before .before .before .threads .ensures, c .before .before .before .before .before .before .before .before .before .before .before .pre .0 .few-threads))
+    (c .before .before .before .write-values .ensures .0) _ (c .before .before .before .write-values .ensures .1)
+
+same-length : tie.Need-same-length Inv-loop μ-loop
+same-length c = c .before .loop .inv .writing .same
+
+returns : tie.Need-returns Inv-loop μ-loop
+returns c = threads-end (c .before .loop .inv) (omega (arith, c .before .before .threads .ensures))
+
+pub write-all-values-spec : {M : Type 1} → statement M
+write-all-values-spec =
+    tie.close
+    (tie.spec
+    Inv-loop
+    μ-loop
+    threads-requires
+    loop-holds
+    write-values-requires
+    cast-counts
+    mul-counts
+    array-set-from-counts
+    add-t
+    loop-less
+    loop-again
+    same-length
+    returns)

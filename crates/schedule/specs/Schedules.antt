@@ -1,0 +1,59 @@
+-- The schedule of an assignment, by the bytes of the case and the numbers of the assignment, and what the code's parts make of it.
+-- Assumes nothing.
+use Prim.Native.Nat.{ℕ, suc, _+_, _%_, _<_}
+use mathlib.Core.Path.{_≡_}
+use mathlib.Core.Bool.{cond}
+use mathlib.Core.List.{List, [], _∷_}
+use lib.Dec.{ltb}
+use lib.ListN.{getD, set, length}
+use Rattle.model.specs.Limits.{mostBlocks}
+use Rattle.model.specs.Lists.{numbersFrom}
+use Rattle.model.specs.CaseFile.{kindOf, threadCount, switchCount, caseOf}
+use Rattle.model.specs.Line.{guardTrue, isInput}
+use Rattle.model.specs.Assignment.{assignmentOf}
+use Rattle.model.specs.Schedule.{linesInBlock, decodedValues, allDecodedValues, decode}
+use Rattle.laws.specs.Accepted.{threadLines}
+use Rattle.laws.specs.Written.{numbersAt}
+use Rattle.case_file.specs.declared.Record.{Record}
+use Rattle.case_file.specs.Records.{asLine}
+use Rattle.line.specs.LineReads.{readsAt}
+use Rattle.assignment.specs.Numbers.{recordBlock}
+
+-- The schedule, and its numbers for all input lines and for those of thread t.
+abbrev pub scheduleOf : List ℕ → List ℕ → List ℕ
+scheduleOf bytes xs = decode (caseOf bytes) (assignmentOf (caseOf bytes) xs)
+
+abbrev pub valuesOf : List ℕ → List ℕ → List ℕ
+valuesOf bytes xs = allDecodedValues (caseOf bytes) (assignmentOf (caseOf bytes) xs) (caseOf bytes .threads)
+
+abbrev pub threadValues : List ℕ → List ℕ → ℕ → List ℕ
+threadValues bytes xs t = decodedValues (caseOf bytes) (assignmentOf (caseOf bytes) xs) [] (threadLines bytes t)
+
+-- Thread t has so many lines in each block; each thread has.
+abbrev pub CountsOf : List ℕ → List ℕ → ℕ → List ℕ → Type 0
+CountsOf bytes xs t counts = (i : ℕ) → i < mostBlocks → getD counts i 0 ≡ linesInBlock (recordBlock xs) i (threadLines bytes t)
+
+abbrev pub AllCounts : List ℕ → List ℕ → List (List ℕ) → Type 0
+AllCounts bytes xs counts = (t : ℕ) → t < threadCount bytes → CountsOf bytes xs t (getD counts t [])
+
+-- The counts after one more line in a block; what is no block changes nothing.
+unfoldable pub withLine : List ℕ → ℕ → List ℕ
+withLine counts block = cond (ltb block mostBlocks) (set counts block (getD counts block 0 + 1)) counts
+
+-- The lengths of the blocks by the counts of each thread: block i's is that of thread i modulo T.
+abbrev pub lengthsIn : List ℕ → List (List ℕ) → List ℕ
+lengthsIn bytes counts = numbersFrom (λ i. getD (getD counts (i % threadCount bytes) []) i 0) 0 (suc (switchCount bytes))
+
+-- The number of an input line with this value, where its thread's locals have these: of what the line reads, only the guard's
+-- local matters, and the line's number does not.
+unfoldable pub inputNumber : Record → List ℕ → ℕ → ℕ
+inputNumber l locals value = cond (guardTrue (asLine l 0) (readsAt 0 0 0 locals [] (asLine l 0))) value 0
+
+-- The schedule's numbers for a line: none unless it is an input.
+unfoldable pub ownNumbers : Record → List ℕ → ℕ → List ℕ
+ownNumbers l locals value = cond (isInput (kindOf (l .kind))) (inputNumber l locals value ∷ []) []
+
+-- These numbers are written from a place on, and r is the place after them.
+pub record Put (numbers before : List ℕ) (at : ℕ) (after : List ℕ) (r : ℕ) : Type 0 where
+  pub slice : after ≡ numbersAt before at numbers
+  pub place : r ≡ at + length numbers
