@@ -1,4 +1,4 @@
--- From the checker's answer to the decoder's, and what each leaves in the slice.
+-- From the verdict on the case and the checker's answer to the decoder's answer and its slice.
 -- Assumes nothing.
 use mathlib.Core.Path.{_≡_, refl, sym, ap, _∙_}
 use mathlib.Core.Logic.{_≢_}
@@ -6,17 +6,15 @@ use Prim.Native.Nat.{ℕ, _≤_, _<_}
 use mathlib.Core.Bool.{Bool, true, false}
 use mathlib.Core.List.{List}
 use native.Mathlib.Omega.{arith}
-use borrow.Author.Tests.{eqb-true, le-leb, lt-leb}
+use borrow.Author.Tests.{le-leb, lt-leb}
 use lib.Dec.{eqb}
 use lib.ListN.{length}
-use Rattle.model.specs.Lists.{unless}
+use Rattle.model.specs.Lists.{unless, writtenOver}
 use Rattle.model.specs.CaseFile.{caseOf}
 use Rattle.model.specs.Accept.{verdict}
-use Rattle.model.specs.Assignment.{variables, assignmentOf}
+use Rattle.model.specs.Assignment.{variables}
 use Rattle.model.specs.Schedule.{scheduleSize}
-use Rattle.model.specs.Schedule as model
-use Rattle.model.specs.Answers.{onCase, answerOfCheck, failedIn, decoded, afterDecoded, decodedInto}
-use Rattle.model.specs.declared.Verdict.{Verdict}
+use Rattle.model.specs.Answers.{onCase, failedIn, decoded, afterDecoded, decodedInto}
 use Rattle.model.specs.declared.Verdict.the-variants.{Accepted}
 use Rattle.model.specs.declared.Verdict.the-variants as verdicts
 use Rattle.model.specs.declared.Checked.{Checked}
@@ -25,82 +23,51 @@ use Rattle.model.specs.declared.Checked.the-variants as checkeds
 use Rattle.model.specs.declared.Decoded.{Decoded}
 use Rattle.model.specs.declared.Decoded.the-variants.{Schedule, Refused}
 use Rattle.checker.specs.Answer.{checkedAccepted}
-use Rattle.decoder.specs.Decoding.{refusalOf, decodedAccepted}
+use Rattle.schedule.specs.Schedules.{scheduleOf}
+use Rattle.decoder.specs.Decoding.{Answered, refusalOf}
 
-module _ (bytes xs : List ℕ) (size room : ℕ) (es : size ≡ scheduleSize (caseOf bytes)) where
-  pub too-short : room < size → Refused 10 0 ≡ decodedAccepted bytes xs room
-  unfolding decodedAccepted
-  too-short h = rw (lt-leb (scheduleSize (caseOf bytes)) room (rw es at h))
+module _ (bytes xs before : List ℕ) where
+  answered : (r : Decoded) (after : List ℕ) → r ≡ decoded bytes xs (length before) → after ≡ afterDecoded r (scheduleOf bytes xs) before
+      → Answered bytes xs before after r
+  unfolding decodedInto
+  answered r after er ea = record { answer = er; slice = ea ∙ ap (λ (q : Decoded). afterDecoded q (scheduleOf bytes xs) before) er }
 
-  -- What follows where there is room, by the two tests that the checker makes.
-  rest : Bool → Bool → Decoded
-  rest sized met = unless sized (Refused 11 0) (unless met (Refused 15 (failedIn bytes xs)) (Schedule (scheduleSize (caseOf bytes))))
+  pub refused : (number place : ℕ) → verdict bytes ≡ verdicts.Refused number place → Answered bytes xs before before (Refused number place)
+  unfolding decoded onCase
+  refused number place e = answered _ _ (rw e) refl
 
-  tests : Bool → Bool → Checked
-  tests sized met = unless sized (checkeds.Refused 11 0) (unless met (Fails (failedIn bytes xs)) Meets)
+  module _ (accepted : verdict bytes ≡ Accepted) (size : ℕ) (es : size ≡ scheduleSize (caseOf bytes)) where
+    pub too-short : length before < size → Answered bytes xs before before (Refused 10 0)
+    unfolding decoded onCase
+    too-short h = answered _ _ (rw (accepted, lt-leb (scheduleSize (caseOf bytes)) (length before) (rw es at h))) refl
 
-  roomy : size ≤ room → decodedAccepted bytes xs room ≡ rest (eqb (length xs) (variables (caseOf bytes))) (eqb (failedIn bytes xs) 0)
-  unfolding decodedAccepted rest
-  roomy h = rw (le-leb (scheduleSize (caseOf bytes)) room (rw es at h))
+    -- What follows where there is room, by the two tests that the checker makes, and the checker's answer by these.
+    rest : Bool → Bool → Decoded
+    rest sized met = unless sized (Refused 11 0) (unless met (Refused 15 (failedIn bytes xs)) (Schedule (scheduleSize (caseOf bytes))))
 
-  module _ (answer : Checked) (ea : answer ≡ checkedAccepted bytes xs) (h : size ≤ room) where
-    pub not-met : answer ≢ Meets → refusalOf answer ≡ decodedAccepted bytes xs room
-    unfolding checkedAccepted rest tests refusalOf
-    not-met n = ap refusalOf ea ∙ go (eqb (length xs) (variables (caseOf bytes))) (eqb (failedIn bytes xs) 0) (λ e. n (ea ∙ e)) ∙ sym (roomy h)
-      where
-        go : (sized met : Bool) → tests sized met ≢ Meets → refusalOf (tests sized met) ≡ rest sized met
-        go true true n = absurd (n refl)
-        go true false n = refl
-        go false met n = refl
+    tests : Bool → Bool → Checked
+    tests sized met = unless sized (checkeds.Refused 11 0) (unless met (Fails (failedIn bytes xs)) Meets)
 
-    pub met : answer ≡ Meets → Schedule size ≡ decodedAccepted bytes xs room
-    unfolding checkedAccepted rest tests
-    met e = ap Schedule es ∙ go (eqb (length xs) (variables (caseOf bytes))) (eqb (failedIn bytes xs) 0) (sym ea ∙ e) ∙ sym (roomy h)
-      where
-        go : (sized met : Bool) → tests sized met ≡ Meets → Schedule (scheduleSize (caseOf bytes)) ≡ rest sized met
-        go true true e = refl
-        go true false e = absurd (apart e)
-          where
-            apart : Fails (failedIn bytes xs) ≡ Meets → ⊥
-            apart e = let z : _≡_ {A = ℕ} 0 1 = cc in omega (arith, z)
-        go false met e = absurd (apart e)
-          where
-            apart : checkeds.Refused 11 0 ≡ Meets → ⊥
-            apart e = let z : _≡_ {A = ℕ} 0 1 = cc in omega (arith, z)
+    roomy : size ≤ length before → decoded bytes xs (length before) ≡ rest (eqb (length xs) (variables (caseOf bytes))) (eqb (failedIn bytes xs) 0)
+    unfolding decoded onCase rest
+    roomy h = rw (accepted, le-leb (scheduleSize (caseOf bytes)) (length before) (rw es at h))
 
--- An assignment that meets the constraints has all its numbers.
-pub met-sized : (bytes xs : List ℕ) (answer : Checked) → answer ≡ checkedAccepted bytes xs → answer ≡ Meets → length xs ≡ variables (caseOf bytes)
-unfolding checkedAccepted
-met-sized bytes xs answer ea e = go (eqb (length xs) (variables (caseOf bytes))) refl (sym ea ∙ e)
-  where
-    go : (sized : Bool) → eqb (length xs) (variables (caseOf bytes)) ≡ sized
-        → unless sized (checkeds.Refused 11 0) (answerOfCheck (failedIn bytes xs)) ≡ Meets → length xs ≡ variables (caseOf bytes)
-    go true q e' = eqb-true (length xs) (variables (caseOf bytes)) q
-    go false q e' = absurd (let z : _≡_ {A = ℕ} 0 1 = cc in omega (arith, z))
+    module _ (h : size ≤ length before) (answer : Checked) (ea : answer ≡ checkedAccepted bytes xs) where
+      pub not-met : (r : Decoded) → r ≡ refusalOf answer → answer ≢ Meets → Answered bytes xs before before r
+      unfolding checkedAccepted rest tests refusalOf
+      not-met r er n = rw (er, ea) (go (eqb (length xs) (variables (caseOf bytes))) (eqb (failedIn bytes xs) 0) (roomy h) (λ e. n (ea ∙ e)))
+        where
+          go : (sized met : Bool) → decoded bytes xs (length before) ≡ rest sized met → tests sized met ≢ Meets
+              → Answered bytes xs before before (refusalOf (tests sized met))
+          go true true e n = absurd (n refl)
+          go true false e n = answered _ _ (sym e) refl
+          go false met e n = answered _ _ (sym e) refl
 
--- A refusal alters no slice.
-pub refusal-leaves : (answer : Checked) (r : Decoded) (result slice : List ℕ) → r ≡ refusalOf answer → slice ≡ afterDecoded r result slice
-unfolding refusalOf
-refusal-leaves Meets r result slice e = rw e
-refusal-leaves (Fails constraint) r result slice e = rw e
-refusal-leaves (checkeds.Refused number place) r result slice e = rw e
-
-pub accepted-answer : (bytes xs : List ℕ) (room : ℕ) (v : Verdict) → v ≡ verdict bytes → v ≡ Accepted → decodedAccepted bytes xs room ≡ decoded bytes xs room
-unfolding decoded decodedAccepted onCase
-accepted-answer bytes xs room v e h = rw (← e, h)
-
-pub accepted-slice : (bytes xs d x : List ℕ) (v : Verdict) (r : Decoded) → v ≡ verdict bytes → v ≡ Accepted → r ≡ decodedAccepted bytes xs (length d)
-    → x ≡ afterDecoded r (model.decode (caseOf bytes) (assignmentOf (caseOf bytes) xs)) d → x ≡ decodedInto bytes xs d
-unfolding decodedInto
-accepted-slice bytes xs d x v r e h er ex =
-    ex ∙ ap (λ (q : Decoded). afterDecoded q (model.decode (caseOf bytes) (assignmentOf (caseOf bytes) xs)) d) (er ∙ accepted-answer bytes xs (length d) v e h)
-
-pub refused-answer : (bytes xs : List ℕ) (room : ℕ) (v : Verdict) (number place : ℕ) → v ≡ verdict bytes → v ≡ verdicts.Refused number place
-    → Refused number place ≡ decoded bytes xs room
-unfolding decoded onCase
-refused-answer bytes xs room v number place e h = rw (← e, h)
-
-pub refused-slice : (bytes xs d : List ℕ) (v : Verdict) (number place : ℕ) → v ≡ verdict bytes → v ≡ verdicts.Refused number place → d ≡ decodedInto bytes xs d
-unfolding decodedInto
-refused-slice bytes xs d v number place e h =
-    ap (λ (q : Decoded). afterDecoded q (model.decode (caseOf bytes) (assignmentOf (caseOf bytes) xs)) d) (refused-answer bytes xs (length d) v number place e h)
+      pub met : answer ≡ Meets → (after : List ℕ) → after ≡ writtenOver (scheduleOf bytes xs) before → Answered bytes xs before after (Schedule size)
+      unfolding checkedAccepted rest tests
+      met yes-said after written = go (eqb (length xs) (variables (caseOf bytes))) (eqb (failedIn bytes xs) 0) (roomy h) (sym ea ∙ yes-said)
+        where
+          go : (sized met : Bool) → decoded bytes xs (length before) ≡ rest sized met → tests sized met ≡ Meets → Answered bytes xs before after (Schedule size)
+          go true true e m = answered _ _ (ap Schedule es ∙ sym e) written
+          go true false e m = absurd (let z : _≡_ {A = ℕ} 0 1 = cc in omega (arith, z))
+          go false met e m = absurd (let z : _≡_ {A = ℕ} 0 1 = cc in omega (arith, z))

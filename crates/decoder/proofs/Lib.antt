@@ -1,3 +1,1 @@
 pub mod Answering
-pub mod Counts
-pub mod Locals
