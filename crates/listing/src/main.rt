@@ -1,4 +1,4 @@
 // The listing program: reads a case on standard input and prints its table, or the refusal.
 fn main() {
-    list::list();
+    print_listing::print_listing();
 }

@@ -1,4 +1,4 @@
 // The listing of the case with R 0 and n 0, for the gate.
 fn main() {
-    list::list();
+    print_listing::print_listing();
 }

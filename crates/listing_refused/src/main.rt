@@ -1,4 +1,4 @@
 // The listing of a refused case, for the gate: its third record has kind 9.
 fn main() {
-    list::list();
+    print_listing::print_listing();
 }

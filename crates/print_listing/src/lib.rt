@@ -63,7 +63,7 @@ fn listing_of(case: &[u8], text: &mut [u8]) -> usize
 }
 
 // The listing of the case on standard input.
-pub fn list() {
+pub fn print_listing() {
     let mut case = [0u8; MOST_INPUT];
     let input = read_case(&mut case);
     if input.failed {

@@ -1,8 +1,8 @@
 -- `listing_of` never meets refusal 10: every listing fits its text. Assumes nothing.
 use borrow.Author.Needs.{needs}
 use Rattle.listing_text.proofs.Bridge.{no-refusal, whole-text}
-use Rattle.list.proofs.listing_of.Statement.{statement}
-use Rattle.list.proofs.listing_of.Tie as tie
+use Rattle.print_listing.proofs.listing_of.Statement.{statement}
+use Rattle.print_listing.proofs.listing_of.Tie as tie
 
 listing-text-requires : tie.Need-listing-text-requires
 listing-text-requires c κs = search needs

@@ -4,8 +4,8 @@ use borrow.Author.Needs.{needs}
 use Prim.Native.Nat.{_≤_, _-_}
 use mathlib.Core.Path.{_≡_}
 use lib.ListN.{length}
-use Rattle.list.proofs.read_case.Statement.{statement}
-use Rattle.list.proofs.read_case.Tie as tie
+use Rattle.print_listing.proofs.read_case.Statement.{statement}
+use Rattle.print_listing.proofs.read_case.Tie as tie
 
 abbrev Inv-loop : tie.InvT-loop
 Inv-loop buffer₀ bytes₀ buffer bytes = (bytes ≤ length buffer) × (length buffer ≡ length buffer₀)

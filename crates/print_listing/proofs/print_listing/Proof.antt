@@ -1,11 +1,11 @@
--- What `list` hands to write lies within its text. It rests on the contracts of C's read and write, which are assumed.
+-- What `print_listing` hands to write lies within its text. It rests on the contracts of C's read and write, which are assumed.
 use borrow.Author.Needs.{needs}
 use native.Mathlib.Omega.{arith}
 use lib.ListN.{take}
 use Rattle.io.proofs.Counting.{front}
 use Rattle.listing_text.proofs.Bridge.{text-fits}
-use Rattle.list.proofs.list.Statement.{statement}
-use Rattle.list.proofs.list.Tie as tie
+use Rattle.print_listing.proofs.print_listing.Statement.{statement}
+use Rattle.print_listing.proofs.print_listing.Tie as tie
 
 slice-aggregate-read-case : tie.Need-slice-aggregate-read-case
 slice-aggregate-read-case c = search needs
@@ -57,8 +57,8 @@ returns-2 c = search needs
 returns-3 : tie.Need-returns-3
 returns-3 c = search needs
 
-pub list-spec : {M : Type 1} → statement M
-list-spec =
+pub print-listing-spec : {M : Type 1} → statement M
+print-listing-spec =
     tie.close
     (tie.spec
     slice-aggregate-read-case
