@@ -30,7 +30,6 @@ use Rattle.laws.proofs.Views.{LeView, within, beyond, le-view}
 use Rattle.laws.proofs.Accepted.{accepted-of}
 use Rattle.laws.proofs.Writing.{numbers-from-start}
 use Rattle.laws.proofs.Sizes.{table-rows, table-numbers}
-use Rattle.encoder.proofs.Answer.{refused-answer, written-fits}
 use Rattle.listing_text.specs.Text.{sixAt, sixLines, rowsOf, textOf}
 use Rattle.listing_text.proofs.Rows.{line-size}
 use Rattle.listing_text.proofs.Answer.{lines-size}
@@ -82,23 +81,28 @@ module _ (bytes : List ℕ) where
           )
       go (verdicts.Refused number place) e = omega (arith, ap length (listing-refused number place e), line-size (number ∷ (place ∷ [])))
 
--- The rows that the encoder says it has written are in its slice.
-pub rows-fit : (bytes : List ℕ) (room : ℕ) (r : Encoded) → r ≡ encoded bytes room → 6 * rowsOf r ≤ room
-rows-fit bytes room r er = go r refl
-  where
-    go : (q : Encoded) → r ≡ q → 6 * rowsOf q ≤ room
-    go (Table constraints variables) e = written-fits bytes room r constraints variables er e
-    go (encodeds.Refused number place) e = omega arith
-
 -- The encoder's answer, with room for every table.
-module _ (bytes slice : List ℕ) (room : length slice ≡ mostTableNumbers) where
-  table-fits : verdict bytes ≡ Accepted → encoded bytes (length slice) ≡ Table (length (table (caseOf bytes))) (variables (caseOf bytes))
+module _ (bytes : List ℕ) (room : ℕ) (large : room ≡ mostTableNumbers) where
+  table-fits : verdict bytes ≡ Accepted → encoded bytes room ≡ Table (length (table (caseOf bytes))) (variables (caseOf bytes))
   unfolding encoded onCase
-  table-fits e = rw (e, le-leb (length (numbersOf (table (caseOf bytes)))) (length slice) (omega (arith, table-numbers bytes (accepted-of bytes e))))
+  table-fits e = rw (e, le-leb (length (numbersOf (table (caseOf bytes)))) room (omega (arith, table-numbers bytes (accepted-of bytes e))))
 
+  case-refused : (number place : ℕ) → verdict bytes ≡ verdicts.Refused number place → encoded bytes room ≡ encodeds.Refused number place
+  unfolding encoded onCase
+  case-refused number place e = rw e
+
+  -- The rows that it says it has written are in its slice.
+  pub rows-fit : (r : Encoded) → r ≡ encoded bytes room → 6 * rowsOf r ≤ room
+  rows-fit r er = go (verdict bytes) refl
+    where
+      go : (v : Verdict) → verdict bytes ≡ v → 6 * rowsOf r ≤ room
+      go Accepted e = rw (er, table-fits e) (omega (arith, table-rows bytes (accepted-of bytes e)))
+      go (verdicts.Refused number place) e = rw (er, case-refused number place e) (omega arith)
+
+module _ (bytes slice : List ℕ) (large : length slice ≡ mostTableNumbers) where
   table-written : verdict bytes ≡ Accepted → encodedInto bytes slice ≡ numbersOf (table (caseOf bytes)) ++ drop (length (numbersOf (table (caseOf bytes)))) slice
   unfolding encodedInto writtenOver
-  table-written e = ap (λ (q : Encoded). afterEncoded q (numbersOf (table (caseOf bytes))) slice) (table-fits e)
+  table-written e = ap (λ (q : Encoded). afterEncoded q (numbersOf (table (caseOf bytes))) slice) (table-fits bytes (length slice) large e)
 
   pub answer-text : (r : Encoded) (x : List ℕ) → r ≡ encoded bytes (length slice) → x ≡ encodedInto bytes slice → textOf r x ≡ listingText bytes
   unfolding textOf
@@ -106,10 +110,9 @@ module _ (bytes slice : List ℕ) (room : length slice ≡ mostTableNumbers) whe
     where
       go : (v : Verdict) → verdict bytes ≡ v → textOf r x ≡ listingText bytes
       go Accepted e =
-          rw (er, table-fits e, ex, table-written e, listing-accepted bytes e)
+          rw (er, table-fits bytes (length slice) large e, ex, table-written e, listing-accepted bytes e)
           (ap (λ (text : List ℕ). numbersLine (length (table (caseOf bytes)) ∷ (variables (caseOf bytes) ∷ [])) ++ text) (rows-listed (table (caseOf bytes)) _))
-      go (verdicts.Refused number place) e =
-          rw (er, ← refused-answer bytes (length slice) (verdict bytes) number place refl e, listing-refused bytes number place e)
+      go (verdicts.Refused number place) e = rw (er, case-refused bytes (length slice) large number place e, listing-refused bytes number place e)
 
 -- The call's answer and its slice, from the text's length.
 module _ (bytes : List ℕ) (room : ℕ) where

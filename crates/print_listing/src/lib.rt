@@ -11,10 +11,13 @@ use libc::STDIN_FILENO;
 use libc::STDOUT_FILENO;
 use listing_text::MOST_BYTES;
 use listing_text::listing_text;
+use model::HEADER_BYTES;
 use model::Listed;
+use model::MOST_RECORDS;
+use model::RECORD_BYTES;
 
-// The largest case has 32 + 16 x 256 bytes; one more shows that the input is longer.
-const MOST_INPUT: usize = 4129;
+// One byte more than the largest case has shows that the input is longer.
+const MOST_INPUT: usize = HEADER_BYTES + RECORD_BYTES * MOST_RECORDS + 1;
 
 struct Input {
     bytes: usize,

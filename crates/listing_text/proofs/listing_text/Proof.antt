@@ -16,13 +16,13 @@ slice-aggregate-fits : tie.Need-slice-aggregate-fits
 slice-aggregate-fits c = search needs
 
 fits-requires : tie.Need-fits-requires
-fits-requires c κs = (omega (arith, rows-fit _ _ _ (c .before .before .encode .ensures .0), c .before .before .encode .kept .1 .0), omega (arith, c .before .before .encode .kept .1 .0))
+fits-requires c κs = (omega (arith, rows-fit _ _ refl _ (c .before .before .encode .ensures .0), c .before .before .encode .kept .1 .0), omega (arith, c .before .before .encode .kept .1 .0))
 
 slice-aggregate-write-text : tie.Need-slice-aggregate-write-text
 slice-aggregate-write-text c = search needs
 
 write-text-requires : tie.Need-write-text-requires
-write-text-requires c κs = (omega (arith, rows-fit _ _ _ (c .before .before .before .before .before .before .encode .ensures .0), c .before .before .before .before .before .before .encode .kept .1 .0), omega (arith, c .before .before .before .before .before .before .encode .kept .1 .0))
+write-text-requires c κs = (omega (arith, rows-fit _ _ refl _ (c .before .before .before .before .before .before .encode .ensures .0), c .before .before .before .before .before .before .encode .kept .1 .0), omega (arith, c .before .before .before .before .before .before .encode .kept .1 .0))
 
 same-length : tie.Need-same-length
 same-length c = search needs
