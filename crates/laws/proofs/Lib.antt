@@ -15,6 +15,7 @@ pub mod Following
 pub mod RecordSums
 -- How large replies can be
 pub mod Sizes
+pub mod Schedules
 -- Lines, copies and rows
 pub mod AllLines
 pub mod LineFound

@@ -2,12 +2,12 @@
 -- Assumes nothing. Met again in Walks.
 use mathlib.Core.Path.{_≡_, refl, sym, ap₂, _∙_}
 use Prim.Native.Nat.{ℕ, zero, suc, _+_, _-_, _%_, _≤_, _<_}
-use mathlib.Core.Bool.{Bool, true, false, cond}
+use mathlib.Core.Bool.{cond}
 use mathlib.Core.List.{List, [], _∷_, _++_}
 use native.Mathlib.Omega.{arith}
 use native.Mathlib.Nat.{mod-lt}
 use native.Mathlib.Numerals.{add-one}
-use lib.Dec.{eqb, ltb}
+use lib.Dec.{ltb}
 use lib.ListN.{getD, set, length, replicate, length-set, getD-replicate, List·getD-eq-default}
 use lib.Seq.{getD-set-same, getD-set-other}
 use borrow.Author.Tests.{ne-eqb}
@@ -18,18 +18,10 @@ use Rattle.model.specs.Assignment.{assignmentOf}
 use Rattle.model.specs.Schedule.{linesInBlock, countedLengths}
 use Rattle.laws.specs.Accepted.{Accepted}
 use Rattle.laws.proofs.Chains.{threads-are}
+use Rattle.laws.proofs.Schedules.{lines-in-block-few}
 use Rattle.laws.proofs.Views.{EqView, same, diff, eq-view, LtView, below, above, lt-view}
 use Rattle.assignment.specs.Numbers.{recordBlock}
 use Rattle.schedule.specs.Schedules.{AllCounts, withLine, lengthsIn}
-
-count-at-most : (block : ℕ → ℕ) (i : ℕ) (ls : List Line) → linesInBlock block i ls ≤ length ls
-unfolding linesInBlock
-count-at-most block i [] = omega arith
-count-at-most block i (l ∷ ls) = go (eqb (block (l .number)) i) (count-at-most block i ls)
-  where
-    go : (q : Bool) → linesInBlock block i ls ≤ length ls → cond q (suc (linesInBlock block i ls)) (linesInBlock block i ls) ≤ suc (length ls)
-    go true h = omega arith
-    go false h = omega arith
 
 -- The counts so far of a thread's lines by block, the lines that are left, and all its lines.
 pub record Counting (counts : List ℕ) (block : ℕ → ℕ) (rest all : List Line) : Type 0 where
@@ -43,7 +35,7 @@ pub counting-few : (counts : List ℕ) (block : ℕ → ℕ) (rest all : List Li
 counting-few counts block rest all v i = go (lt-view i mostBlocks)
   where
     go : LtView i mostBlocks → getD counts i 0 ≤ length all
-    go (below h q) = omega (arith, v .each i h, count-at-most block i all)
+    go (below h q) = omega (arith, v .each i h, lines-in-block-few block i all)
     go (above h q) = omega (arith, List·getD-eq-default counts 0 {n = i} (omega (arith, v .places)))
 
 pub counting-more : (counts : List ℕ) (block : ℕ → ℕ) (l : Line) (rest all : List Line) → Counting counts block (l ∷ rest) all

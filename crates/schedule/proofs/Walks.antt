@@ -8,8 +8,8 @@ use mathlib.Core.List.{List, [], _∷_, _++_}
 use native.Mathlib.Omega.{arith}
 use lib.ListN.{getD, set, length, replicate, length-set, length-append}
 use lib.Seq.{getD-set-same, getD-set-other}
-use Rattle.model.specs.Limits.{mostThreads, mostItems, mostBlocks, localCount}
-use Rattle.model.specs.CaseFile.{Line, records, threadCount, globalCount, firstRecord, nextRecord, kindOf, lineOf, chains, caseOf, itemCount}
+use Rattle.model.specs.Limits.{mostThreads, mostBlocks, localCount}
+use Rattle.model.specs.CaseFile.{Line, records, threadCount, globalCount, firstRecord, nextRecord, lineOf, chains, caseOf}
 use Rattle.model.specs.Line.{guardName, targetName, guardTrue, isInput}
 use Rattle.model.specs.Machine.{putLocal}
 use Rattle.model.specs.Assignment.{assignmentOf}

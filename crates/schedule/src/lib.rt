@@ -1,7 +1,6 @@
 // The schedule of an assignment: how many numbers it has, and its numbers, written into a lent slice.
 ghost use mathlib.Core.Path.{_≡_};
-ghost use mathlib.Core.List.{[]};
-ghost use Prim.Native.Nat.{ℕ, _+_, _<_, _≤_};
+ghost use Prim.Native.Nat.{_+_, _<_, _≤_};
 ghost use lib.ListN.{length, getD};
 ghost use Rattle.model.specs.Word.{bit};
 ghost use Rattle.model.specs.Limits.{mostScheduleNumbers};
