@@ -16,22 +16,11 @@ use Rattle.model.specs.CaseFile.{Line, Case, linesOf}
 use Rattle.model.specs.Line.{noName, targetName}
 use Rattle.model.specs.Copies.{latest, copyOf}
 use Rattle.laws.proofs.Views.{EqView, same, diff, eq-view, LtView, below, above, lt-view}
+use Rattle.laws.proofs.Ranges.{numbers-at, same-numbers}
 use Rattle.laws.proofs.Copies.{latest-target, latest-other}
 use Rattle.copies.specs.Held.{heldAfter, copyIn, withCopy, Held}
 
 -- ---- Numbers by index
-
-numbers-at : (f : ℕ → ℕ) (i many j : ℕ) → j < many → getD (numbersFrom f i many) j 0 ≡ f (i + j)
-unfolding numbersFrom
-numbers-at f i zero j h = absurd (omega arith)
-numbers-at f i (suc many) zero h = ap f (sym (add-zero i))
-numbers-at f i (suc many) (suc j) h = numbers-at f (suc i) many j (omega arith) ∙ ap f (omega arith)
-
-numbers-same : (f g : ℕ → ℕ) (i many : ℕ) → ((j : ℕ) → i ≤ j → j < i + many → f j ≡ g j) → numbersFrom f i many ≡ numbersFrom g i many
-unfolding numbersFrom
-numbers-same f g i zero h = refl
-numbers-same f g i (suc many) h =
-    rw (h i (omega arith) (omega arith), numbers-same f g (suc i) many (λ j low high. h j (omega arith) (omega arith)))
 
 -- a number put in its place
 numbers-set : (f g : ℕ → ℕ) (i many j v : ℕ) → j < many → g (i + j) ≡ v → ((k : ℕ) → k ≢ i + j → g k ≡ f k)
@@ -39,7 +28,7 @@ numbers-set : (f g : ℕ → ℕ) (i many j v : ℕ) → j < many → g (i + j) 
 unfolding numbersFrom
 numbers-set f g i zero j v h e other = absurd (omega arith)
 numbers-set f g i (suc many) zero v h e other =
-    rw (← (ap g (sym (add-zero i)) ∙ e), numbers-same f g (suc i) many (λ k low high. sym (other k (omega arith))))
+    rw (← (ap g (sym (add-zero i)) ∙ e), same-numbers f g (suc i) (suc i) many (λ k h'. sym (other (suc i + k) (λ z. omega (arith, z)))))
 numbers-set f g i (suc many) (suc j) v h e other =
     rw (other i (omega arith), numbers-set f g (suc i) many j v (omega arith) (ap g (omega arith) ∙ e) (λ k n. other k (λ z. n (z ∙ omega arith))))
 
@@ -54,11 +43,6 @@ held-nothing : (G : ℕ) → replicate noName 0 ≡ heldAfter G []
 unfolding heldAfter latest
 held-nothing G = zeros 0 noName
 
-held-length : (f : ℕ → ℕ) (i many : ℕ) → length (numbersFrom f i many) ≡ many
-unfolding numbersFrom
-held-length f i zero = refl
-held-length f i (suc many) = ap suc (held-length f (suc i) many)
-
 held-target : (G : ℕ) (l : Line) (earlier : List Line) → targetName G l < noName
     → set (heldAfter G earlier) (targetName G l) (l .number) ≡ heldAfter G (l ∷ earlier)
 unfolding heldAfter
@@ -68,7 +52,7 @@ held-target G l earlier h =
 
 held-no-target : (G : ℕ) (l : Line) (earlier : List Line) → noName ≤ targetName G l → heldAfter G earlier ≡ heldAfter G (l ∷ earlier)
 unfolding heldAfter
-held-no-target G l earlier h = numbers-same _ _ 0 noName (λ j low high. sym (latest-other G j l earlier (λ z. omega arith)))
+held-no-target G l earlier h = same-numbers _ _ 0 0 noName (λ j below. sym (latest-other G (0 + j) l earlier (λ z. omega (arith, z))))
 
 held-name : (G name : ℕ) (earlier : List Line) → name < noName → getD (heldAfter G earlier) name 0 ≡ latest G name earlier
 unfolding heldAfter

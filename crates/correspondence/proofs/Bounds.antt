@@ -1,11 +1,11 @@
 -- Every number that a run or a decoded schedule has is below 65,536: the values of lines, the events, the items where blocks end.
 -- Assumes nothing. Met again in Demand3, which speaks of 16-bit numbers only.
 use mathlib.Core.Path.{_≡_}
-use Prim.Native.Nat.{ℕ, zero, suc, _+_, _-_, _*_, _%_, _≤_, _<_}
+use Prim.Native.Nat.{ℕ, zero, suc, _+_, _-_, _*_, _%_, _<_}
 use mathlib.Core.Bool.{Bool, true, false, cond, not, _&&_}
 use mathlib.Core.List.{List, [], _∷_, _++_}
 use native.Mathlib.Omega.{arith}
-use native.Mathlib.Nat.{le-refl, mod-lt}
+use native.Mathlib.Nat.{mod-lt}
 use lib.Dec.{ltb, eqb}
 use lib.Bits.{and-lt, or-lt}
 use lib.ListN.{getD, set, length, drop, replicate}
@@ -18,11 +18,12 @@ use Rattle.model.specs.Line.{operandA, operandB, targetName, Reads, guardTrue, 
 use Rattle.model.specs.Assignment.{Assignment, assignmentOf}
 use Rattle.model.specs.Copies.{readsAfter}
 use Rattle.model.specs.Machine.{Memory, State, look, putLocal, putItem, readsIn, stepped, start, restIn, memoryIn}
-use Rattle.model.specs.Schedule.{allInputLines, valueGiven, linesInBlock, countedLengths, decodedValues, allDecodedValues, decode}
+use Rattle.model.specs.Schedule.{allInputLines, valueGiven, countedLengths, decodedValues, allDecodedValues, decode}
 use Rattle.laws.specs.Order.{AllLines}
 use Rattle.correspondence.specs.Meaning.{WellFormed}
 use Rattle.model.specs.Runs.{memoryAfter, endMemory, nextState}
 use Rattle.correspondence.specs.Trace.{Event, blockEvents, leftEvents, allLeftEvents, events, snapshots}
+use Rattle.laws.proofs.Schedules.{lines-in-block-few}
 use Rattle.correspondence.specs.Fill.{blockIn, valueIn, traced, recordNumbers, blockNumbers, numbersOfAssignment, tracedRun}
 use Rattle.laws.proofs.AllLines.{all-dropped}
 use Rattle.correspondence.proofs.Blocks.{turn}
@@ -243,15 +244,6 @@ below-given (l ∷ ls) [] k h = omega arith
 below-given (l ∷ ls) (x ∷ values) k h = either IsWord (eqb (l .number) k) x (valueGiven ls values k) (h .0) (below-given ls values k (h .1))
 
 -- Decoding.
-lines-in-block-few : (block : ℕ → ℕ) (i : ℕ) (ls : List Line) → linesInBlock block i ls ≤ length ls
-unfolding linesInBlock
-lines-in-block-few block i [] = le-refl 0
-lines-in-block-few block i (l ∷ ls) = go (eqb (block (l .number)) i) (lines-in-block-few block i ls)
-  where
-    go : (q : Bool) → linesInBlock block i ls ≤ length ls → cond q (suc (linesInBlock block i ls)) (linesInBlock block i ls) ≤ suc (length ls)
-    go true h = omega arith
-    go false h = omega arith
-
 module _ (case : Case) (wf : WellFormed case) where
   pub filled-below : (values lens : List ℕ) → AllBelow wordSize values → length lens ≡ suc (case .n)
       → AllBelow wordSize (numbersOfAssignment case (tracedRun case lens (valueGiven (allInputLines (case .threads)) values)))

@@ -22,7 +22,8 @@ use Rattle.correspondence.specs.Fill.{tracedRun, fill}
 use Rattle.correspondence.proofs.Runs.{sound, complete, traced-agrees, counted, same-records, same-blocks}
 use Rattle.correspondence.proofs.Traces.{agrees-transfer, items-transfer}
 use Rattle.correspondence.proofs.Numbers.{record-of-numbers, block-value-of-numbers, numbers-of-own, numbers-same}
-use Rattle.correspondence.proofs.Inputs.{length-of-decoded, counted-lengths, only-counted, length-of-counted, inputs-of-decoded, decoded-of-inputs}
+use Rattle.laws.proofs.Schedules.{length-of-decoded}
+use Rattle.correspondence.proofs.Inputs.{counted-lengths, only-counted, length-of-counted, inputs-of-decoded, decoded-of-inputs}
 use Rattle.correspondence.proofs.Endings.{AddsUp, adds-up-of-finished}
 
 -- The events of a schedule's run and the items where its blocks end, and whether it finishes: is complete and legal.

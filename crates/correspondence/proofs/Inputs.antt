@@ -7,7 +7,7 @@ use mathlib.Core.Bool.{Bool, true, false, cond, true≢false}
 use mathlib.Core.List.{List, [], _∷_, _++_}
 use native.Mathlib.Omega.{arith}
 use native.Mathlib.Nat.{le-refl, zero-add}
-use lib.ListN.{getD, length, length-append}
+use lib.ListN.{getD, length}
 use borrow.Author.Tests.{eq-eqb}
 use Rattle.laws.proofs.Views.{EqView, same, diff, eq-view}
 use Rattle.laws.proofs.Ranges.{length-numbersFrom}
@@ -142,26 +142,6 @@ module _ (case : Case) (α : Assignment) where
     only-threads (ls ∷ threads) values i h =
         let one = only-thread [] ls (allInputLines threads) values (i 0 (omega arith)) h in
         one .1 ∙ ap (λ (z : List ℕ). decodedValues case α [] ls ++ z) (only-threads threads (one .0) (λ t few. i (suc t) (omega arith)) (one .2))
-
-  -- As many values as input lines.
-  length-of-cond : (q : Bool) (x : ℕ) (xs : List ℕ) (l : Line) (ls : List Line) → length xs ≡ length ls
-      → length (cond q (x ∷ xs) xs) ≡ length (cond q (l ∷ ls) ls)
-  length-of-cond true x xs l ls h = ap suc h
-  length-of-cond false x xs l ls h = h
-
-  length-of-thread : (earlier ls : List Line) → length (decodedValues case α earlier ls) ≡ length (inputLines ls)
-  unfolding inputLines decodedValues
-  length-of-thread earlier [] = refl
-  length-of-thread earlier (l ∷ ls) =
-      length-of-cond (isInput (l .kind)) (decodedValue earlier l) (decodedValues case α (l ∷ earlier) ls) l (inputLines ls) (length-of-thread (l ∷ earlier) ls)
-
-  pub length-of-decoded : (threads : List (List Line)) → length (allDecodedValues case α threads) ≡ length (allInputLines threads)
-  unfolding allInputLines allDecodedValues
-  length-of-decoded [] = refl
-  length-of-decoded (ls ∷ threads) =
-      length-append (decodedValues case α [] ls) (allDecodedValues case α threads)
-      ∙ ap₂ (λ (x y : ℕ). x + y) (length-of-thread [] ls) (length-of-decoded threads)
-      ∙ sym (length-append (inputLines ls) (allInputLines threads))
 
   -- Block lengths.
   abbrev countIn : ℕ → ℕ

@@ -7,24 +7,11 @@ use native.Mathlib.Omega.{arith}
 use native.Mathlib.Nat.{zero-add, add-zero, suc-mul, zero-mul}
 use lib.ListN.{getD, length, length-append, List·getD-append}
 use lib.Seq.{getD-append-add, ext-getD}
-use Rattle.laws.proofs.Ranges.{length-numbersFrom}
+use Rattle.laws.proofs.Ranges.{length-numbersFrom, numbers-at, same-numbers}
 use Rattle.model.specs.Lists.{numbersFrom}
 use Rattle.model.specs.CaseFile.{Case, itemCount}
 use Rattle.model.specs.Assignment.{Assignment, variables, assignmentOf}
 use Rattle.correspondence.specs.Fill.{recordNumbers, blockNumbers, numbersOfAssignment}
-
--- The numbers f i, f (i + 1), ..
-number-at : (f : ℕ → ℕ) (i many j : ℕ) → j < many → getD (numbersFrom f i many) j 0 ≡ f (i + j)
-unfolding numbersFrom
-number-at f i zero j h = absurd (omega arith)
-number-at f i (suc many) zero h = ap f (sym (add-zero i))
-number-at f i (suc many) (suc j) h = number-at f (suc i) many j (omega arith) ∙ ap f (omega arith)
-
-numbers-from-same : (f g : ℕ → ℕ) (i k many : ℕ) → ((j : ℕ) → j < many → f (i + j) ≡ g (k + j)) → numbersFrom f i many ≡ numbersFrom g k many
-unfolding numbersFrom
-numbers-from-same f g i k zero h = refl
-numbers-from-same f g i k (suc many) h = ap₂ (λ (x : ℕ) (xs : List ℕ). x ∷ xs) (ap f (sym (add-zero i)) ∙ h 0 (omega arith) ∙ ap g (add-zero k))
-    (numbers-from-same f g (suc i) (suc k) many (λ j few. ap f (omega arith) ∙ h (suc j) (omega arith) ∙ ap g (omega arith)))
 
 numbers-append : (f : ℕ → ℕ) (i many more : ℕ) → numbersFrom f i (many + more) ≡ numbersFrom f i many ++ numbersFrom f (i + many) more
 unfolding numbersFrom
@@ -39,7 +26,7 @@ numbers-of-list : (xs : List ℕ) → numbersFrom (λ j. getD xs j 0) 0 (length 
 numbers-of-list xs =
     let read : ℕ → ℕ = λ j. getD xs j 0 in
     ext-getD 0 (numbersFrom read 0 (length xs)) xs (length-numbersFrom read 0 (length xs))
-    (λ i h. number-at read 0 (length xs) i (rw (length-numbersFrom read 0 (length xs)) at h) ∙ ap read (zero-add i))
+    (λ i h. numbers-at read 0 (length xs) i (rw (length-numbersFrom read 0 (length xs)) at h) ∙ ap read (zero-add i))
 
 -- Lengths.
 length-of-records : (α : Assignment) (k many : ℕ) → length (recordNumbers α k many) ≡ 2 * many
@@ -93,7 +80,7 @@ block-value-at case α i (suc many) zero g h few =
     ap (λ (x : ℕ). getD (blockNumbers case α i (suc many)) x 0) here
     ∙ List·getD-append (numbersFrom (α .blockValue i) 0 (itemCount case)) (blockNumbers case α (suc i) many) 0 g
     (omega (arith, length-numbersFrom (α .blockValue i) 0 (itemCount case)))
-    ∙ number-at (α .blockValue i) 0 (itemCount case) g few
+    ∙ numbers-at (α .blockValue i) 0 (itemCount case) g few
     ∙ ap₂ (α .blockValue) (sym (add-zero i)) (zero-add g)
   where
     here : 0 * itemCount case + g ≡ g
@@ -156,7 +143,7 @@ module _ (case : Case) (xs : List ℕ) where
   blocks-of-own i zero = ap (numbersFrom (λ j. getD xs j 0) (2 * case .R + i * itemCount case)) (sym (zero-mul (itemCount case)))
   blocks-of-own i (suc many) =
       ap₂ (λ (ys zs : List ℕ). ys ++ zs)
-      (numbers-from-same (λ g. getD xs (2 * case .R + i * itemCount case + g) 0) (λ j. getD xs j 0) 0 (2 * case .R + i * itemCount case) (itemCount case)
+      (same-numbers (λ g. getD xs (2 * case .R + i * itemCount case + g) 0) (λ j. getD xs j 0) 0 (2 * case .R + i * itemCount case) (itemCount case)
       (λ j few. ap (λ (z : ℕ). getD xs (2 * case .R + i * itemCount case + z) 0) (zero-add j)))
       (blocks-of-own (suc i) many ∙ ap (λ (j : ℕ). numbersFrom (λ q. getD xs q 0) j (many * itemCount case)) next)
       ∙ sym (numbers-append (λ j. getD xs j 0) (2 * case .R + i * itemCount case) (itemCount case) (many * itemCount case))
@@ -191,7 +178,7 @@ blocks-same : (case : Case) (α β : Assignment) (i many : ℕ) → ((j g : ℕ)
     → blockNumbers case α i many ≡ blockNumbers case β i many
 blocks-same case α β i zero h = refl
 blocks-same case α β i (suc many) h = ap₂ (λ (ys zs : List ℕ). ys ++ zs)
-    (numbers-from-same (α .blockValue i) (β .blockValue i) 0 0 (itemCount case) (λ g few. h i (0 + g) (omega arith) (omega arith)))
+    (same-numbers (α .blockValue i) (β .blockValue i) 0 0 (itemCount case) (λ g few. h i (0 + g) (omega arith) (omega arith)))
     (blocks-same case α β (suc i) many (λ j g few some. h j g (omega arith) some))
 
 pub numbers-same : (case : Case) (α β : Assignment) → ((k : ℕ) → 0 < k → k ≤ case .R → (α .block k ≡ β .block k) × (α .value k ≡ β .value k))

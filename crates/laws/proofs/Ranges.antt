@@ -1,10 +1,12 @@
--- Ranges of numbers: how many there are, and what tests of a range give for each number of it.
--- Assumes nothing. Met again in Accepted, where each check is a test of a range, and in correspondence's Numbers and Claims.
-use mathlib.Core.Path.{_≡_, refl, sym, ap, _∙_}
+-- Ranges of numbers: how many there are, which stands where, and what tests of a range give for each number of it.
+-- Assumes nothing. Met again in Accepted, where each check is a test of a range, and wherever numbers are listed by place.
+use mathlib.Core.Path.{_≡_, refl, sym, ap, ap₂, _∙_}
 use Prim.Native.Nat.{ℕ, zero, suc, _+_, _≤_, _<_}
 use mathlib.Core.Bool.{Bool, true, false}
+use mathlib.Core.List.{List, _∷_}
 use native.Mathlib.Omega.{arith}
-use lib.ListN.{length}
+use native.Mathlib.Nat.{add-zero}
+use lib.ListN.{getD, length}
 use Rattle.model.specs.Lists.{numbersFrom, allFrom, lowestFailing}
 use Rattle.laws.proofs.Views.{EqView, same, diff, eq-view, and-true, true-and}
 
@@ -40,3 +42,15 @@ pub length-numbersFrom : (f : ℕ → ℕ) (i many : ℕ) → length (numbersFro
 unfolding numbersFrom
 length-numbersFrom f i zero = refl
 length-numbersFrom f i (suc many) = ap suc (length-numbersFrom f (suc i) many)
+
+pub numbers-at : (f : ℕ → ℕ) (i many j : ℕ) → j < many → getD (numbersFrom f i many) j 0 ≡ f (i + j)
+unfolding numbersFrom
+numbers-at f i zero j h = absurd (omega arith)
+numbers-at f i (suc many) zero h = ap f (sym (add-zero i))
+numbers-at f i (suc many) (suc j) h = numbers-at f (suc i) many j (omega arith) ∙ ap f (omega arith)
+
+pub same-numbers : (f g : ℕ → ℕ) (i k many : ℕ) → ((j : ℕ) → j < many → f (i + j) ≡ g (k + j)) → numbersFrom f i many ≡ numbersFrom g k many
+unfolding numbersFrom
+same-numbers f g i k zero h = refl
+same-numbers f g i k (suc many) h = ap₂ (λ (x : ℕ) (xs : List ℕ). x ∷ xs) (ap f (sym (add-zero i)) ∙ h 0 (omega arith) ∙ ap g (add-zero k))
+    (same-numbers f g (suc i) (suc k) many (λ j few. ap f (omega arith) ∙ h (suc j) (omega arith) ∙ ap g (omega arith)))

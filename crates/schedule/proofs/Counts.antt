@@ -1,7 +1,7 @@
 -- Laws of the counts of a thread's lines by block, and of the lengths that they give.
 -- Assumes nothing. Met again in Walks.
-use mathlib.Core.Path.{_≡_, refl, sym, ap₂, _∙_}
-use Prim.Native.Nat.{ℕ, zero, suc, _+_, _-_, _%_, _≤_, _<_}
+use mathlib.Core.Path.{_≡_, refl, sym, _∙_}
+use Prim.Native.Nat.{ℕ, suc, _+_, _-_, _%_, _≤_, _<_}
 use mathlib.Core.Bool.{cond}
 use mathlib.Core.List.{List, [], _∷_, _++_}
 use native.Mathlib.Omega.{arith}
@@ -18,6 +18,7 @@ use Rattle.model.specs.Assignment.{assignmentOf}
 use Rattle.model.specs.Schedule.{linesInBlock, countedLengths}
 use Rattle.laws.specs.Accepted.{Accepted}
 use Rattle.laws.proofs.Chains.{threads-are}
+use Rattle.laws.proofs.Ranges.{same-numbers}
 use Rattle.laws.proofs.Schedules.{lines-in-block-few}
 use Rattle.laws.proofs.Views.{EqView, same, diff, eq-view, LtView, below, above, lt-view}
 use Rattle.assignment.specs.Numbers.{recordBlock}
@@ -83,16 +84,11 @@ module _ (bytes : List ℕ) (counts : List (List ℕ)) (i : ℕ) where
   unfolding numbersFrom
   lengths-end h = let s : suc (switchCount bytes) - i ≡ 0 = omega arith in rw s
 
-numbers-same : (f g : ℕ → ℕ) (i many : ℕ) → ((j : ℕ) → j < i + many → f j ≡ g j) → numbersFrom f i many ≡ numbersFrom g i many
-unfolding numbersFrom
-numbers-same f g i zero h = refl
-numbers-same f g i (suc many) h = ap₂ _∷_ (h i (omega arith)) (numbers-same f g (suc i) many (λ j under. h j (omega arith)))
-
 -- The counts of all threads give the lengths that decoding counts.
 pub lengths-counted : (bytes xs : List ℕ) → Accepted bytes → (counts : List (List ℕ)) → AllCounts bytes xs counts
     → lengthsIn bytes counts ≡ countedLengths (caseOf bytes) (assignmentOf (caseOf bytes) xs)
 unfolding assignmentOf
-lengths-counted bytes xs ok counts h = numbers-same _ _ 0 (suc (switchCount bytes)) at
+lengths-counted bytes xs ok counts h = same-numbers _ _ 0 0 (suc (switchCount bytes)) (λ i under. at (0 + i) (omega arith))
   where
     at : (i : ℕ) → i < 0 + suc (switchCount bytes)
         → getD (getD counts (i % threadCount bytes) []) i 0 ≡ linesInBlock (recordBlock xs) i (linesOf (caseOf bytes) (i % threadCount bytes))
