@@ -16,6 +16,9 @@ pub mod RecordSums
 -- How large replies can be
 pub mod Sizes
 pub mod Schedules
+-- Calls on a case, and the numbers of rows
+pub mod OnCase
+pub mod RowNumbers
 -- Lines, copies and rows
 pub mod AllLines
 pub mod LineFound

@@ -1,9 +1,0 @@
-pub mod Writing
-pub mod Order
-pub mod Values
-pub mod Blocks
-pub mod Records
-pub mod Whole
-pub mod Names
-pub mod Bridge
-pub mod Answer

@@ -1,0 +1,106 @@
+-- What the numbers of one row are, and which rows a line has.
+-- Assumes nothing.
+use mathlib.Core.Path.{_≡_, refl, sym, _∙_}
+use mathlib.Core.Logic.{_≢_, _⊎_, inl, inr}
+use Prim.Native.Nat.{ℕ, _+_, _≤_, _<_}
+use mathlib.Core.List.{List, [], _∷_}
+use native.Mathlib.Omega.{arith}
+use native.Mathlib.Numerals.{add-one, add-two, add-three, add-four, add-five}
+use borrow.Author.Tests.{ne-eqb}
+use lib.ListN.{set}
+use Rattle.model.specs.Limits.{mostThreads}
+use Rattle.model.specs.CaseFile.{Kind, kindOf, Line, lineOf, Case, caseOf}
+use Rattle.model.specs.Line.{guardName, operandA, operandB, targetName}
+use Rattle.model.specs.Table.{Row, row, followRow, lineOrderRows, valueRow, demandRows, numbersOf}
+use Rattle.laws.specs.RowCounts.{valueRowCount}
+use Rattle.laws.specs.Written.{numbersAt}
+use Rattle.laws.proofs.Views.{EqView, same, diff, eq-view}
+use Rattle.laws.proofs.Writing.{numbers-none}
+use Rattle.laws.proofs.RowNumbers.{rows-then}
+use Rattle.laws.proofs.Sizes.{line-value-length}
+use Rattle.copies.specs.Held.{copyIn, Held}
+use Rattle.copies.proofs.Held.{held-copy}
+use Rattle.rows.specs.declared.Link.{Link}
+use Rattle.rows.specs.Rows.{Nearest, Stands}
+
+pub six-stores :
+    (d : List ℕ) (at a b c e f g : ℕ) →
+    set (set (set (set (set (set d at a) (at + 1) b) (at + 2) c) (at + 3) e) (at + 4) f) (at + 5) g ≡ numbersAt d at (numbersOf (row a b c e f g ∷ []))
+unfolding numbersAt numbersOf
+six-stores d at a b c e f g = rw (add-one at, add-two at, add-three at, add-four at, add-five at)
+
+-- one row, as a row of the table
+pub one-row : (d a : List ℕ) (at : ℕ) {v w : Row} → a ≡ numbersAt d at (numbersOf (v ∷ [])) → v ≡ w → a ≡ numbersAt d at (numbersOf (w ∷ []))
+one-row d a at ea e = rw (← e) ea
+
+-- the row after a line's 3
+module _ (link : Link) (case : Case) (earlier : List Line) (l : Line) where
+  pub follow-last : (ls : List Line) (n : ℕ) → link .next ≡ 0 → Stands link earlier l ls → n ≡ case .n → row 2 (link .line) n 0 0 0 ≡ followRow case l ls
+  unfolding followRow Nearest
+  follow-last [] n z s en = rw (s .line, en)
+  follow-last (next ∷ ls) n z s en = absurd (s .next .1 z)
+
+  pub follow-next : (ls : List Line) → link .next ≢ 0 → Stands link earlier l ls → row 1 (link .line) (link .next) 0 0 0 ≡ followRow case l ls
+  unfolding followRow Nearest
+  follow-next [] z s = absurd (z (s .next))
+  follow-next (next ∷ ls) z s = rw (s .line, s .next .0)
+
+  -- both order rows
+  pub order-is :
+      (ls : List Line) (d a b : List ℕ) (at T t : ℕ) (v w : Row) → Stands link earlier l ls → T ≡ case .T → v ≡ row 3 (link .line) T t 0 0
+      → w ≡ followRow case l ls → a ≡ numbersAt d at (numbersOf (v ∷ [])) → b ≡ numbersAt a (at + 6) (numbersOf (w ∷ []))
+      → b ≡ numbersAt d at (numbersOf (lineOrderRows case t earlier l ls))
+  unfolding lineOrderRows
+  order-is ls d a b at T t v w s eT ev ew ea eb =
+      rows-then d a b at (at + 6) (row 3 (l .number) (case .T) t 0 0 ∷ []) (followRow case l ls ∷ [])
+      (one-row d a at ea (ev ∙ rw (s .line, eT))) refl (one-row a b (at + 6) eb ew)
+
+-- the 5s
+no-demand : (x : ℕ) (case : Case) (earlier : List Line) (l : Line) → x ≢ 6 → x ≢ 7 → demandRows (kindOf x) case earlier l ≡ []
+unfolding demandRows kindOf
+no-demand x case earlier l a b = go (eq-view x 1) (eq-view x 2) (eq-view x 3) (eq-view x 4) (eq-view x 5)
+  where
+    go : EqView x 1 → EqView x 2 → EqView x 3 → EqView x 4 → EqView x 5 → demandRows (kindOf x) case earlier l ≡ []
+    go (same _ p1) _ _ _ _ = rw p1
+    go (diff _ p1) (same _ p2) _ _ _ = rw (p1, p2)
+    go (diff _ p1) (diff _ p2) (same _ p3) _ _ = rw (p1, p2, p3)
+    go (diff _ p1) (diff _ p2) (diff _ p3) (same _ p4) _ = rw (p1, p2, p3, p4)
+    go (diff _ p1) (diff _ p2) (diff _ p3) (diff _ p4) (same _ p5) = rw (p1, p2, p3, p4, p5)
+    go (diff _ p1) (diff _ p2) (diff _ p3) (diff _ p4) (diff _ p5) = rw (p1, p2, p3, p4, p5, ne-eqb x 6 a, ne-eqb x 7 b)
+
+module _ (x : ℕ) (case : Case) (earlier : List Line) (l : Line) (d a : List ℕ) (at : ℕ) where
+  pub none-put : x ≢ 6 → x ≢ 7 → d ≡ numbersAt d at (numbersOf (demandRows (kindOf x) case earlier l))
+  unfolding numbersOf
+  none-put h6 h7 = rw (no-demand x case earlier l h6 h7) (sym (numbers-none d at))
+
+  module _ (w v : Row) (e : w ≡ valueRow case earlier l) (ea : a ≡ numbersAt d at (numbersOf (v ∷ []))) where
+    pub assume-put : x ≡ 6 → v ≡ row 5 (w .one) 0 0 0 0 → a ≡ numbersAt d at (numbersOf (demandRows (kindOf x) case earlier l))
+    unfolding demandRows kindOf
+    assume-put h ev = rw h (one-row d a at ea (ev ∙ rw e))
+
+    pub lock-put : x ≡ 7 → v ≡ row 5 (w .one) (w .two) (w .five) 0 0 → a ≡ numbersAt d at (numbersOf (demandRows (kindOf x) case earlier l))
+    unfolding demandRows kindOf
+    lock-put h ev = rw h (one-row d a at ea (ev ∙ rw e))
+
+pub two-rows : (x : ℕ) → (x ≡ 6) ⊎ (x ≡ 7) → valueRowCount (kindOf x) ≡ 2
+unfolding valueRowCount kindOf
+two-rows x (inl e) = rw e
+two-rows x (inr e) = rw e
+
+pub some-row : (kind : Kind) → 1 ≤ valueRowCount kind
+some-row kind = omega (arith, line-value-length kind (caseOf []) [] (lineOf [] 0 0))
+
+-- the 4 and the 5
+pub values-are :
+    (case : Case) (earlier : List Line) (l : Line) (d a b : List ℕ) (at : ℕ) (w : Row) → w ≡ valueRow case earlier l → a ≡ numbersAt d at (numbersOf (w ∷ []))
+    → b ≡ numbersAt a (at + 6) (numbersOf (demandRows (l .kind) case earlier l))
+    → b ≡ numbersAt d at (numbersOf (valueRow case earlier l ∷ demandRows (l .kind) case earlier l))
+values-are case earlier l d a b at w ew ea eb = rows-then d a b at (at + 6) (valueRow case earlier l ∷ []) _ (one-row d a at ea ew) refl eb
+
+pub value-is :
+    (case : Case) (earlier : List Line) (l : Line) (copies : List (List ℕ)) (t : ℕ) (guard a b target w x y z : ℕ) → Held case copies t earlier → t < mostThreads
+    → guard ≡ guardName l → a ≡ operandA l → b ≡ operandB l → target ≡ targetName (case .G) l
+    → w ≡ copyIn copies t guard → x ≡ copyIn copies t a → y ≡ copyIn copies t b → z ≡ copyIn copies t target → row 4 (l .number) w x y z ≡ valueRow case earlier l
+value-is case earlier l copies t guard a b target w x y z h few eg ea eb et ew ex ey ez =
+    rw (ew, ex, ey, ez, held-copy case copies t earlier h guard few, held-copy case copies t earlier h a few,
+    held-copy case copies t earlier h b few, held-copy case copies t earlier h target few, eg, ea, eb, et)

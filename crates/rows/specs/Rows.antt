@@ -1,0 +1,54 @@
+-- What the functions of this crate make and put: the rows of `model`'s table for one line. They are not handed the line's thread,
+-- so their contracts are for every case, and every place in a thread, that fits what they are handed.
+-- Assumes nothing.
+use mathlib.Core.Path.{_≡_}
+use mathlib.Core.Logic.{_≢_}
+use Prim.Native.Nat.{ℕ}
+use mathlib.Core.List.{List, [], _∷_}
+use Rattle.model.specs.CaseFile.{Kind, Line, Case}
+use Rattle.model.specs.Table.{Row, followRow, lineOrderRows, valueRow, demandRows, numbersOf}
+use Rattle.laws.specs.Written.{numbersAt}
+use Rattle.copies.specs.Held.{Held}
+use Rattle.rows.specs.declared.Constraint.{Constraint}
+use Rattle.rows.specs.declared.Link.{Link}
+
+-- A constraint as the code holds it.
+abbrev pub asRow : Constraint → Row
+asRow w = record { kind = w .kind; one = w .one; two = w .two; three = w .three; four = w .four; five = w .five }
+
+-- Which line these lines begin with, by its number, which is not 0; 0 where there is none.
+unfoldable pub Nearest : ℕ → List Line → Type 0
+Nearest k [] = k ≡ 0
+Nearest k (l ∷ ls) = (k ≡ l .number) × (k ≢ 0)
+
+-- A line stands after these earlier lines, latest first, and before these.
+pub record Stands (link : Link) (earlier : List Line) (l : Line) (ls : List Line) : Type 0 where
+  pub before : Nearest (link .before) earlier
+  pub line : link .line ≡ l .number
+  pub next : Nearest (link .next) ls
+
+-- The row after its 3, where n is the last block.
+abbrev pub Follows : Link → ℕ → Row → Type 0
+Follows link n w =
+    (case : Case) (earlier : List Line) (l : Line) (ls : List Line) → Stands link earlier l ls → n ≡ case .n → w ≡ followRow case l ls
+
+-- Its order rows, in a slice from a place on: the slice before and after.
+abbrev pub PutsOrder : Link → ℕ → ℕ → ℕ → List ℕ → ℕ → List ℕ → Type 0
+PutsOrder link T n t slice at after =
+    (case : Case) (earlier : List Line) (l : Line) (ls : List Line) → Stands link earlier l ls → T ≡ case .T → n ≡ case .n
+    → after ≡ numbersAt slice at (numbersOf (lineOrderRows case t earlier l ls))
+
+-- The 4 of a line from what is held of its thread, where there are G globals.
+abbrev pub Values : Line → ℕ → List (List ℕ) → Row → Type 0
+Values l G copies w = (case : Case) (earlier : List Line) → Held case copies (l .thread) earlier → G ≡ case .G → w ≡ valueRow case earlier l
+
+-- The 5 of a line with this 4.
+abbrev pub PutsDemand : Kind → Row → List ℕ → ℕ → List ℕ → Type 0
+PutsDemand kind w slice at after =
+    (case : Case) (earlier : List Line) (l : Line) → w ≡ valueRow case earlier l → after ≡ numbersAt slice at (numbersOf (demandRows kind case earlier l))
+
+-- Both.
+abbrev pub PutsValues : Line → ℕ → List (List ℕ) → List ℕ → ℕ → List ℕ → Type 0
+PutsValues l G copies slice at after =
+    (case : Case) (earlier : List Line) → Held case copies (l .thread) earlier → G ≡ case .G
+    → after ≡ numbersAt slice at (numbersOf (valueRow case earlier l ∷ demandRows (l .kind) case earlier l))

@@ -1,0 +1,200 @@
+// The rows of the table: each is made by one function, and put into the slice by one. A line's rows are made from where it stands
+// in its chain and from the latest copies of its thread.
+ghost use mathlib.Core.Path.{_≡_};
+ghost use Prim.Native.Nat.{ℕ, _+_, _*_, _<_, _≤_};
+ghost use mathlib.Core.List.{List, [], _∷_};
+ghost use lib.ListN.{length};
+ghost use Rattle.model.specs.Limits.{mostThreads, mostGlobals};
+ghost use Rattle.model.specs.CaseFile.{kindOf};
+ghost use Rattle.model.specs.Table.{row, goalRow, numbersOf};
+ghost use Rattle.laws.specs.RowCounts.{orderRowCount, valueRowCount};
+ghost use Rattle.laws.specs.Written.{numbersAt};
+ghost use Rattle.case_file.specs.Records.{asLine};
+ghost use Rattle.rows.specs.Rows.{asRow, Follows, PutsOrder, Values, PutsDemand, PutsValues};
+use case_file::Record;
+use copies::copy_of;
+use line::guard_name;
+use line::operand_a;
+use line::operand_b;
+use line::target_name;
+use model::NAMES;
+use model::THREADS;
+
+// A row of the table, and how many numbers it has.
+pub struct Constraint {
+    pub kind: u16,
+    pub one: u16,
+    pub two: u16,
+    pub three: u16,
+    pub four: u16,
+    pub five: u16,
+}
+
+pub const ROW: usize = 6;
+
+// Where a line stands in its chain: the line before it, itself and the next; 0 where there is none.
+pub struct Link {
+    pub before: u16,
+    pub line: u16,
+    pub next: u16,
+}
+
+// A row's six numbers, from a place on.
+pub fn put_row(table: &mut [u16], at: usize, w: Constraint)
+    requires { ⌜ at + 6 ≤ length (now table) ⌝ }
+    ensures { λ x. ⌜ now (table .exit) ≡ numbersAt (now (table .entry)) at (numbersOf (asRow w ∷ [])) ⌝ }
+{
+    table[at] = w.kind;
+    table[at + 1] = w.one;
+    table[at + 2] = w.two;
+    table[at + 3] = w.three;
+    table[at + 4] = w.four;
+    table[at + 5] = w.five;
+}
+
+// The 3 of a line.
+fn thread_row(k: u16, threads: u16, t: u16) -> Constraint
+    ensures { λ r. ⌜ asRow r ≡ row 3 k threads t 0 0 ⌝ }
+{
+    Constraint {
+        kind: 3,
+        one: k,
+        two: threads,
+        three: t,
+        four: 0,
+        five: 0,
+    }
+}
+
+// The row after a line's 3: a 1 with the next line, or a 2 with the last block.
+fn follow_row(link: Link, last: u16) -> Constraint
+    ensures { λ r. ⌜ Follows link last (asRow r) ⌝ }
+{
+    if link.next == 0 {
+        return Constraint {
+            kind: 2,
+            one: link.line,
+            two: last,
+            three: 0,
+            four: 0,
+            five: 0,
+        };
+    }
+    Constraint {
+        kind: 1,
+        one: link.line,
+        two: link.next,
+        three: 0,
+        four: 0,
+        five: 0,
+    }
+}
+
+// The order rows of a line of thread t.
+pub fn put_order(table: &mut [u16], at: usize, link: Link, threads: u16, last: u16, t: u16)
+    requires { ⌜ at + 6 * orderRowCount ≤ length (now table) ⌝ }
+    ensures { λ x. ⌜ PutsOrder link threads last t (now (table .entry)) at (now (table .exit)) ⌝ }
+{
+    let first = thread_row(link.line, threads, t);
+    put_row(table, at, first);
+    let second = follow_row(link, last);
+    put_row(table, at + ROW, second);
+}
+
+// The 4 of a line with number k.
+fn value_row(k: u16, l: Record, globals: usize, latest: &[[u16; NAMES]; THREADS]) -> Constraint
+    requires { ⌜ (l .thread < mostThreads) × (globals ≤ mostGlobals) ⌝ }
+    ensures { λ r. ⌜ Values (asLine l k) globals (now (latest .entry)) (asRow r) ⌝ }
+{
+    let t = l.thread as usize;
+    let target = target_name(globals, l);
+    let a = operand_a(l);
+    let b = operand_b(l);
+    let guard = guard_name(l);
+    Constraint {
+        kind: 4,
+        one: k,
+        two: copy_of(latest, t, guard),
+        three: copy_of(latest, t, a),
+        four: copy_of(latest, t, b),
+        five: copy_of(latest, t, target),
+    }
+}
+
+// A 5.
+fn demand_row(k: u16, guard: u16, target: u16) -> Constraint
+    ensures { λ r. ⌜ asRow r ≡ row 5 k guard target 0 0 ⌝ }
+{
+    Constraint {
+        kind: 5,
+        one: k,
+        two: guard,
+        three: target,
+        four: 0,
+        five: 0,
+    }
+}
+
+// The 5 of a line, where its kind has one: a lock's has the guard copy and the target copy of the line's 4.
+fn put_demand(table: &mut [u16], at: usize, kind: u16, w: Constraint)
+    requires { ⌜ at + 6 * valueRowCount (kindOf kind) ≤ length (now table) + 6 ⌝ }
+    ensures { λ x. ⌜ PutsDemand (kindOf kind) (asRow w) (now (table .entry)) at (now (table .exit)) ⌝ }
+{
+    match kind {
+        6 => {
+            let demand = demand_row(w.one, 0, 0);
+            put_row(table, at, demand);
+        }
+        7 => {
+            let demand = demand_row(w.one, w.two, w.five);
+            put_row(table, at, demand);
+        }
+        _ => {}
+    }
+}
+
+// The 4 of a line with number k, and its 5 where it has one.
+pub fn put_values(
+    table: &mut [u16],
+    at: usize,
+    k: u16,
+    l: Record,
+    globals: usize,
+    latest: &[[u16; NAMES]; THREADS],
+)
+    requires { ⌜ (l .thread < mostThreads) × (globals ≤ mostGlobals) ⌝ }
+    requires { ⌜ at + 6 * valueRowCount (kindOf (l .kind)) ≤ length (now table) ⌝ }
+    ensures { λ x. ⌜ PutsValues (asLine l k) globals (now (latest .entry)) (now (table .entry)) at (now (table .exit)) ⌝ }
+{
+    let w = value_row(k, l, globals, latest);
+    put_row(table, at, w);
+    put_demand(table, at + ROW, l.kind, w);
+}
+
+// A 6.
+pub fn item_row(item: u16, block: u16, copy: u16) -> Constraint
+    ensures { λ r. ⌜ asRow r ≡ row 6 item block copy 0 0 ⌝ }
+{
+    Constraint {
+        kind: 6,
+        one: item,
+        two: block,
+        three: copy,
+        four: 0,
+        five: 0,
+    }
+}
+
+// The 7.
+pub fn goal_row() -> Constraint
+    ensures { λ r. ⌜ asRow r ≡ goalRow ⌝ }
+{
+    Constraint {
+        kind: 7,
+        one: 0,
+        two: 0,
+        three: 0,
+        four: 0,
+        five: 0,
+    }
+}
