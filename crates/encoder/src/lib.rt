@@ -1,43 +1,43 @@
-// The encoder: the table of a case's constraints. A row is made by one function; the latest copy of each name is known for
-// every thread in an array of arrays, threads by names, that one forward walk over each thread's lines keeps up to date.
+// The encoder: the table of a case's constraints. The latest copy of each name is known for every thread, and one forward walk over
+// each thread's lines keeps it up to date.
 ghost use mathlib.Core.Path.{_≡_};
-ghost use Prim.Native.Nat.{_+_, _*_, _<_, _≤_};
-ghost use mathlib.Core.List.{[], _∷_};
+ghost use Prim.Native.Nat.{suc, _+_, _*_, _<_, _≤_};
+ghost use mathlib.Core.List.{[]};
 ghost use lib.ListN.{length};
-ghost use Rattle.model.specs.CaseFile.{kindOf, threadCount, switchCount, globalCount, caseOf, itemCount};
+ghost use Rattle.model.specs.CaseFile.{threadCount, caseOf};
 ghost use Rattle.model.specs.Lists.{writtenOver};
-ghost use Rattle.model.specs.Table.{row, orderRows, numbersOf};
 ghost use Rattle.model.specs.Table as model;
-ghost use Rattle.model.specs.Answers.{afterEncoded, encoded, encodedInto};
+ghost use Rattle.model.specs.Accept.{verdict};
+ghost use Rattle.model.specs.Answers.{encoded, encodedInto};
+ghost use Rattle.model.specs.declared.Verdict.the-variants as verdicts;
 ghost use Rattle.laws.specs.Accepted.{Accepted};
-ghost use Rattle.case_file.specs.Records.{asLine};
-ghost use Rattle.encoder.specs.Rows.{asRow, rowsAt, threadLines, followRow, copiesOf, copyIn, lineRowCount, demandWith, valueRowWith, lineRows, valuesWith, copiesAfter, itemsWith, blocksOf, orderPart, tablePart, encodedAccepted};
-
-pub mod rows; // rows.rt: the rows other than the 4, and a row put into the slice
-
-use case_file::Record;
+ghost use Rattle.laws.specs.Written.{numbersAt};
+ghost use Rattle.copies.specs.Held.{Held};
+ghost use Rattle.encoder.specs.Parts.{orderNumbers, ordersNumbers, valueNumbers, valuesNumbers, itemNumbers, blockNumbers, runNumbers, tableNumbers};
 use case_file::accept;
-use case_file::field_at;
+use case_file::block_values;
 use case_file::first_of;
+use case_file::globals;
+use case_file::items;
+use case_file::kind_of;
 use case_file::next_of;
 use case_file::record_at;
 use case_file::records;
-use line::guard_name;
-use line::operand_a;
-use line::operand_b;
+use case_file::switches;
+use case_file::threads;
+use case_file::variables;
+use copies::copy_of;
+use copies::take_copy;
+use line::ORDER_ROWS;
 use line::target_name;
+use line::value_rows;
 use model::Encoded;
+use model::LOCALS;
+use model::NAMES;
+use model::THREADS;
 use model::Verdict;
-
-// A row of the table.
-pub struct Constraint {
-    pub kind: u16,
-    pub one: u16,
-    pub two: u16,
-    pub three: u16,
-    pub four: u16,
-    pub five: u16,
-}
+use rows::Link;
+use rows::ROW;
 
 // The table of a case: refusals 1 to 9, then 10; else its constraints, six numbers each, from the slice's start.
 pub fn encode(case: &[u8], table: &mut [u16]) -> Encoded
@@ -52,22 +52,21 @@ pub fn encode(case: &[u8], table: &mut [u16]) -> Encoded
 
 // The table of an accepted case where it fits; refusal 10 where it does not.
 fn encode_accepted(case: &[u8], table: &mut [u16]) -> Encoded
-    requires { ⌜ Accepted (now case) ⌝ }
-    ensures { λ r. ⌜ r ≡ encodedAccepted (now (case .entry)) (length (now (table .entry))) ⌝ }
-    ensures { λ r. ⌜ now (table .exit) ≡ afterEncoded r (numbersOf (model.table (caseOf (now (case .entry))))) (now (table .entry)) ⌝ }
+    requires { ⌜ verdict (now case) ≡ verdicts.Accepted ⌝ }
+    ensures { λ r. ⌜ r ≡ encoded (now (case .entry)) (length (now (table .entry))) ⌝ }
+    ensures { λ r. ⌜ now (table .exit) ≡ encodedInto (now (case .entry)) (now (table .entry)) ⌝ }
 {
     let count = constraint_count(case);
-    if table.len() < 6 * count {
+    if table.len() < ROW * count {
         return Encoded::Refused {
             number: 10,
             place: 0,
         };
     }
     write_table(case, table);
-    let variables = 2 * records(case) + block_rows(case);
     Encoded::Table {
         constraints: count as u16,
-        variables: variables as u16,
+        variables: variables(case) as u16,
     }
 }
 
@@ -80,63 +79,44 @@ fn constraint_count(case: &[u8]) -> usize
     let mut n = 0;
     let mut k = 1;
     while k <= last {
-        let l = record_at(case, k);
-        n += 2 + line_rows(l.kind);
+        n += ORDER_ROWS + value_rows(kind_of(case, k));
         k += 1;
     }
-    n + block_rows(case) + 1
+    n + block_values(case) + 1
 }
 
-// The table of an accepted case, from the slice's start.
+// The table of an accepted case, from the slice's start: its rows without the goal, and the goal.
 fn write_table(case: &[u8], table: &mut [u16])
     requires { ⌜ Accepted (now case) ⌝ }
-    requires { ⌜ length (numbersOf (model.table (caseOf (now case)))) ≤ length (now table) ⌝ }
-    ensures { λ x. ⌜ now (table .exit) ≡ writtenOver (numbersOf (model.table (caseOf (now (case .entry))))) (now (table .entry)) ⌝ }
+    requires { ⌜ length (tableNumbers (now case)) ≤ length (now table) ⌝ }
+    ensures { λ x. ⌜ now (table .exit) ≡ writtenOver (tableNumbers (now (case .entry))) (now (table .entry)) ⌝ }
 {
-    let at = write_orders(case, table);
-    write_rest(case, table, at);
+    let at = write_run(case, table);
+    let goal = rows::goal_row();
+    rows::put_row(table, at, goal);
 }
 
-// The two order rows of a line.
-fn put_order(table: &mut [u16], at: usize, k: u16, threads: u16, t: u16, next: u16, last: u16)
-    requires { ⌜ at + 12 ≤ length (now table) ⌝ }
-    ensures { λ x. ⌜ now (table .exit) ≡ rowsAt (now (table .entry)) at (row 3 k threads t 0 0 ∷ (followRow k next last ∷ [])) ⌝ }
-{
-    let first = rows::thread_row(k, threads, t);
-    rows::put_row(table, at, first);
-    let second = rows::follow_row(k, next, last);
-    rows::put_row(table, at + 6, second);
-}
-
-// The 3s, 1s and the 2 of thread t, from a place on; the place after them.
-fn write_order(case: &[u8], table: &mut [u16], start: usize, t: usize) -> usize
+// The rows but for the goal, from the slice's start; the place after them.
+fn write_run(case: &[u8], table: &mut [u16]) -> usize
     requires { ⌜ Accepted (now case) ⌝ }
-    requires { ⌜ t < threadCount (now case) ⌝ }
-    requires { ⌜ start + 6 * length (orderRows (caseOf (now case)) t (threadLines (now case) t)) ≤ length (now table) ⌝ }
-    ensures { λ r. ⌜ now (table .exit) ≡ rowsAt (now (table .entry)) start (orderRows (caseOf (now (case .entry))) t (threadLines (now (case .entry)) t)) ⌝ }
-    ensures { λ r. ⌜ r ≡ start + 6 * length (orderRows (caseOf (now (case .entry))) t (threadLines (now (case .entry)) t)) ⌝ }
+    requires { ⌜ length (runNumbers (now case)) ≤ length (now table) ⌝ }
+    ensures { λ r. ⌜ now (table .exit) ≡ numbersAt (now (table .entry)) 0 (runNumbers (now (case .entry))) ⌝ }
+    ensures { λ r. ⌜ r ≡ length (runNumbers (now (case .entry))) ⌝ }
 {
-    let threads = field_at(case, 0);
-    let last = field_at(case, 1);
-    let mut at = start;
-    let mut k = first_of(case, t);
-    while k != 0 {
-        let next = next_of(case, k);
-        put_order(table, at, k as u16, threads, t as u16, next as u16, last);
-        at += 12;
-        k = next;
-    }
-    at
+    let mut latest = [[0u16; NAMES]; THREADS];
+    let orders = write_orders(case, table);
+    let values = write_all_values(case, table, orders, &mut latest);
+    write_blocks(case, table, values, &latest)
 }
 
-// The 3s, 1s and 2s of all threads, from the start; the place after them.
+// The 3s, 1s and 2s of all threads, from the slice's start; the place after them.
 fn write_orders(case: &[u8], table: &mut [u16]) -> usize
     requires { ⌜ Accepted (now case) ⌝ }
-    requires { ⌜ 6 * length (orderPart (now case)) ≤ length (now table) ⌝ }
-    ensures { λ r. ⌜ now (table .exit) ≡ rowsAt (now (table .entry)) 0 (orderPart (now (case .entry))) ⌝ }
-    ensures { λ r. ⌜ r ≡ 6 * length (orderPart (now (case .entry))) ⌝ }
+    requires { ⌜ length (ordersNumbers (now case)) ≤ length (now table) ⌝ }
+    ensures { λ r. ⌜ now (table .exit) ≡ numbersAt (now (table .entry)) 0 (ordersNumbers (now (case .entry))) ⌝ }
+    ensures { λ r. ⌜ r ≡ length (ordersNumbers (now (case .entry))) ⌝ }
 {
-    let threads = field_at(case, 0) as usize;
+    let threads = threads(case) as usize;
     let mut at = 0;
     let mut t = 0;
     while t < threads {
@@ -146,183 +126,137 @@ fn write_orders(case: &[u8], table: &mut [u16]) -> usize
     at
 }
 
-// The latest copy of a name in thread t.
-fn copy_at(latest: &[[u16; 28]; 4], t: usize, name: usize) -> u16
-    requires { ⌜ t < 4 ⌝ }
-    ensures { λ r. ⌜ r ≡ copyIn (copiesOf (now (latest .entry)) t) name ⌝ }
-{
-    if name < 28 { latest[t][name] } else { 0 }
-}
-
-// The 4 of a line.
-fn value_row(k: u16, l: Record, globals: usize, latest: &[[u16; 28]; 4], t: usize) -> Constraint
-    requires { ⌜ (t < 4) × (globals ≤ 8) ⌝ }
-    ensures { λ r. ⌜ asRow r ≡ valueRowWith globals (copiesOf (now (latest .entry)) t) (asLine l t k) ⌝ }
-{
-    let target = target_name(globals, l);
-    let a = operand_a(l);
-    let b = operand_b(l);
-    let guard = guard_name(l);
-    Constraint {
-        kind: 4,
-        one: k,
-        two: copy_at(latest, t, guard),
-        three: copy_at(latest, t, a),
-        four: copy_at(latest, t, b),
-        five: copy_at(latest, t, target),
-    }
-}
-
-// How many rows a line of a kind has besides its order rows: a 4, and a 5 for assume and lock.
-pub fn line_rows(kind: u16) -> usize
-    ensures { λ r. ⌜ r ≡ lineRowCount (kindOf kind) ⌝ }
-{
-    match kind {
-        6 => 2,
-        7 => 2,
-        _ => 1,
-    }
-}
-
-// The 5 of a line, where its kind has one.
-fn put_demand(table: &mut [u16], at: usize, kind: u16, k: u16, guard: u16, target: u16)
-    requires { ⌜ at + 6 * lineRowCount (kindOf kind) ≤ length (now table) + 6 ⌝ }
-    ensures { λ x. ⌜ now (table .exit) ≡ rowsAt (now (table .entry)) at (demandWith (kindOf kind) k guard target) ⌝ }
-{
-    match kind {
-        6 => {
-            let w = rows::demand_row(k, 0, 0);
-            rows::put_row(table, at, w);
-        }
-        7 => {
-            let w = rows::demand_row(k, guard, target);
-            rows::put_row(table, at, w);
-        }
-        _ => {}
-    }
-}
-
-// The 4 of a line, and its 5 where it has one.
-fn put_line(
-    table: &mut [u16],
-    at: usize,
-    k: u16,
-    l: Record,
-    globals: usize,
-    latest: &[[u16; 28]; 4],
-    t: usize,
-)
-    requires { ⌜ (t < 4) × (globals ≤ 8) ⌝ }
-    requires { ⌜ at + 6 * lineRowCount (kindOf (l .kind)) ≤ length (now table) ⌝ }
-    ensures { λ x. ⌜ now (table .exit) ≡ rowsAt (now (table .entry)) at (lineRows globals (copiesOf (now (latest .entry)) t) (asLine l t k)) ⌝ }
-{
-    let w = value_row(k, l, globals, latest, t);
-    rows::put_row(table, at, w);
-    put_demand(table, at + 6, l.kind, k, w.two, w.five);
-}
-
-// The 4s and 5s of thread t, from the place lent, which moves past them; the latest copies after its lines.
-fn write_values(
-    case: &[u8],
-    table: &mut [u16],
-    place: &mut usize,
-    t: usize,
-    before: [[u16; 28]; 4],
-) -> [[u16; 28]; 4]
+// Those of thread t, from a place on; the place after them.
+fn write_order(case: &[u8], table: &mut [u16], start: usize, t: usize) -> usize
     requires { ⌜ Accepted (now case) ⌝ }
     requires { ⌜ t < threadCount (now case) ⌝ }
-    requires { ⌜ now place + 6 * length (valuesWith (globalCount (now case)) before t (threadLines (now case) t)) ≤ length (now table) ⌝ }
-    ensures { λ r. ⌜ now (table .exit) ≡ rowsAt (now (table .entry)) (now (place .entry)) (valuesWith (globalCount (now (case .entry))) before t (threadLines (now (case .entry)) t)) ⌝ }
-    ensures { λ r. ⌜ now (place .exit) ≡ now (place .entry) + 6 * length (valuesWith (globalCount (now (case .entry))) before t (threadLines (now (case .entry)) t)) ⌝ }
-    ensures { λ r. ⌜ r ≡ copiesAfter (globalCount (now (case .entry))) before t (threadLines (now (case .entry)) t) ⌝ }
+    requires { ⌜ start + length (orderNumbers (now case) t) ≤ length (now table) ⌝ }
+    ensures { λ r. ⌜ now (table .exit) ≡ numbersAt (now (table .entry)) start (orderNumbers (now (case .entry)) t) ⌝ }
+    ensures { λ r. ⌜ r ≡ start + length (orderNumbers (now (case .entry)) t) ⌝ }
 {
-    let globals = field_at(case, 2) as usize;
-    let mut latest = before;
-    let mut at = *place;
+    let threads = threads(case);
+    let last = switches(case);
+    let mut at = start;
+    let mut previous: u16 = 0;
     let mut k = first_of(case, t);
     while k != 0 {
-        let l = record_at(case, k);
-        let name = target_name(globals, l);
-        put_line(table, at, k as u16, l, globals, &latest, t);
-        at += 6 * line_rows(l.kind);
-        if name < 28 {
-            latest[t][name] = k as u16;
-        }
-        k = l.next as usize;
+        let next = next_of(case, k);
+        let line = k as u16;
+        let link = Link {
+            before: previous,
+            line,
+            next: next as u16,
+        };
+        rows::put_order(table, at, link, threads, last, t as u16);
+        at += ROW * ORDER_ROWS;
+        previous = line;
+        k = next;
     }
-    *place = at;
-    latest
+    at
 }
 
-// The 6s of block i, of thread t, from a place on.
-fn write_items(
+// The 4s and 5s of all threads, from a place on; the place after them. The latest copies are then those after all lines.
+fn write_all_values(
+    case: &[u8],
     table: &mut [u16],
     start: usize,
-    i: u16,
-    t: usize,
-    items: u16,
-    latest: &[[u16; 28]; 4],
-)
-    requires { ⌜ (t < 4) × (items ≤ 12) ⌝ }
-    requires { ⌜ start + 6 * length (itemsWith (copiesOf (now latest) t) i 0 items) ≤ length (now table) ⌝ }
-    ensures { λ x. ⌜ now (table .exit) ≡ rowsAt (now (table .entry)) start (itemsWith (copiesOf (now (latest .entry)) t) i 0 items) ⌝ }
-{
-    let mut at = start;
-    let mut g: u16 = 0;
-    while g < items {
-        let name = 16 + (g as usize);
-        let w = rows::item_row(g, i, latest[t][name]);
-        rows::put_row(table, at, w);
-        at += 6;
-        g += 1;
-    }
-}
-
-// The 6s, from a place on.
-fn write_blocks(case: &[u8], table: &mut [u16], start: usize, latest: &[[u16; 28]; 4])
+    latest: &mut [[u16; NAMES]; THREADS],
+) -> usize
     requires { ⌜ Accepted (now case) ⌝ }
-    requires { ⌜ start + 6 * length (blocksOf (now case) (now latest)) ≤ length (now table) ⌝ }
-    ensures { λ x. ⌜ now (table .exit) ≡ rowsAt (now (table .entry)) start (blocksOf (now (case .entry)) (now (latest .entry))) ⌝ }
+    requires { ⌜ Held (caseOf (now case)) (now latest) 0 [] ⌝ }
+    requires { ⌜ start + length (valuesNumbers (now case)) ≤ length (now table) ⌝ }
+    ensures { λ r. ⌜ now (table .exit) ≡ numbersAt (now (table .entry)) start (valuesNumbers (now (case .entry))) ⌝ }
+    ensures { λ r. ⌜ Held (caseOf (now (case .entry))) (now (latest .exit)) (threadCount (now (case .entry))) [] ⌝ }
+    ensures { λ r. ⌜ r ≡ start + length (valuesNumbers (now (case .entry))) ⌝ }
 {
-    let threads = field_at(case, 0) as usize;
-    let last = field_at(case, 1);
-    let items = field_at(case, 2) + field_at(case, 3);
-    let mut at = start;
-    let mut i: u16 = 0;
-    while i < last {
-        let t = (i as usize) % threads;
-        write_items(table, at, i, t, items, latest);
-        at += 6 * (items as usize);
-        i += 1;
-    }
-}
-
-// How many 6s there are.
-fn block_rows(case: &[u8]) -> usize
-    requires { ⌜ Accepted (now case) ⌝ }
-    ensures { λ r. ⌜ (r ≡ switchCount (now (case .entry)) * itemCount (caseOf (now (case .entry)))) × (r ≤ 180) ⌝ }
-{
-    let switches = field_at(case, 1) as usize;
-    let items = field_at(case, 2) as usize + field_at(case, 3) as usize;
-    switches * items
-}
-
-// The 4s and 5s, the 6s and the 7, from a place on.
-fn write_rest(case: &[u8], table: &mut [u16], start: usize)
-    requires { ⌜ Accepted (now case) ⌝ }
-    requires { ⌜ start + 6 * length (tablePart (now case)) ≤ length (now table) ⌝ }
-    ensures { λ x. ⌜ now (table .exit) ≡ rowsAt (now (table .entry)) start (tablePart (now (case .entry))) ⌝ }
-{
-    let threads = field_at(case, 0) as usize;
-    let mut latest = [[0u16; 28]; 4];
+    let threads = threads(case) as usize;
     let mut at = start;
     let mut thread = 0;
     while thread < threads {
-        let next = write_values(case, table, &mut at, thread, latest);
-        latest = next;
+        at = write_values(case, table, at, thread, latest);
         thread += 1;
     }
-    write_blocks(case, table, at, &latest);
-    let goal = rows::goal_row();
-    rows::put_row(table, at + 6 * block_rows(case), goal);
+    at
+}
+
+// Those of thread t, where those of the threads before it have been written.
+fn write_values(
+    case: &[u8],
+    table: &mut [u16],
+    start: usize,
+    t: usize,
+    latest: &mut [[u16; NAMES]; THREADS],
+) -> usize
+    requires { ⌜ Accepted (now case) ⌝ }
+    requires { ⌜ t < threadCount (now case) ⌝ }
+    requires { ⌜ Held (caseOf (now case)) (now latest) t [] ⌝ }
+    requires { ⌜ start + length (valueNumbers (now case) t) ≤ length (now table) ⌝ }
+    ensures { λ r. ⌜ now (table .exit) ≡ numbersAt (now (table .entry)) start (valueNumbers (now (case .entry)) t) ⌝ }
+    ensures { λ r. ⌜ Held (caseOf (now (case .entry))) (now (latest .exit)) (suc t) [] ⌝ }
+    ensures { λ r. ⌜ r ≡ start + length (valueNumbers (now (case .entry)) t) ⌝ }
+{
+    let globals = globals(case) as usize;
+    let mut at = start;
+    let mut k = first_of(case, t);
+    while k != 0 {
+        let l = record_at(case, t as u16, k);
+        let line = k as u16;
+        rows::put_values(table, at, line, l, globals, latest);
+        let target = target_name(globals, l);
+        take_copy(latest, t, target, line);
+        at += ROW * value_rows(l.kind);
+        k = next_of(case, k);
+    }
+    at
+}
+
+// The 6s, from a place on; the place after them.
+fn write_blocks(
+    case: &[u8],
+    table: &mut [u16],
+    start: usize,
+    latest: &[[u16; NAMES]; THREADS],
+) -> usize
+    requires { ⌜ Accepted (now case) ⌝ }
+    requires { ⌜ Held (caseOf (now case)) (now latest) (threadCount (now case)) [] ⌝ }
+    requires { ⌜ start + length (blockNumbers (now case)) ≤ length (now table) ⌝ }
+    ensures { λ r. ⌜ now (table .exit) ≡ numbersAt (now (table .entry)) start (blockNumbers (now (case .entry))) ⌝ }
+    ensures { λ r. ⌜ r ≡ start + length (blockNumbers (now (case .entry))) ⌝ }
+{
+    let last = switches(case);
+    let mut at = start;
+    let mut i: u16 = 0;
+    while i < last {
+        at = write_items(case, table, at, i, latest);
+        i += 1;
+    }
+    at
+}
+
+// Those of block i, from a place on; the place after them.
+fn write_items(
+    case: &[u8],
+    table: &mut [u16],
+    start: usize,
+    i: u16,
+    latest: &[[u16; NAMES]; THREADS],
+) -> usize
+    requires { ⌜ Accepted (now case) ⌝ }
+    requires { ⌜ Held (caseOf (now case)) (now latest) (threadCount (now case)) [] ⌝ }
+    requires { ⌜ start + length (itemNumbers (now case) i) ≤ length (now table) ⌝ }
+    ensures { λ r. ⌜ now (table .exit) ≡ numbersAt (now (table .entry)) start (itemNumbers (now (case .entry)) i) ⌝ }
+    ensures { λ r. ⌜ r ≡ start + length (itemNumbers (now (case .entry)) i) ⌝ }
+{
+    let t = i as usize % threads(case) as usize;
+    let items = items(case);
+    let mut at = start;
+    let mut g = 0;
+    while g < items {
+        let copy = copy_of(latest, t, LOCALS + g);
+        let w = rows::item_row(g as u16, i, copy);
+        rows::put_row(table, at, w);
+        at += ROW;
+        g += 1;
+    }
+    at
 }

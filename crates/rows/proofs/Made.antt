@@ -102,5 +102,17 @@ pub value-is :
     → guard ≡ guardName l → a ≡ operandA l → b ≡ operandB l → target ≡ targetName (case .G) l
     → w ≡ copyIn copies t guard → x ≡ copyIn copies t a → y ≡ copyIn copies t b → z ≡ copyIn copies t target → row 4 (l .number) w x y z ≡ valueRow case earlier l
 value-is case earlier l copies t guard a b target w x y z h few eg ea eb et ew ex ey ez =
-    rw (ew, ex, ey, ez, held-copy case copies t earlier h guard few, held-copy case copies t earlier h a few,
-    held-copy case copies t earlier h b few, held-copy case copies t earlier h target few, eg, ea, eb, et)
+    rw (
+      ew,
+      ex,
+      ey,
+      ez,
+      held-copy case copies t earlier h guard few,
+      held-copy case copies t earlier h a few,
+      held-copy case copies t earlier h b few,
+      held-copy case copies t earlier h target few,
+      eg,
+      ea,
+      eb,
+      et,
+    )

@@ -1,0 +1,55 @@
+-- `write_blocks` writes the 6s, a block at a time. Assumes nothing.
+use borrow.Author.Needs.{needs}
+use Prim.Native.Nat.{_+_, _-_}
+use lib.ListN.{length}
+use Rattle.laws.specs.Written.{numbersAt}
+use Rattle.encoder.specs.Parts.{blockNumbers}
+use Rattle.encoder.proofs.Series.{Going, going-start, going-fits, going-more, going-end}
+use Rattle.encoder.proofs.Parts.{blocks-all, blockSeries}
+use Rattle.encoder.proofs.write_blocks.Statement.{statement}
+use Rattle.encoder.proofs.write_blocks.Tie as tie
+
+abbrev Inv-loop : tie.InvT-loop
+Inv-loop case table₀ start latest last at₀ i₀ table at i = Going (blockSeries case last) i table at (numbersAt table₀ start (blockNumbers case)) (start + length (blockNumbers case)) (length table₀)
+
+abbrev μ-loop : tie.MeasureT-loop
+μ-loop case table₀ start latest last at₀ i₀ table at i = last - i
+
+switches-requires : tie.Need-switches-requires Inv-loop μ-loop
+switches-requires c κs = search needs
+
+loop-holds : tie.Need-loop-holds Inv-loop μ-loop
+loop-holds c = going-start _ _ _ _ (blocks-all _ _ (c .switches .ensures))
+
+write-items-requires : tie.Need-write-items-requires Inv-loop μ-loop
+write-items-requires c κs = (c .before .before .before .before .before .before .pre .0, (c .before .before .before .before .before .before .pre .1 .0, going-fits _ _ _ _ _ _ _ (c .before .before .loop .inv) (c .before .loop-test .taken) (c .before .before .before .before .before .before .pre .1 .1)))
+
+add-i : tie.Need-add-i Inv-loop μ-loop
+add-i c = search needs
+
+loop-less : tie.Need-loop-less Inv-loop μ-loop
+loop-less c = search needs
+
+loop-again : tie.Need-loop-again Inv-loop μ-loop
+loop-again c = going-more _ _ _ _ _ _ _ (c .before .before .before .before .before .loop .inv) (c .before .before .before .before .loop-test .taken) _ _ (c .before .before .write-items .ensures .0) (c .before .before .write-items .ensures .1)
+
+same-length : tie.Need-same-length Inv-loop μ-loop
+same-length c = c .before .loop .inv .writes .same
+
+returns : tie.Need-returns Inv-loop μ-loop
+returns c = going-end _ _ _ _ _ _ _ (c .before .loop .inv) (c .loop-test .left)
+
+pub write-blocks-spec : {M : Type 1} → statement M
+write-blocks-spec =
+    tie.close
+    (tie.spec
+    Inv-loop
+    μ-loop
+    switches-requires
+    loop-holds
+    write-items-requires
+    add-i
+    loop-less
+    loop-again
+    same-length
+    returns)

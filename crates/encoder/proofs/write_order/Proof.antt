@@ -1,0 +1,93 @@
+-- `write_order` writes a thread's order rows: what is left of its chain is what is left to write. Assumes nothing.
+use borrow.Author.Needs.{needs}
+use mathlib.Core.Path.{refl}
+use Prim.Native.Nat.{_+_}
+use native.Mathlib.Omega.{arith}
+use lib.ListN.{length}
+use Rattle.model.specs.CaseFile.{caseOf}
+use Rattle.laws.specs.Accepted.{linesFrom}
+use Rattle.laws.specs.Written.{numbersAt}
+use Rattle.laws.proofs.Following.{lines-less, next-low}
+use Rattle.rows.specs.Rows.{Nearest}
+use Rattle.encoder.specs.Parts.{orderNumbers}
+use Rattle.encoder.proofs.Walking.{orders, Walking, walking-start, walking-room, walking-more, walking-end}
+use Rattle.encoder.proofs.Lines.{nearest-taken, order-put}
+use Rattle.encoder.proofs.write_order.Statement.{statement}
+use Rattle.encoder.proofs.write_order.Tie as tie
+
+abbrev Inv-loop : tie.InvT-loop
+Inv-loop case table₀ start t threads last at₀ previous₀ k₀ table at previous k = Walking case t (orders (caseOf case) t) (Nearest previous) k table at (numbersAt table₀ start (orderNumbers case t)) (start + length (orderNumbers case t)) (length table₀)
+
+abbrev μ-loop : tie.MeasureT-loop
+μ-loop case table₀ start t threads last at₀ previous₀ k₀ table at previous k = length (linesFrom case t k)
+
+threads-requires : tie.Need-threads-requires Inv-loop μ-loop
+threads-requires c κs = search needs
+
+switches-requires : tie.Need-switches-requires Inv-loop μ-loop
+switches-requires c κs = search needs
+
+first-of-requires : tie.Need-first-of-requires Inv-loop μ-loop
+first-of-requires c κs = search needs
+
+loop-holds : tie.Need-loop-holds Inv-loop μ-loop
+unfolding orderNumbers Nearest
+loop-holds c = walking-start _ _ _ _ _ _ _ (c .before .before .before .before .before .pre .0) (c .before .before .before .before .before .pre .1 .0) (c .first-of .ensures) refl
+
+next-of-requires : tie.Need-next-of-requires Inv-loop μ-loop
+next-of-requires c κs = search needs
+
+cast-line : tie.Need-cast-line Inv-loop μ-loop
+cast-line c = search needs
+
+cast-put-order : tie.Need-cast-put-order Inv-loop μ-loop
+cast-put-order c = omega (arith, next-low _ (c .before .before .before .before .before .before .before .before .pre .0) (c .before .before .before .before .before .before .before .before .args .t) _ (c .before .loop-test .taken) (c .before .before .loop .inv .low), c .next-of .ensures)
+
+cast-put-order-2 : tie.Need-cast-put-order-2 Inv-loop μ-loop
+cast-put-order-2 c = search needs
+
+put-order-requires : tie.Need-put-order-requires Inv-loop μ-loop
+put-order-requires c κs = walking-room _ _ _ _ _ _ _ _ _ _ (c .before .before .before .loop .inv) (c .before .before .before .before .before .before .before .before .before .pre .0) (c .before .before .loop-test .taken) (c .before .before .before .before .before .before .before .before .before .pre .1 .1)
+
+mul-at : tie.Need-mul-at Inv-loop μ-loop
+mul-at c = search needs
+
+add-at : tie.Need-add-at Inv-loop μ-loop
+add-at c = omega (arith, walking-room _ _ _ _ _ _ _ _ _ _ (c .before .before .before .before .before .before .loop .inv) (c .before .before .before .before .before .before .before .before .before .before .before .before .pre .0) (c .before .before .before .before .before .loop-test .taken) (c .before .before .before .before .before .before .before .before .before .before .before .before .pre .1 .1))
+
+loop-less : tie.Need-loop-less Inv-loop μ-loop
+loop-less c = lines-less _ (c .before .before .before .before .before .before .before .before .before .before .before .before .pre .0) _ _ (c .before .before .before .before .before .loop-test .taken) (c .before .before .before .before .before .before .loop .inv .low) _ (c .before .before .before .before .next-of .ensures)
+
+loop-again : tie.Need-loop-again Inv-loop μ-loop
+loop-again c =
+    walking-more _ _ _ _ _ _ _ _ _ _ (c .before .before .before .before .before .before .loop .inv) (c .before .before .before .before .before .before .before .before .before .before .before .before .pre .0) (c .before .before .before .before .before .loop-test .taken) _ _ _ _ (c .before .before .before .before .next-of .ensures) (nearest-taken _ _ _ _ (c .before .before .before .before .before .loop-test .taken))
+    (order-put _ _ _ _ _ _ _ _ _ _ (c .before .before .before .before .before .before .before .before .before .before .before .before .pre .0) (c .before .before .before .before .before .loop-test .taken) (c .before .before .before .before .before .before .loop .inv .low) (c .before .before .put-order .ensures) (c .before .before .before .before .before .before .loop .inv .known) refl (c .before .before .before .before .next-of .ensures) (c .before .before .before .before .before .before .before .before .before .threads .ensures) (c .before .before .before .before .before .before .before .before .switches .ensures))
+    refl
+
+same-length : tie.Need-same-length Inv-loop μ-loop
+same-length c = c .before .loop .inv .writes .same
+
+returns : tie.Need-returns Inv-loop μ-loop
+returns c = walking-end _ _ _ _ _ _ _ _ _ _ (c .before .loop .inv) (c .loop-test .left) .0
+
+pub write-order-spec : {M : Type 1} → statement M
+write-order-spec =
+    tie.close
+    (tie.spec
+    Inv-loop
+    μ-loop
+    threads-requires
+    switches-requires
+    first-of-requires
+    loop-holds
+    next-of-requires
+    cast-line
+    cast-put-order
+    cast-put-order-2
+    put-order-requires
+    mul-at
+    add-at
+    loop-less
+    loop-again
+    same-length
+    returns)

@@ -1,0 +1,62 @@
+-- `write_orders` writes the order rows, a thread at a time. Assumes nothing.
+use borrow.Author.Needs.{needs}
+use Prim.Native.Nat.{_+_, _-_}
+use native.Mathlib.Omega.{arith}
+use lib.ListN.{length}
+use Rattle.laws.specs.Written.{numbersAt}
+use Rattle.encoder.specs.Parts.{ordersNumbers}
+use Rattle.encoder.proofs.Series.{Going, going-start, going-fits, going-more, going-end}
+use Rattle.encoder.proofs.Parts.{orders-all, orderSeries}
+use Rattle.encoder.proofs.write_orders.Statement.{statement}
+use Rattle.encoder.proofs.write_orders.Tie as tie
+
+abbrev Inv-loop : tie.InvT-loop
+Inv-loop case table₀ threads at₀ t₀ table at t = Going (orderSeries case threads) t table at (numbersAt table₀ 0 (ordersNumbers case)) (0 + length (ordersNumbers case)) (length table₀)
+
+abbrev μ-loop : tie.MeasureT-loop
+μ-loop case table₀ threads at₀ t₀ table at t = threads - t
+
+threads-requires : tie.Need-threads-requires Inv-loop μ-loop
+threads-requires c κs = search needs
+
+cast-threads : tie.Need-cast-threads Inv-loop μ-loop
+cast-threads c = search needs
+
+loop-holds : tie.Need-loop-holds Inv-loop μ-loop
+loop-holds c = going-start _ _ _ _ (orders-all _ _ (c .threads .ensures))
+
+write-order-requires : tie.Need-write-order-requires Inv-loop μ-loop
+write-order-requires c κs = (c .before .before .before .before .before .before .pre .0, (search needs, going-fits _ _ _ _ _ _ _ (c .before .before .loop .inv) (c .before .loop-test .taken) (omega (arith, c .before .before .before .before .before .before .pre .1))))
+
+add-t : tie.Need-add-t Inv-loop μ-loop
+add-t c = search needs
+
+loop-less : tie.Need-loop-less Inv-loop μ-loop
+loop-less c = search needs
+
+loop-again : tie.Need-loop-again Inv-loop μ-loop
+loop-again c = going-more _ _ _ _ _ _ _ (c .before .before .before .before .before .loop .inv) (c .before .before .before .before .loop-test .taken) _ _ (c .before .before .write-order .ensures .0) (c .before .before .write-order .ensures .1)
+
+same-length : tie.Need-same-length Inv-loop μ-loop
+same-length c = c .before .loop .inv .writes .same
+
+returns : tie.Need-returns Inv-loop μ-loop
+returns c =
+    let done = going-end _ _ _ _ _ _ _ (c .before .loop .inv) (c .loop-test .left) in
+    (done .0, omega arith)
+
+pub write-orders-spec : {M : Type 1} → statement M
+write-orders-spec =
+    tie.close
+    (tie.spec
+    Inv-loop
+    μ-loop
+    threads-requires
+    cast-threads
+    loop-holds
+    write-order-requires
+    add-t
+    loop-less
+    loop-again
+    same-length
+    returns)

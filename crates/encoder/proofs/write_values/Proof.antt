@@ -1,0 +1,108 @@
+-- `write_values` writes a thread's 4s and 5s and takes each line as the latest copy of its target. Assumes nothing.
+use borrow.Author.Needs.{needs}
+use mathlib.Core.Path.{ap}
+use Prim.Native.Nat.{_+_}
+use native.Mathlib.Omega.{arith}
+use lib.ListN.{length}
+use Rattle.model.specs.CaseFile.{kindOf, caseOf}
+use Rattle.laws.specs.Accepted.{linesFrom}
+use Rattle.laws.specs.Written.{numbersAt}
+use Rattle.laws.proofs.Following.{lines-less}
+use Rattle.laws.proofs.Sizes.{value-count-at-most}
+use Rattle.case_file.specs.declared.Record.{Record}
+use Rattle.copies.specs.Held.{Held}
+use Rattle.encoder.specs.Parts.{valueNumbers}
+use Rattle.encoder.proofs.Walking.{values, Walking, walking-start, walking-more, walking-end}
+use Rattle.encoder.proofs.Lines.{values-room, values-place, values-put, copy-taken, thread-taken}
+use Rattle.encoder.proofs.write_values.Statement.{statement}
+use Rattle.encoder.proofs.write_values.Tie as tie
+
+abbrev Inv-loop : tie.InvT-loop
+Inv-loop case table₀ start t latest₀ globals at₀ k₀ table latest at k = Walking case t (values (caseOf case)) (Held (caseOf case) latest t) k table at (numbersAt table₀ start (valueNumbers case t)) (start + length (valueNumbers case t)) (length table₀)
+
+abbrev μ-loop : tie.MeasureT-loop
+μ-loop case table₀ start t latest₀ globals at₀ k₀ table latest at k = length (linesFrom case t k)
+
+globals-requires : tie.Need-globals-requires Inv-loop μ-loop
+globals-requires c κs = search needs
+
+cast-globals : tie.Need-cast-globals Inv-loop μ-loop
+cast-globals c = search needs
+
+first-of-requires : tie.Need-first-of-requires Inv-loop μ-loop
+first-of-requires c κs = search needs
+
+loop-holds : tie.Need-loop-holds Inv-loop μ-loop
+unfolding valueNumbers
+loop-holds c = walking-start _ _ _ _ _ _ _ (c .before .before .before .before .pre .0) (c .before .before .before .before .pre .1 .0) (c .first-of .ensures) (c .before .before .before .before .pre .1 .1 .0)
+
+cast-record-at : tie.Need-cast-record-at Inv-loop μ-loop
+cast-record-at c = search needs
+
+record-at-requires : tie.Need-record-at-requires Inv-loop μ-loop
+record-at-requires c κs = search needs
+
+cast-line : tie.Need-cast-line Inv-loop μ-loop
+cast-line c = search needs
+
+put-values-requires : tie.Need-put-values-requires Inv-loop μ-loop
+put-values-requires c κs = ((omega (arith, ap (λ (r : Record). r .thread) (c .before .before .record-at .ensures), c .before .before .before .before .before .before .before .before .before .pre .1 .0, c .before .before .before .before .before .before .before .before .before .pre .0 .few-threads), search needs), values-room _ _ _ _ _ _ _ _ _ (c .before .before .before .before .loop .inv) (c .before .before .before .before .before .before .before .before .before .pre .0) (c .before .before .before .loop-test .taken) (c .before .before .before .before .before .before .before .before .before .pre .1 .1 .1) _ (c .before .before .record-at .ensures))
+
+target-name-requires : tie.Need-target-name-requires Inv-loop μ-loop
+target-name-requires c κs = search needs
+
+take-copy-requires : tie.Need-take-copy-requires Inv-loop μ-loop
+take-copy-requires c κs = search needs
+
+value-rows-requires : tie.Need-value-rows-requires Inv-loop μ-loop
+value-rows-requires c κs = search needs
+
+mul-at : tie.Need-mul-at Inv-loop μ-loop
+mul-at c = omega (arith, value-count-at-most (kindOf (c .before .before .before .before .before .before .before .before .before .record-at .result .kind)), c .value-rows .ensures)
+
+add-at : tie.Need-add-at Inv-loop μ-loop
+add-at c = omega (arith, values-room _ _ _ _ _ _ _ _ _ (c .before .before .before .before .before .before .before .before .before .before .before .loop .inv) (c .before .before .before .before .before .before .before .before .before .before .before .before .before .before .before .before .pre .0) (c .before .before .before .before .before .before .before .before .before .before .loop-test .taken) (c .before .before .before .before .before .before .before .before .before .before .before .before .before .before .before .before .pre .1 .1 .1) _ (c .before .before .before .before .before .before .before .before .before .record-at .ensures), c .value-rows .ensures)
+
+next-of-requires : tie.Need-next-of-requires Inv-loop μ-loop
+next-of-requires c κs = search needs
+
+loop-less : tie.Need-loop-less Inv-loop μ-loop
+loop-less c = lines-less _ (c .before .before .before .before .before .before .before .before .before .before .before .before .before .before .before .before .before .pre .0) _ _ (c .before .before .before .before .before .before .before .before .before .before .before .loop-test .taken) (c .before .before .before .before .before .before .before .before .before .before .before .before .loop .inv .low) _ (c .next-of .ensures)
+
+loop-again : tie.Need-loop-again Inv-loop μ-loop
+loop-again c =
+    walking-more _ _ _ _ _ _ _ _ _ _ (c .before .before .before .before .before .before .before .before .before .before .before .before .loop .inv) (c .before .before .before .before .before .before .before .before .before .before .before .before .before .before .before .before .before .pre .0) (c .before .before .before .before .before .before .before .before .before .before .before .loop-test .taken) _ _ _ _ (c .next-of .ensures)
+    (copy-taken _ _ _ _ _ (c .before .before .before .before .before .before .before .before .before .before .record-at .ensures) _ (c .before .before .before .before .before .before .before .before .before .before .before .before .before .before .globals .ensures) _ (c .before .before .before .before .before .before .before .before .before .before .before .before .loop .inv .known) _ _ (search needs) (c .before .before .before .before .target-name .ensures) (c .before .before .take-copy .ensures))
+    (values-put _ _ _ _ _ (c .before .before .before .before .before .before .before .before .before .before .record-at .ensures) _ (c .before .before .before .before .before .before .before .before .before .before .before .before .before .before .globals .ensures) _ (c .before .before .before .before .before .before .before .before .before .before .before .before .loop .inv .known) _ _ _ (c .before .before .before .before .before .before .before .put-values .ensures))
+    (values-place _ _ _ _ _ _ (c .before .before .before .before .before .before .before .before .before .before .record-at .ensures) (c .before .value-rows .ensures))
+
+same-length : tie.Need-same-length Inv-loop μ-loop
+same-length c = c .before .loop .inv .writes .same
+
+returns : tie.Need-returns Inv-loop μ-loop
+returns c = (walking-end _ _ _ _ _ _ _ _ _ _ (c .before .loop .inv) (c .loop-test .left) .0 .0, (thread-taken _ _ _ _ (c .before .before .before .before .before .before .pre .1 .0) (c .before .loop .inv .known) (walking-end _ _ _ _ _ _ _ _ _ _ (c .before .loop .inv) (c .loop-test .left) .1), walking-end _ _ _ _ _ _ _ _ _ _ (c .before .loop .inv) (c .loop-test .left) .0 .1))
+
+pub write-values-spec : {M : Type 1} → statement M
+write-values-spec =
+    tie.close
+    (tie.spec
+    Inv-loop
+    μ-loop
+    globals-requires
+    cast-globals
+    first-of-requires
+    loop-holds
+    cast-record-at
+    record-at-requires
+    cast-line
+    put-values-requires
+    target-name-requires
+    take-copy-requires
+    value-rows-requires
+    mul-at
+    add-at
+    next-of-requires
+    loop-less
+    loop-again
+    same-length
+    returns)
