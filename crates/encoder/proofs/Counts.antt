@@ -1,27 +1,17 @@
--- How many rows the table has, record by record, and what the encoder answers by that count.
+-- How many rows the table has, record by record.
 -- Assumes nothing.
-use mathlib.Core.Path.{_≡_, refl, sym, ap, _∙_}
+use mathlib.Core.Path.{_≡_, refl}
 use Prim.Native.Nat.{ℕ, suc, _+_, _*_, _≤_, _<_}
 use mathlib.Core.List.{List, [], _∷_, _++_}
 use native.Mathlib.Omega.{arith}
-use borrow.Author.Tests.{le-leb, lt-leb}
 use lib.ListN.{length, length-append}
 use Rattle.model.specs.CaseFile.{kindOf, Line, Case, records, recordField, threadCount, switchCount, chains, caseOf, itemCount, sumOfLines, sumOfThreads}
-use Rattle.model.specs.Lists.{writtenOver}
-use Rattle.model.specs.Accept.{verdict}
-use Rattle.model.specs.Assignment.{variables}
-use Rattle.model.specs.Table.{orderRows, allOrderRows, valueRows, allValueRows, blockRows, runRows, goalRow, table, numbersOf}
-use Rattle.model.specs.Answers.{onCase, encoded, afterEncoded, encodedInto}
-use Rattle.model.specs.declared.Verdict.the-variants as verdicts
-use Rattle.model.specs.declared.Encoded.{Encoded}
-use Rattle.model.specs.declared.Encoded.the-variants.{Table, Refused}
+use Rattle.model.specs.Table.{orderRows, allOrderRows, valueRows, allValueRows, blockRows, runRows, goalRow, table}
 use Rattle.laws.specs.Accepted.{Accepted}
 use Rattle.laws.specs.RowCounts.{orderRowCount, valueRowCount}
 use Rattle.laws.proofs.Counting.{sumFrom}
-use Rattle.laws.proofs.OnCase.{on-accepted, on-refused}
 use Rattle.laws.proofs.RecordSums.{lines-add-up, recordsFrom, records-all, records-more, records-none}
-use Rattle.laws.proofs.Sizes.{six-a-row, order-length, value-length, value-count-at-most, blocks-length}
-use Rattle.encoder.specs.Parts.{tableNumbers}
+use Rattle.laws.proofs.Sizes.{order-length, value-length, value-count-at-most, blocks-length}
 
 -- The rows of record k: its order rows and the others.
 unfoldable pub recordRows : List ℕ → ℕ → ℕ
@@ -92,36 +82,3 @@ table-count bytes ok k n blocks v h eb =
       length-append values blocks,
       blocks-length case 0 (switchCount bytes),
     )
-
--- The answers.
-module _ (bytes d : List ℕ) (accepted : verdict bytes ≡ verdicts.Accepted) (count : ℕ) (ec : count ≡ length (table (caseOf bytes))) where
-  size : length (numbersOf (table (caseOf bytes))) ≡ 6 * count
-  size = omega (arith, six-a-row (table (caseOf bytes)))
-
-  pub too-short : length d < 6 * count → (Refused 10 0 ≡ encoded bytes (length d)) × (d ≡ encodedInto bytes d)
-  unfolding encoded encodedInto
-  too-short h = (sym answer, ap (λ (r : Encoded). afterEncoded r (numbersOf (table (caseOf bytes))) d) (sym answer))
-    where
-      answer : encoded bytes (length d) ≡ Refused 10 0
-      answer = on-accepted (verdict bytes) Refused _ accepted ∙ rw (lt-leb (length (numbersOf (table (caseOf bytes)))) (length d) (omega (arith, size)))
-
-  pub table-fits : 6 * count ≤ length d → length (tableNumbers bytes) ≤ length d
-  unfolding tableNumbers
-  table-fits h = omega (arith, size)
-
-  pub table-answered :
-      (x : List ℕ) (vars : ℕ) → 6 * count ≤ length d → vars ≡ variables (caseOf bytes) → x ≡ writtenOver (tableNumbers bytes) d
-      → (Table count vars ≡ encoded bytes (length d)) × (x ≡ encodedInto bytes d)
-  unfolding encoded encodedInto tableNumbers
-  table-answered x vars h ev ex = (rw (ec, ev) (sym answer), ex ∙ ap (λ (r : Encoded). afterEncoded r (numbersOf (table (caseOf bytes))) d) (sym answer))
-    where
-      answer : encoded bytes (length d) ≡ Table (length (table (caseOf bytes))) (variables (caseOf bytes))
-      answer = on-accepted (verdict bytes) Refused _ accepted ∙ rw (le-leb (length (numbersOf (table (caseOf bytes)))) (length d) (omega (arith, size)))
-
-pub case-refused :
-    (bytes d : List ℕ) (number place : ℕ) → verdict bytes ≡ verdicts.Refused number place → (Refused number place ≡ encoded bytes (length d)) × (d ≡ encodedInto bytes d)
-unfolding encoded encodedInto
-case-refused bytes d number place e = (sym answer, ap (λ (r : Encoded). afterEncoded r (numbersOf (table (caseOf bytes))) d) (sym answer))
-  where
-    answer : encoded bytes (length d) ≡ Refused number place
-    answer = on-refused (verdict bytes) Refused _ number place e

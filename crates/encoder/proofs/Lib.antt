@@ -5,3 +5,4 @@ pub mod Lines
 pub mod Series
 pub mod Parts
 pub mod Counts
+pub mod Answer

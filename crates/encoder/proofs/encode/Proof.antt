@@ -1,7 +1,7 @@
 -- `encode` meets its contract: refusals 1 to 9, then the answer for an accepted case. Assumes nothing.
 use borrow.Author.Needs.{needs}
 use mathlib.Core.Path.{sym, _∙_}
-use Rattle.encoder.proofs.Counts.{case-refused}
+use Rattle.encoder.proofs.Answer.{case-refused}
 use Rattle.encoder.proofs.encode.Statement.{statement}
 use Rattle.encoder.proofs.encode.Tie as tie
 
@@ -24,7 +24,7 @@ returns : tie.Need-returns
 returns c = search needs
 
 returns-2 : tie.Need-returns-2
-returns-2 c = case-refused _ _ _ _ (sym (c .before .before .before .accept .ensures) ∙ c .before .number .given .1)
+returns-2 c = case-refused _ _ _ _ _ (c .before .before .before .accept .ensures) (c .before .number .given .1)
 
 pub encode-spec : {M : Type 1} → statement M
 encode-spec =

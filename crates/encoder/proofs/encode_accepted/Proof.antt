@@ -3,7 +3,7 @@ use borrow.Author.Needs.{needs}
 use native.Mathlib.Omega.{arith}
 use Rattle.laws.proofs.Accepted.{accepted-of}
 use Rattle.laws.proofs.Sizes.{table-rows}
-use Rattle.encoder.proofs.Counts.{too-short, table-fits, table-answered}
+use Rattle.encoder.proofs.Answer.{too-short, table-fits, table-answered}
 use Rattle.encoder.proofs.encode_accepted.Statement.{statement}
 use Rattle.encoder.proofs.encode_accepted.Tie as tie
 
@@ -14,10 +14,10 @@ mul-if1 : tie.Need-mul-if1
 mul-if1 c = omega (arith, c .constraint-count .ensures, table-rows _ (accepted-of _ (c .before .before .before .pre)))
 
 returns : tie.Need-returns
-returns c = too-short _ _ (c .before .before .before .before .pre) _ (c .before .constraint-count .ensures) (c .if1 .taken)
+returns c = too-short _ (c .before .before .before .before .pre) _ _ (c .before .constraint-count .ensures) (c .if1 .taken)
 
 write-table-requires : tie.Need-write-table-requires
-write-table-requires c κs = (accepted-of _ (c .before .before .before .before .before .pre), table-fits _ (c .before .before .before .before .before .args .table .now) (c .before .before .before .before .before .pre) _ (c .before .before .constraint-count .ensures) (c .before .if1 .left))
+write-table-requires c κs = (accepted-of _ (c .before .before .before .before .before .pre), table-fits _ (c .before .before .before .before .before .pre) (c .before .before .before .before .before .args .table .now) _ (c .before .before .constraint-count .ensures) (c .before .if1 .left))
 
 cast-t10 : tie.Need-cast-t10
 cast-t10 c = omega (arith, c .before .before .before .before .before .constraint-count .ensures, table-rows _ (accepted-of _ (c .before .before .before .before .before .before .before .before .pre)))
@@ -32,7 +32,7 @@ same-length : tie.Need-same-length
 same-length c = search needs
 
 returns-2 : tie.Need-returns-2
-returns-2 c = table-answered _ _ (c .before .before .before .before .before .before .before .before .before .pre) _ (c .before .before .before .before .before .before .constraint-count .ensures) _ _ (c .before .before .before .before .before .if1 .left) (c .variables .ensures .0) (c .before .before .before .write-table .ensures)
+returns-2 c = table-answered _ (c .before .before .before .before .before .before .before .before .before .pre) _ _ (c .before .before .before .before .before .before .constraint-count .ensures) _ _ (c .before .before .before .before .before .if1 .left) (c .variables .ensures .0) (c .before .before .before .write-table .ensures)
 
 pub encode-accepted-spec : {M : Type 1} → statement M
 encode-accepted-spec =

@@ -1,0 +1,82 @@
+-- What the encoder answers and what it leaves in the slice.
+-- Assumes nothing. Met again where the listing is written.
+use mathlib.Core.Path.{_≡_, refl, sym, ap, _∙_}
+use Prim.Native.Nat.{ℕ, _*_, _≤_, _<_}
+use mathlib.Core.List.{List}
+use native.Mathlib.Omega.{arith}
+use borrow.Author.Tests.{le-leb, lt-leb}
+use lib.ListN.{length}
+use Rattle.model.specs.Lists.{writtenOver}
+use Rattle.model.specs.CaseFile.{caseOf}
+use Rattle.model.specs.Accept.{verdict}
+use Rattle.model.specs.Assignment.{variables}
+use Rattle.model.specs.Table.{table, numbersOf}
+use Rattle.model.specs.Answers.{encoded, afterEncoded, encodedInto}
+use Rattle.model.specs.declared.Verdict.{Verdict}
+use Rattle.model.specs.declared.Verdict.the-variants.{Accepted}
+use Rattle.model.specs.declared.Verdict.the-variants as verdicts
+use Rattle.model.specs.declared.Encoded.{Encoded}
+use Rattle.model.specs.declared.Encoded.the-variants.{Table, Refused}
+use Rattle.laws.proofs.OnCase.{on-accepted, on-refused}
+use Rattle.laws.proofs.Sizes.{six-a-row}
+use Rattle.laws.proofs.Views.{LeView, within, beyond, le-view}
+use Rattle.encoder.specs.Parts.{tableNumbers}
+
+module _ (bytes : List ℕ) where
+  -- The slice, by the answer.
+  slice-after : (d : List ℕ) (r : Encoded) → r ≡ encoded bytes (length d) → afterEncoded r (tableNumbers bytes) d ≡ encodedInto bytes d
+  unfolding encodedInto tableNumbers
+  slice-after d r e = ap (λ (q : Encoded). afterEncoded q (numbersOf (table (caseOf bytes))) d) e
+
+  -- A case that is refused.
+  pub refused-answer : (room : ℕ) (v : Verdict) (number place : ℕ) → v ≡ verdict bytes → v ≡ verdicts.Refused number place → Refused number place ≡ encoded bytes room
+  unfolding encoded
+  refused-answer room v number place e h = sym (on-refused (verdict bytes) Refused _ number place (sym e ∙ h))
+
+  pub case-refused :
+      (d : List ℕ) (v : Verdict) (number place : ℕ) → v ≡ verdict bytes → v ≡ verdicts.Refused number place
+      → (Refused number place ≡ encoded bytes (length d)) × (d ≡ encodedInto bytes d)
+  case-refused d v number place e h = let answer = refused-answer (length d) v number place e h in (answer, slice-after d (Refused number place) answer)
+
+  -- An accepted case, by how many constraints it has.
+  module _ (accepted : verdict bytes ≡ Accepted) where
+    short : (room : ℕ) → room < length (numbersOf (table (caseOf bytes))) → encoded bytes room ≡ Refused 10 0
+    unfolding encoded
+    short room h = on-accepted (verdict bytes) Refused _ accepted ∙ rw (lt-leb (length (numbersOf (table (caseOf bytes)))) room h)
+
+    long : (room : ℕ) → length (numbersOf (table (caseOf bytes))) ≤ room → encoded bytes room ≡ Table (length (table (caseOf bytes))) (variables (caseOf bytes))
+    unfolding encoded
+    long room h = on-accepted (verdict bytes) Refused _ accepted ∙ rw (le-leb (length (numbersOf (table (caseOf bytes)))) room h)
+
+    module _ (d : List ℕ) (count : ℕ) (ec : count ≡ length (table (caseOf bytes))) where
+      size : length (numbersOf (table (caseOf bytes))) ≡ 6 * count
+      size = omega (arith, six-a-row (table (caseOf bytes)))
+
+      pub too-short : length d < 6 * count → (Refused 10 0 ≡ encoded bytes (length d)) × (d ≡ encodedInto bytes d)
+      too-short h = let answer = sym (short (length d) (omega (arith, size))) in (answer, slice-after d (Refused 10 0) answer)
+
+      pub table-fits : 6 * count ≤ length d → length (tableNumbers bytes) ≤ length d
+      unfolding tableNumbers
+      table-fits h = omega (arith, size)
+
+      pub table-answered :
+          (x : List ℕ) (vars : ℕ) → 6 * count ≤ length d → vars ≡ variables (caseOf bytes) → x ≡ writtenOver (tableNumbers bytes) d
+          → (Table count vars ≡ encoded bytes (length d)) × (x ≡ encodedInto bytes d)
+      table-answered x vars h ev ex =
+          let answer : Table count vars ≡ encoded bytes (length d) = rw (ec, ev) (sym (long (length d) (omega (arith, size)))) in
+          (answer, ex ∙ slice-after d (Table count vars) answer)
+
+  -- For the caller: a table that was written fits.
+  pub written-fits : (room : ℕ) (r : Encoded) (constraints variables : ℕ) → r ≡ encoded bytes room → r ≡ Table constraints variables → 6 * constraints ≤ room
+  written-fits room r constraints variables e h = go (verdict bytes) refl (le-view (length (numbersOf (table (caseOf bytes)))) room)
+    where
+      never : (number place : ℕ) → encoded bytes room ≡ Refused number place → ⊥
+      never number place q = let z : _≡_ {A = ℕ} 0 1 = cc in omega arith
+
+      go : (v : Verdict) → verdict bytes ≡ v → LeView (length (numbersOf (table (caseOf bytes)))) room → 6 * constraints ≤ room
+      go (verdicts.Refused number place) ev w = absurd (never number place (sym (refused-answer room (verdict bytes) number place refl ev)))
+      go Accepted ev (beyond p q) = absurd (never 10 0 (short ev room p))
+      go Accepted ev (within p q) =
+          let written = long ev room p in
+          let same : constraints ≡ length (table (caseOf bytes)) = cc in
+          omega (arith, six-a-row (table (caseOf bytes)))
