@@ -1,23 +1,40 @@
--- Where block values stand, and what the items are where a block starts.
+-- The items' values where the run starts, and where a block starts.
 -- Assumes nothing.
 use mathlib.Core.Path.{_≡_, refl, sym, ap, _∙_}
+use mathlib.Core.Logic.{_≢_}
 use Prim.Native.Nat.{ℕ, zero, suc, _+_, _*_, _-_, _≤_, _<_}
 use mathlib.Core.List.{List, _++_}
 use native.Mathlib.Omega.{arith}
-use native.Mathlib.Nat.{mul-le-mul-left, add-zero, zero-add}
-use lib.ListN.{getD, replicate}
+use native.Mathlib.Nat.{mul-le-mul, add-zero, zero-add}
+use lib.ListN.{getD, set, length-set, replicate}
+use lib.Seq.{getD-set-same, getD-set-other}
+use Rattle.model.specs.Limits.{mostSwitches, mostItems}
 use Rattle.model.specs.Lists.{numbersFrom}
-use Rattle.model.specs.CaseFile.{Case, globalCount, mutexCount, initialValue, caseOf}
-use Rattle.model.specs.Assignment.{Assignment}
+use Rattle.model.specs.CaseFile.{Case, records, globalCount, mutexCount, initialValue, caseOf, itemCount}
+use Rattle.model.specs.Assignment.{Assignment, assignmentOf}
 use Rattle.model.specs.Copies.{valueBefore}
+use Rattle.laws.proofs.Views.{EqView, same, diff, eq-view, LtView, below, above, lt-view}
+use Rattle.assignment.specs.Numbers.{Filled, initialItem, numberFrom, StartOf}
 
-pub product-at-most : (i items : ℕ) → i < 65536 → items ≤ 12 → i * items ≤ 786420
-product-at-most i items h h' = omega (arith, mul-le-mul-left i h')
+-- ---- An array filled one after the other
 
-pub value-before-later : (case : Case) (α : Assignment) (i g : ℕ) → (i ≡ 0 → ⊥) → α .blockValue (i - 1) g ≡ valueBefore case α i g
-unfolding valueBefore
-value-before-later case α zero g h = absurd (h refl)
-value-before-later case α (suc i) g h = let e : suc i - 1 ≡ i = omega arith in rw e
+pub filled-start : (value : ℕ → ℕ) (items : List ℕ) → items ≡ replicate mostItems 0 → Filled value 0 items
+filled-start value items e = record { wide = rw e; filled = λ g h. absurd (omega arith) }
+
+pub filled-more : (value : ℕ → ℕ) (g x : ℕ) (items : List ℕ) → Filled value g items → g < mostItems → x ≡ value g → Filled value (g + 1) (set items g x)
+filled-more value g x items v h e = record {
+  wide = length-set items g x ∙ v .wide;
+  filled = λ j small. at j small (eq-view j g);
+}
+  where
+    at : (j : ℕ) → j < g + 1 → EqView j g → getD (set items g x) j 0 ≡ value j
+    at j small (same p q) = ap (λ (i : ℕ). getD (set items g x) i 0) p ∙ getD-set-same items g x 0 (omega (arith, v .wide)) ∙ e ∙ ap value (sym p)
+    at j small (diff n q) = getD-set-other items g j x 0 n ∙ v .filled j (omega arith)
+
+pub filled-all : (value : ℕ → ℕ) (g count : ℕ) (items : List ℕ) → Filled value g items → count ≤ g → Filled value count items
+filled-all value g count items v h = record { wide = v .wide; filled = λ j small. v .filled j (omega arith) }
+
+-- ---- The values where the run starts
 
 -- "globals are at their initial values and mutexes at 0"
 numbers-from-at : (f : ℕ → ℕ) (i many j : ℕ) (ys : List ℕ) → j < many → getD (numbersFrom f i many ++ ys) j 0 ≡ f (i + j)
@@ -37,9 +54,55 @@ numbers-from-past f i zero j more h = zeros-at more j
 numbers-from-past f i (suc many) zero more h = absurd (omega arith)
 numbers-from-past f i (suc many) (suc j) more h = numbers-from-past f (suc i) many j more (omega arith)
 
-pub initial-of-global : (bytes : List ℕ) (g : ℕ) → g < globalCount bytes → getD (caseOf bytes .initial) g 0 ≡ initialValue bytes g
+initial-of-global : (bytes : List ℕ) (g : ℕ) → g < globalCount bytes → initialItem bytes g ≡ initialValue bytes g
 initial-of-global bytes g h =
     numbers-from-at (initialValue bytes) 0 (globalCount bytes) g _ h ∙ ap (initialValue bytes) (zero-add g)
 
-pub initial-of-other : (bytes : List ℕ) (g : ℕ) → globalCount bytes ≤ g → getD (caseOf bytes .initial) g 0 ≡ 0
+initial-of-other : (bytes : List ℕ) (g : ℕ) → globalCount bytes ≤ g → initialItem bytes g ≡ 0
 initial-of-other bytes g h = numbers-from-past (initialValue bytes) 0 (globalCount bytes) g (mutexCount bytes) h
+
+-- So many globals have their initial values, and the other items 0.
+pub record FromStart (bytes : List ℕ) (g : ℕ) (items : List ℕ) : Type 0 where
+  pub globals : Filled (initialItem bytes) g items
+  pub others : (j : ℕ) → g ≤ j → getD items j 0 ≡ 0
+
+module _ (bytes : List ℕ) where
+  pub from-start-none : (items : List ℕ) → items ≡ replicate mostItems 0 → FromStart bytes 0 items
+  from-start-none items e = record { globals = filled-start (initialItem bytes) items e; others = λ j h. ap (λ (xs : List ℕ). getD xs j 0) e ∙ zeros-at mostItems j }
+
+  module _ (g : ℕ) (items : List ℕ) (v : FromStart bytes g items) where
+    pub from-start-more : (x : ℕ) → g < mostItems → g < globalCount bytes → x ≡ initialValue bytes g → FromStart bytes (g + 1) (set items g x)
+    from-start-more x few h e = record {
+      globals = filled-more (initialItem bytes) g x items (v .globals) few (e ∙ sym (initial-of-global bytes g h));
+      others = λ j beyond. getD-set-other items g j x 0 (λ z. omega arith) ∙ v .others j (omega arith);
+    }
+
+    pub from-start-all : globalCount bytes ≡ g → Filled (initialItem bytes) (itemCount (caseOf bytes)) items
+    from-start-all all = record { wide = v .globals .wide; filled = λ j h. at j (lt-view j g) }
+      where
+        at : (j : ℕ) → LtView j g → getD items j 0 ≡ initialItem bytes j
+        at j (below h q) = v .globals .filled j h
+        at j (above h q) = v .others j h ∙ sym (initial-of-other bytes j (omega arith))
+
+-- ---- The values where a block starts
+
+value-before-later : (case : Case) (α : Assignment) (i g : ℕ) → i ≢ 0 → α .blockValue (i - 1) g ≡ valueBefore case α i g
+unfolding valueBefore
+value-before-later case α zero g h = absurd (h refl)
+value-before-later case α (suc i) g h = let e : suc i - 1 ≡ i = omega arith in rw e
+
+module _ (bytes xs : List ℕ) (i : ℕ) {items : List ℕ} where
+  pub start-of-first : i ≡ 0 → Filled (initialItem bytes) (itemCount (caseOf bytes)) items → StartOf bytes xs i items
+  unfolding valueBefore
+  start-of-first e v = rw e v
+
+  pub start-of-later : (place count : ℕ) → i ≢ 0 → count ≡ itemCount (caseOf bytes) → place ≡ 2 * records bytes + (i - 1) * count
+      → Filled (numberFrom xs place) count items → StartOf bytes xs i items
+  unfolding assignmentOf
+  start-of-later place count some ec ep v = record {
+    wide = v .wide;
+    filled = λ g h. v .filled g (omega (arith, ec)) ∙ (rw (ep, ec) (value-before-later (caseOf bytes) (assignmentOf (caseOf bytes) xs) i g some));
+  }
+
+pub block-place-at-most : (i count : ℕ) → i ≤ mostSwitches → count ≤ mostItems → (i - 1) * count ≤ (mostSwitches - 1) * mostItems
+block-place-at-most i count h h' = let few : i - 1 ≤ mostSwitches - 1 = omega arith in mul-le-mul few h'

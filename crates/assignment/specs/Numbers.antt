@@ -1,8 +1,13 @@
--- The numbers of an assignment that belong to a record.
+-- The numbers of an assignment that belong to a record, and those that a block starts from.
 -- Assumes nothing.
-use Prim.Native.Nat.{ℕ, _+_, _-_, _*_}
+use mathlib.Core.Path.{_≡_}
+use Prim.Native.Nat.{ℕ, _+_, _-_, _*_, _<_}
 use mathlib.Core.List.{List}
-use lib.ListN.{getD}
+use lib.ListN.{length, getD}
+use Rattle.model.specs.Limits.{mostItems}
+use Rattle.model.specs.CaseFile.{caseOf, itemCount}
+use Rattle.model.specs.Assignment.{assignmentOf}
+use Rattle.model.specs.Copies.{valueBefore}
 
 -- "Record k has variable 2(k − 1), its block number, and 2(k − 1) + 1, its value."
 abbrev pub recordBlock : List ℕ → ℕ → ℕ
@@ -10,3 +15,19 @@ recordBlock xs k = getD xs (2 * (k - 1)) 0
 
 abbrev pub recordValue : List ℕ → ℕ → ℕ
 recordValue xs k = getD xs (2 * (k - 1) + 1) 0
+
+-- An array for the most items, where the first so many have these values.
+pub record Filled (value : ℕ → ℕ) (count : ℕ) (items : List ℕ) : Type 0 where
+  pub wide : length items ≡ mostItems
+  pub filled : (g : ℕ) → g < count → getD items g 0 ≡ value g
+
+-- The values of the items where the run starts, and those at a place of an assignment.
+abbrev pub initialItem : List ℕ → ℕ → ℕ
+initialItem bytes g = getD (caseOf bytes .initial) g 0
+
+abbrev pub numberFrom : List ℕ → ℕ → ℕ → ℕ
+numberFrom xs place g = getD xs (place + g) 0
+
+-- The items' values where block i starts.
+abbrev pub StartOf : List ℕ → List ℕ → ℕ → List ℕ → Type 0
+StartOf bytes xs i items = Filled (valueBefore (caseOf bytes) (assignmentOf (caseOf bytes) xs) i) (itemCount (caseOf bytes)) items

@@ -1,18 +1,15 @@
-// What is read of an assignment: the block number and the value of a record, and the items' values at the end of a block and where
-// a block starts.
+// What is read of an assignment: the block number and the value of a record, and the items' values where a block starts.
 ghost use mathlib.Core.Path.{_≡_};
 ghost use Prim.Native.Nat.{_+_, _-_, _*_, _≤_};
-ghost use lib.ListN.{getD};
-ghost use Rattle.model.specs.Limits.{mostItems};
-ghost use Rattle.model.specs.CaseFile.{caseOf};
-ghost use Rattle.model.specs.Assignment.{assignmentOf};
-ghost use Rattle.model.specs.Copies.{valueBefore};
+ghost use Rattle.model.specs.Limits.{mostSwitches, mostItems, mostVariables};
+ghost use Rattle.model.specs.CaseFile.{caseOf, itemCount};
 ghost use Rattle.laws.specs.Accepted.{Accepted};
-ghost use Rattle.assignment.specs.Numbers.{recordBlock, recordValue};
+ghost use Rattle.assignment.specs.Numbers.{recordBlock, recordValue, Filled, initialItem, numberFrom, StartOf};
 use case_file::globals;
 use case_file::initial_of;
 use case_file::items;
 use case_file::records;
+use model::ITEMS;
 use numbers::at;
 
 // Where the two numbers of record k start.
@@ -39,37 +36,44 @@ pub fn value_of(assignment: &[u16], k: u16) -> u16
     at(assignment, start_of(k) + 1)
 }
 
-// The value of item g at the end of block i.
-pub fn block_value(case: &[u8], assignment: &[u16], i: u16, g: usize) -> u16
+// The items' values where the run starts.
+fn start_of_run(case: &[u8]) -> [u16; ITEMS]
     requires { ⌜ Accepted (now case) ⌝ }
-    requires { ⌜ g ≤ mostItems ⌝ }
-    ensures { λ r. ⌜ r ≡ assignmentOf (caseOf (now (case .entry))) (now (assignment .entry)) .blockValue i g ⌝ }
+    ensures { λ r. ⌜ Filled (initialItem (now (case .entry))) (itemCount (caseOf (now (case .entry)))) r ⌝ }
 {
-    at(
-        assignment,
-        2 * records(case) + (i as usize) * items(case) + g,
-    )
-}
-
-// The value of item g where the run starts.
-fn initial_value(case: &[u8], g: usize) -> u16
-    requires { ⌜ Accepted (now case) ⌝ }
-    ensures { λ r. ⌜ r ≡ getD (caseOf (now (case .entry)) .initial) g 0 ⌝ }
-{
-    if g < globals(case) as usize {
-        return initial_of(case, g);
+    let globals = globals(case) as usize;
+    let mut items = [0u16; ITEMS];
+    let mut g = 0;
+    while g < globals {
+        items[g] = initial_of(case, g);
+        g += 1;
     }
-    0
+    items
 }
 
-// The value of item g where block i starts.
-pub fn value_before(case: &[u8], assignment: &[u16], i: u16, g: usize) -> u16
-    requires { ⌜ Accepted (now case) ⌝ }
-    requires { ⌜ g ≤ mostItems ⌝ }
-    ensures { λ r. ⌜ r ≡ valueBefore (caseOf (now (case .entry))) (assignmentOf (caseOf (now (case .entry))) (now (assignment .entry))) i g ⌝ }
+// So many numbers of an assignment from a place on, as items' values.
+fn items_at(assignment: &[u16], place: usize, count: usize) -> [u16; ITEMS]
+    requires { ⌜ (place ≤ mostVariables) × (count ≤ mostItems) ⌝ }
+    ensures { λ r. ⌜ Filled (numberFrom (now (assignment .entry)) place) count r ⌝ }
+{
+    let mut items = [0u16; ITEMS];
+    let mut g = 0;
+    while g < count {
+        items[g] = at(assignment, place + g);
+        g += 1;
+    }
+    items
+}
+
+// The items' values where block i starts.
+pub fn start_of_block(case: &[u8], assignment: &[u16], i: u16) -> [u16; ITEMS]
+    requires { ⌜ Accepted (now case) × (i ≤ mostSwitches) ⌝ }
+    ensures { λ r. ⌜ StartOf (now (case .entry)) (now (assignment .entry)) i r ⌝ }
 {
     if i == 0 {
-        return initial_value(case, g);
+        return start_of_run(case);
     }
-    block_value(case, assignment, i - 1, g)
+    let count = items(case);
+    let place = 2 * records(case) + (i as usize - 1) * count;
+    items_at(assignment, place, count)
 }

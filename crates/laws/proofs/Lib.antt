@@ -23,6 +23,7 @@ pub mod RowNumbers
 pub mod AllLines
 pub mod LineFound
 pub mod Copies
+pub mod Memory
 pub mod Walk
 pub mod AllHold
 pub mod OrderRows

@@ -1,0 +1,25 @@
+-- The order constraints of a line, of a thread and of all threads of a case.
+-- Assumes nothing.
+use Prim.Native.Nat.{ℕ}
+use mathlib.Core.Bool.{cond}
+use mathlib.Core.List.{List, [], _∷_}
+use lib.Dec.{eqb}
+use Rattle.model.specs.CaseFile.{Line, lineOf, caseOf}
+use Rattle.model.specs.Table.{Row, lineOrderRows, orderRows, allOrderRows}
+use Rattle.laws.specs.Accepted.{threadLines}
+use Rattle.order_check.specs.declared.Link.{Link}
+
+-- Record k as the one line that is seen of its chain on one side; 0 is none.
+abbrev pub neighbour : List ℕ → ℕ → ℕ → List Line
+neighbour bytes t k = cond (eqb k 0) [] (lineOf bytes t k ∷ [])
+
+-- The rows of a line by where it stands in its chain: more of the chain makes no difference.
+abbrev pub linkRows : List ℕ → ℕ → Link → List Row
+linkRows bytes t link =
+    lineOrderRows (caseOf bytes) t (neighbour bytes t (link .before)) (lineOf bytes t (link .line)) (neighbour bytes t (link .next))
+
+abbrev pub threadRows : List ℕ → ℕ → List Row
+threadRows bytes t = orderRows (caseOf bytes) t [] (threadLines bytes t)
+
+abbrev pub allRows : List ℕ → List Row
+allRows bytes = allOrderRows (caseOf bytes) 0 (caseOf bytes .threads)

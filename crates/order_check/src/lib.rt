@@ -1,0 +1,100 @@
+// Constraints 1 to 3: along a thread the block numbers do not fall, are at most n, and are the thread's modulo T.
+ghost use mathlib.Core.Path.{_≡_};
+ghost use mathlib.Core.Bool.{cond};
+ghost use Prim.Native.Nat.{_+_, _<_, _≤_};
+ghost use lib.Dec.{eqb};
+ghost use lib.ListN.{length};
+ghost use Rattle.model.specs.Limits.{headerBytes, mostConstraints};
+ghost use Rattle.model.specs.CaseFile.{threadCount, switchCount};
+ghost use Rattle.laws.specs.Accepted.{Accepted};
+ghost use Rattle.assignment.specs.Numbers.{recordBlock};
+ghost use Rattle.search.specs.Search.{failingIn, Searched};
+ghost use Rattle.order_check.specs.Rows.{linkRows, threadRows, allRows};
+use assignment::block_of;
+use case_file::first_of;
+use case_file::next_of;
+use case_file::switches;
+use case_file::threads;
+use line::ORDER_ROWS;
+use search::Found;
+
+// Where a line stands in its chain: its record, and the records before and after it; 0 where there is none.
+pub struct Link {
+    pub before: u16,
+    pub line: u16,
+    pub next: u16,
+}
+
+// What a line's block number is at most: that of the next line, or n.
+fn most_block(case: &[u8], assignment: &[u16], next: u16) -> u16
+    requires { ⌜ headerBytes ≤ length (now case) ⌝ }
+    ensures { λ r. ⌜ r ≡ cond (eqb next 0) (switchCount (now (case .entry))) (recordBlock (now (assignment .entry)) next) ⌝ }
+{
+    if next == 0 {
+        return switches(case);
+    }
+    block_of(assignment, next)
+}
+
+// The first of a line's order constraints that fails, its 3 having number `at`; 0 if both hold.
+fn line_order(case: &[u8], assignment: &[u16], t: u16, at: u16, link: Link) -> u16
+    requires { ⌜ Accepted (now case) × (at < mostConstraints) ⌝ }
+    ensures { λ r. ⌜ r ≡ failingIn (now (case .entry)) (now (assignment .entry)) at (linkRows (now (case .entry)) t link) ⌝ }
+{
+    let block = block_of(assignment, link.line);
+    if block % threads(case) != t {
+        return at;
+    }
+    if block <= most_block(case, assignment, link.next) {
+        return 0;
+    }
+    at + 1
+}
+
+// The order constraints of thread t, from number `start` on.
+fn thread_order(case: &[u8], assignment: &[u16], t: u16, start: u16) -> Found
+    requires { ⌜ Accepted (now case) × (t < threadCount (now case)) ⌝ }
+    requires { ⌜ (0 < start) × (start + length (threadRows (now case) t) ≤ mostConstraints) ⌝ }
+    ensures { λ r. ⌜ Searched (now (case .entry)) (now (assignment .entry)) start (threadRows (now (case .entry)) t) (r .failed) (r .next) ⌝ }
+{
+    let mut at = start;
+    let mut before: u16 = 0;
+    let mut k = first_of(case, t as usize) as u16;
+    while k != 0 {
+        let next = next_of(case, k as usize) as u16;
+        let link = Link {
+            before,
+            line: k,
+            next,
+        };
+        let failed = line_order(case, assignment, t, at, link);
+        if failed != 0 {
+            return Found { failed, next: at };
+        }
+        at += ORDER_ROWS as u16;
+        before = k;
+        k = next;
+    }
+    Found {
+        failed: 0,
+        next: at,
+    }
+}
+
+// The order constraints of all threads, from number 1 on.
+pub fn order_failing(case: &[u8], assignment: &[u16]) -> Found
+    requires { ⌜ Accepted (now case) ⌝ }
+    ensures { λ r. ⌜ Searched (now (case .entry)) (now (assignment .entry)) 1 (allRows (now (case .entry))) (r .failed) (r .next) ⌝ }
+{
+    let count = threads(case);
+    let mut found = Found { failed: 0, next: 1 };
+    let mut t: u16 = 0;
+    while t < count {
+        found = thread_order(case, assignment, t, found.next);
+        if found.failed != 0 {
+            return found;
+        }
+        t += 1;
+    }
+    found
+}
