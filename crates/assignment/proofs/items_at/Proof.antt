@@ -6,6 +6,7 @@ use Rattle.assignment.proofs.BlockValues.{filled-start, filled-more, fi
 use borrow.Author.Needs.{needs}
 use Rattle.assignment.proofs.items_at.Statement.{statement}
 use Rattle.assignment.proofs.items_at.Tie as tie
+
 abbrev Inv-loop : tie.InvT-loop
 Inv-loop assignment place count items₀ g₀ items g = (g ≤ count) × Filled (numberFrom assignment place) g items
 

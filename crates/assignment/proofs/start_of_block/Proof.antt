@@ -6,6 +6,7 @@ use Rattle.assignment.proofs.BlockValues.{start-of-first, start-of-late
 use borrow.Author.Needs.{needs}
 use Rattle.assignment.proofs.start_of_block.Statement.{statement}
 use Rattle.assignment.proofs.start_of_block.Tie as tie
+
 start-of-run-requires : tie.Need-start-of-run-requires
 start-of-run-requires c κs = search needs
 

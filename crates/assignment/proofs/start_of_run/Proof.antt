@@ -6,6 +6,7 @@ use Rattle.assignment.proofs.BlockValues.{FromStart, from-start-none, f
 use borrow.Author.Needs.{needs}
 use Rattle.assignment.proofs.start_of_run.Statement.{statement}
 use Rattle.assignment.proofs.start_of_run.Tie as tie
+
 abbrev Inv-loop : tie.InvT-loop
 Inv-loop case globals items₀ g₀ items g = (g ≤ globals) × FromStart case g items
 

@@ -3,6 +3,7 @@ use Rattle.order_check.proofs.LineOrder.{thread-fails, order-holds, fol
 use borrow.Author.Needs.{needs}
 use Rattle.order_check.proofs.line_order.Statement.{statement}
 use Rattle.order_check.proofs.line_order.Tie as tie
+
 block-of-requires : tie.Need-block-of-requires
 block-of-requires c κs = search needs
 

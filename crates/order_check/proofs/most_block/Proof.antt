@@ -3,6 +3,7 @@ use borrow.Author.Tests.{eq-eqb, ne-eqb}
 use borrow.Author.Needs.{needs}
 use Rattle.order_check.proofs.most_block.Statement.{statement}
 use Rattle.order_check.proofs.most_block.Tie as tie
+
 switches-requires : tie.Need-switches-requires
 switches-requires c κs = search needs
 

@@ -6,6 +6,7 @@ use Rattle.order_check.proofs.ThreadOrder.{AllOrder, all-start, all-end
 use borrow.Author.Needs.{needs}
 use Rattle.order_check.proofs.order_failing.Statement.{statement}
 use Rattle.order_check.proofs.order_failing.Tie as tie
+
 abbrev Inv-loop : tie.InvT-loop
 Inv-loop case assignment count found₀ t₀ found t = (_≡_ {A = ℕ} (found .failed) 0) × AllOrder case assignment count (found .next) t
 

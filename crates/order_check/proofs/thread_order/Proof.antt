@@ -7,6 +7,7 @@ use Rattle.order_check.proofs.ThreadOrder.{ThreadOrder, thread-start, t
 use borrow.Author.Needs.{needs}
 use Rattle.order_check.proofs.thread_order.Statement.{statement}
 use Rattle.order_check.proofs.thread_order.Tie as tie
+
 abbrev Inv-loop : tie.InvT-loop
 Inv-loop case assignment t start at₀ before₀ k₀ at before k = ThreadOrder case assignment t start at k
 

@@ -14,7 +14,7 @@ use Rattle.model.specs.Copies.{copyOf, readsAfter}
 use Rattle.model.specs.Table.{row, valueRow, demandRows}
 use Rattle.model.specs.Holds.{readsWith, demandMet, holds, firstFailing}
 use Rattle.laws.proofs.RowReads.{copy-reads, value-row-holds, lockReads, lock-guard}
-use Rattle.checker.specs.Walked.{lineFailing}
+use Rattle.value_check.specs.LineFailing.{lineFailing}
 
 module _ (case : Case) (few : localCount + itemCount case ≤ noName) (α : Assignment) (earlier : List Line) (l : Line) (found : lineAt case (l .number) ≡ l) where
   abbrev reads : Reads

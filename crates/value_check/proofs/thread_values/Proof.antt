@@ -1,0 +1,145 @@
+-- `value_check::thread_values` meets its contract. Assumes nothing.
+use native.Mathlib.Omega.{arith}
+use lib.ListN.{length}
+use Rattle.model.specs.CaseFile.{kindOf}
+use Rattle.laws.specs.Accepted.{linesFrom}
+use Rattle.laws.proofs.Following.{next-low, lines-less}
+use Rattle.laws.proofs.Sizes.{value-count-at-most}
+use Rattle.value_check.proofs.ThreadWalk.{ThreadWalk, walk-start, walk-end, walk-notes, walk-room, walk-block, walk-room-after, walk-found, walk-more}
+use borrow.Author.Needs.{needs}
+use Rattle.value_check.proofs.thread_values.Statement.{statement}
+use Rattle.value_check.proofs.thread_values.Tie as tie
+
+abbrev Inv-loop : tie.InvT-loop
+Inv-loop case assignment previous₀ latest₀ t counts locals₀ items₀ block₀ broken₀ at₀ k₀ previous latest locals items block broken at k =
+    ThreadWalk case assignment t at₀ broken₀ latest previous locals items block broken at k
+
+abbrev μ-loop : tie.MeasureT-loop
+μ-loop case assignment previous₀ latest₀ t counts locals₀ items₀ block₀ broken₀ at₀ k₀ previous latest locals items block broken at k =
+    length (linesFrom case t k)
+
+globals-requires : tie.Need-globals-requires Inv-loop μ-loop
+globals-requires c κs = search needs
+
+cast-k : tie.Need-cast-k Inv-loop μ-loop
+cast-k c = search needs
+
+items-requires : tie.Need-items-requires Inv-loop μ-loop
+items-requires c κs = search needs
+
+start-of-block-requires : tie.Need-start-of-block-requires Inv-loop μ-loop
+start-of-block-requires c κs = search needs
+
+first-of-requires : tie.Need-first-of-requires Inv-loop μ-loop
+first-of-requires c κs = search needs
+
+cast-k-2 : tie.Need-cast-k-2 Inv-loop μ-loop
+cast-k-2 c = record { fits = omega (arith, c .first-of .ensures, c .before .before .before .before .before .before .pre .0 .0 .firsts (c .before .before .before .before .before .before .args .t) (c .before .before .before .before .before .before .pre .0 .1), c .before .before .before .before .before .before .pre .0 .0 .few-records) }
+
+loop-holds : tie.Need-loop-holds Inv-loop μ-loop
+loop-holds c =
+    walk-start (c .before .before .before .before .before .before .pre .0 .0) _ _ (c .before .before .before .before .before .before .pre .0 .1) _ _ _ _ _ _ (c .before .before .before .before .before .before .pre .1 .0 .0) (c .first-of .ensures) (c .before .start-of-block .ensures) (c .before .before .before .before .before .before .pre .1 .1 .0) (c .before .before .before .before .before .before .pre .1 .1 .1)
+
+cast-record-at : tie.Need-cast-record-at Inv-loop μ-loop
+cast-record-at c = search needs
+
+record-at-requires : tie.Need-record-at-requires Inv-loop μ-loop
+record-at-requires c κs = search needs
+
+block-of-requires : tie.Need-block-of-requires Inv-loop μ-loop
+block-of-requires c κs = search needs
+
+value-of-requires : tie.Need-value-of-requires Inv-loop μ-loop
+value-of-requires c κs = search needs
+
+items-in-requires : tie.Need-items-in-requires Inv-loop μ-loop
+items-in-requires c κs = (c .before .before .before .before .before .before .before .before .before .before .before .pre .0 .0, walk-block (c .before .before .before .before .before .before .before .before .before .before .before .pre .0 .0) _ _ (c .before .before .before .before .before .before .before .before .before .before .before .pre .0 .1) (c .before .before .before .before .loop .inv) (c .before .before .before .loop-test .taken) _ (c .before .block-of .ensures))
+
+line-failing-requires : tie.Need-line-failing-requires Inv-loop μ-loop
+line-failing-requires c κs = (omega (arith, c .before .before .before .before .before .before .before .before .before .before .before .globals .ensures, c .before .before .before .before .before .before .before .before .before .before .before .before .before .before .pre .0 .0 .few-globals), c .before .before .before .before .before .before .before .before .before .before .items .ensures .1, omega (arith, walk-room (c .before .before .before .before .before .before .before .before .before .before .before .before .before .before .pre .0 .0) _ _ (c .before .before .before .before .before .before .before .before .before .before .before .before .before .before .pre .0 .1) (c .before .before .before .before .before .before .before .loop .inv) (c .before .before .before .before .before .before .loop-test .taken), c .before .before .before .before .before .before .before .before .before .before .before .before .before .before .pre .1 .0 .1))
+
+returns : tie.Need-returns Inv-loop μ-loop
+returns c =
+    (walk-found (c .before .before .before .before .before .before .before .before .before .before .before .before .before .before .before .before .pre .0 .0) _ _ (c .before .before .before .before .before .before .before .before .before .before .before .before .before .before .before .before .pre .0 .1) (c .before .before .before .before .before .before .before .before .before .loop .inv) (c .before .before .before .before .before .before .before .before .loop-test .taken) _ (c .before .before .before .before .before .before .block-of .ensures) _ (c .before .before .before .before .before .before .before .record-at .ensures) _ (c .before .before .before .before .before .value-of .ensures) _ (c .before .before .before .before .items-in .ensures) _ (c .before .before .before .before .before .before .before .before .before .before .before .before .before .globals .ensures) (c .before .before .before .before .before .before .before .before .before .before .before .before .items .ensures .0) _ (c .before .line-failing .ensures) (c .if1 .taken) _, λ z. absurd (c .if1 .taken z))
+
+breaks-requires : tie.Need-breaks-requires Inv-loop μ-loop
+breaks-requires c κs = search needs
+
+noted-requires : tie.Need-noted-requires Inv-loop μ-loop
+noted-requires c κs = search needs
+
+value-rows-requires : tie.Need-value-rows-requires Inv-loop μ-loop
+value-rows-requires c κs = search needs
+
+cast-at : tie.Need-cast-at Inv-loop μ-loop
+cast-at c = record { fits = omega (arith, value-count-at-most (kindOf (c .before .before .before .before .before .before .before .before .before .before .before .before .record-at .result .kind)), c .value-rows .ensures) }
+
+add-at : tie.Need-add-at Inv-loop μ-loop
+add-at c = omega (arith, walk-room-after (c .before .before .before .before .before .before .before .before .before .before .before .before .before .before .before .before .before .before .before .before .before .pre .0 .0) _ _ (c .before .before .before .before .before .before .before .before .before .before .before .before .before .before .before .before .before .before .before .before .before .pre .0 .1) (c .before .before .before .before .before .before .before .before .before .before .before .before .before .before .loop .inv) (c .before .before .before .before .before .before .before .before .before .before .before .before .before .loop-test .taken) _ (c .before .before .before .before .before .before .before .before .before .before .before .block-of .ensures) _ (c .before .before .before .before .before .before .before .before .before .before .before .before .record-at .ensures) _ (c .before .before .before .before .before .before .before .before .before .before .value-of .ensures) _ (c .before .before .before .before .before .before .before .before .before .items-in .ensures) _ (c .before .before .before .before .before .before .before .before .before .before .before .before .before .before .before .before .before .before .globals .ensures) (c .before .before .before .before .before .before .before .before .before .before .before .before .before .before .before .before .before .items .ensures .0) _ (c .value-rows .ensures), c .before .before .before .before .before .before .before .before .before .before .before .before .before .before .before .before .before .before .before .before .before .pre .1 .0 .1)
+
+target-name-requires : tie.Need-target-name-requires Inv-loop μ-loop
+target-name-requires c κs = omega (arith, c .before .before .before .before .before .before .before .before .before .before .before .before .before .before .before .before .before .before .globals .ensures, c .before .before .before .before .before .before .before .before .before .before .before .before .before .before .before .before .before .before .before .before .before .pre .0 .0 .few-globals)
+
+note-copy-requires : tie.Need-note-copy-requires Inv-loop μ-loop
+note-copy-requires c κs = (omega (arith, c .before .before .before .before .before .before .before .before .before .before .before .before .before .before .before .before .before .before .before .before .before .before .before .before .pre .0 .1, c .before .before .before .before .before .before .before .before .before .before .before .before .before .before .before .before .before .before .before .before .before .before .before .before .pre .0 .0 .few-threads), omega (arith, c .before .before .before .before .before .before .before .before .before .before .before .before .before .before .before .before .before .loop .inv .low, c .before .before .before .before .before .before .before .before .before .before .before .before .before .before .before .before .before .before .before .before .before .before .before .before .pre .0 .0 .few-records))
+
+put-local-requires : tie.Need-put-local-requires Inv-loop μ-loop
+put-local-requires c κs = search needs
+
+put-item-requires : tie.Need-put-item-requires Inv-loop μ-loop
+put-item-requires c κs = c .before .before .before .before .before .before .before .before .before .before .before .before .before .before .before .before .before .before .before .before .before .before .before .before .items .ensures .1
+
+cast-next-of : tie.Need-cast-next-of Inv-loop μ-loop
+cast-next-of c = record { fits = omega (arith, c .before .before .before .before .before .before .before .before .before .before .before .before .before .before .before .before .before .before .before .before .before .before .loop .inv .low, c .before .before .before .before .before .before .before .before .before .before .before .before .before .before .before .before .before .before .before .before .before .before .before .before .before .before .before .before .before .pre .0 .0 .few-records) }
+
+next-of-requires : tie.Need-next-of-requires Inv-loop μ-loop
+next-of-requires c κs = (omega (arith, c .before .before .before .before .before .before .before .before .before .before .before .before .before .before .before .before .before .before .before .before .before .loop-test .taken), omega (arith, c .before .before .before .before .before .before .before .before .before .before .before .before .before .before .before .before .before .before .before .before .before .before .loop .inv .low, c .before .before .before .before .before .before .before .before .before .before .before .before .before .before .before .before .before .before .before .before .before .before .before .before .before .before .before .before .before .pre .0 .0 .size))
+
+cast-k-3 : tie.Need-cast-k-3 Inv-loop μ-loop
+cast-k-3 c = record { fits = omega (arith, c .next-of .ensures, next-low _ (c .before .before .before .before .before .before .before .before .before .before .before .before .before .before .before .before .before .before .before .before .before .before .before .before .before .before .before .before .before .before .pre .0 .0) (c .before .before .before .before .before .before .before .before .before .before .before .before .before .before .before .before .before .before .before .before .before .before .before .before .before .before .before .before .before .before .args .t) _ (c .before .before .before .before .before .before .before .before .before .before .before .before .before .before .before .before .before .before .before .before .before .before .loop-test .taken) (c .before .before .before .before .before .before .before .before .before .before .before .before .before .before .before .before .before .before .before .before .before .before .before .loop .inv .low), c .before .before .before .before .before .before .before .before .before .before .before .before .before .before .before .before .before .before .before .before .before .before .before .before .before .before .before .before .before .before .pre .0 .0 .few-records) }
+
+loop-less : tie.Need-loop-less Inv-loop μ-loop
+loop-less c = lines-less _ (c .before .before .before .before .before .before .before .before .before .before .before .before .before .before .before .before .before .before .before .before .before .before .before .before .before .before .before .before .before .before .pre .0 .0) _ _ (c .before .before .before .before .before .before .before .before .before .before .before .before .before .before .before .before .before .before .before .before .before .before .loop-test .taken) (c .before .before .before .before .before .before .before .before .before .before .before .before .before .before .before .before .before .before .before .before .before .before .before .loop .inv .low) _ (c .next-of .ensures)
+
+loop-again : tie.Need-loop-again Inv-loop μ-loop
+loop-again c =
+    walk-more (c .before .before .before .before .before .before .before .before .before .before .before .before .before .before .before .before .before .before .before .before .before .before .before .before .before .before .before .before .before .before .pre .0 .0) _ _ (c .before .before .before .before .before .before .before .before .before .before .before .before .before .before .before .before .before .before .before .before .before .before .before .before .before .before .before .before .before .before .pre .0 .1) (c .before .before .before .before .before .before .before .before .before .before .before .before .before .before .before .before .before .before .before .before .before .before .before .loop .inv) (c .before .before .before .before .before .before .before .before .before .before .before .before .before .before .before .before .before .before .before .before .before .before .loop-test .taken) _ (c .before .before .before .before .before .before .before .before .before .before .before .before .before .before .before .before .before .before .before .before .block-of .ensures) _ (c .before .before .before .before .before .before .before .before .before .before .before .before .before .before .before .before .before .before .before .before .before .record-at .ensures) _ (c .before .before .before .before .before .before .before .before .before .before .before .before .before .before .before .before .before .before .before .value-of .ensures) _ (c .before .before .before .before .before .before .before .before .before .before .before .before .before .before .before .before .before .before .items-in .ensures) _ (c .before .before .before .before .before .before .before .before .before .before .before .before .before .before .before .before .before .before .before .before .before .before .before .before .before .before .before .globals .ensures) (c .before .before .before .before .before .before .before .before .before .before .before .before .before .before .before .before .before .before .before .before .before .before .before .before .before .before .items .ensures .0) _ (c .before .before .before .before .before .before .before .before .before .before .before .before .before .before .before .line-failing .ensures) (c .before .before .before .before .before .before .before .before .before .before .before .before .before .before .if1 .left) _ (c .before .before .before .before .before .before .before .before .before .value-rows .ensures) _ (c .before .before .before .before .before .before .before .before .before .before .before .breaks .ensures) _ (c .before .before .before .before .before .before .before .before .before .before .noted .ensures) _ (c .before .before .before .before .before .before .before .before .target-name .ensures) _ _ (c .before .before .before .before .before .note-copy .ensures .0) (c .before .before .before .before .before .note-copy .ensures .1) _ _ (c .before .before .before .put-local .ensures) (c .before .put-item .ensures) _ (c .next-of .ensures)
+
+returns-2 : tie.Need-returns-2 Inv-loop μ-loop
+returns-2 c = (walk-end (c .before .before .before .before .before .before .before .before .pre .0 .0) _ _ (c .before .before .before .before .before .before .before .before .pre .0 .1) (c .before .loop .inv) (c .loop-test .left), λ _. walk-notes (c .before .before .before .before .before .before .before .before .pre .0 .0) _ _ (c .before .before .before .before .before .before .before .before .pre .0 .1) (c .before .loop .inv) (c .loop-test .left))
+
+pub thread-values-spec : {M : Type 1} → statement M
+thread-values-spec =
+    tie.close
+    (tie.spec
+    Inv-loop
+    μ-loop
+    globals-requires
+    cast-k
+    items-requires
+    start-of-block-requires
+    first-of-requires
+    cast-k-2
+    loop-holds
+    cast-record-at
+    record-at-requires
+    block-of-requires
+    value-of-requires
+    items-in-requires
+    line-failing-requires
+    returns
+    breaks-requires
+    noted-requires
+    value-rows-requires
+    cast-at
+    add-at
+    target-name-requires
+    note-copy-requires
+    put-local-requires
+    put-item-requires
+    cast-next-of
+    next-of-requires
+    cast-k-3
+    loop-less
+    loop-again
+    returns-2)

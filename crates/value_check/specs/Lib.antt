@@ -1,0 +1,4 @@
+pub mod Rows
+pub mod LineFailing
+pub mod Breaking
+pub mod Walked
