@@ -1,15 +1,15 @@
--- `row::deciding_copy` meets its contract. Assumes nothing.
-use borrow.Author.Needs.{needs}
-use Prim.Native.Nat.{_≤_, _<_}
+-- `walk_back::deciding_copy` meets its contract. Assumes nothing.
 use mathlib.Core.Path.{_≡_, refl, sym, _∙_}
-use Rattle.row.proofs.Laws.{deciding-spent, deciding-ends, deciding-found, deciding-goes-on}
-use Rattle.row.specs.Rows.{deciding}
-use Rattle.row.proofs.deciding_copy.Statement.{statement}
-use Rattle.row.proofs.deciding_copy.Tie as tie
+use Prim.Native.Nat.{_≤_, _<_}
+use Rattle.model.specs.Limits.{mostLines}
+use Rattle.walk_back.specs.Deciding.{deciding}
+use Rattle.walk_back.proofs.Deciding.{deciding-spent, deciding-ends, deciding-found, deciding-goes-on}
+use borrow.Author.Needs.{needs}
+use Rattle.walk_back.proofs.deciding_copy.Statement.{statement}
+use Rattle.walk_back.proofs.deciding_copy.Tie as tie
 
 abbrev Inv-chain : tie.InvT-chain
-Inv-chain assignment previous i last p₀ left₀ p left =
-    (p < 65536) × ((left ≤ 64) × (deciding previous assignment i left p ≡ deciding previous assignment i 64 last))
+Inv-chain assignment previous i last p₀ left₀ p left = (p < 65536) × ((left ≤ mostLines) × (deciding previous assignment i left p ≡ deciding previous assignment i mostLines last))
 
 abbrev μ-chain : tie.MeasureT-chain
 μ-chain assignment previous i last p₀ left₀ p left = left
