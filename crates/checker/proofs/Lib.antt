@@ -1,13 +1,2 @@
-pub mod Seeking
-pub mod Counts
-pub mod Orders
-pub mod Demands
-pub mod LineRows
-pub mod Starts
-pub mod Along
-pub mod Copied
-pub mod Going
-pub mod AllGoing
-pub mod Blocks
 pub mod Parts
 pub mod Answering

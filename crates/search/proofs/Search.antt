@@ -78,6 +78,10 @@ module _ {bytes xs : List ℕ} {start : ℕ} {rows : List Row} {at : ℕ} {rest 
       room = omega (arith, v .room, found .after none, ap length e, length-append now later);
     }
 
+  -- all that are left at once
+  pub searching-last : {f next : ℕ} → Searched bytes xs at rest f next → Searched bytes xs start rows f next
+  searching-last found = record { first = found .first ∙ v .left; after = λ none. found .after none ∙ v .room }
+
 -- one constraint, by whether it holds
 module _ (bytes xs : List ℕ) (at : ℕ) (w : Row) (q : Bool) (e : q ≡ holds (caseOf bytes) (assignmentOf (caseOf bytes) xs) w) where
   pub one-holds : q ≡ true → Searched bytes xs at (w ∷ []) 0 (at + 1)
