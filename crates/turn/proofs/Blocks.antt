@@ -10,32 +10,33 @@ use Rattle.model.specs.CaseFile.{Line, records, nextRecord, lineOf, caseOf}
 use Rattle.model.specs.Machine.{Memory, BlockEnd, passed, runBlock}
 use Rattle.laws.specs.Accepted.{Accepted, linesFrom}
 use Rattle.laws.proofs.Chains.{linesFrom-end}
-use Rattle.turn.specs.declared.Event.{Event}
-use Rattle.turn.specs.declared.Event.the-variants.{Ran, Strayed, Stopped}
+use Rattle.turn.specs.declared.Stand.{Stand}
+use Rattle.turn.specs.declared.Stand.the-variants.{Running, Strayed, Stopped}
 use Rattle.turn.specs.declared.Turn.{Turn}
-use Rattle.turn.specs.TurnState.{memoryOf, restOf, givenBy, isRan}
-use Rattle.turn.proofs.Steps.{ran-of}
+use Rattle.turn.specs.TurnState.{memoryOf, restOf, givenBy, isRunning}
 use Rattle.turn.specs.Promises.{endBy, endOf, continued, endAfter, Stepped, BlockRan}
+use Rattle.turn.proofs.Steps.{running-of}
 
 -- After some of the steps of a block of thread t, with so many left.
 pub record Going (bytes givens : List ℕ) (t steps : ℕ) (turn₀ : Turn) (left : ℕ) (turn : Turn) : Type 0 where
   pub does : endAfter bytes givens t left turn ≡ endAfter bytes givens t steps turn₀
-  pub moves : turn .shared .event ≡ Ran → drop left (restOf bytes t turn) ≡ drop steps (restOf bytes t turn₀)
+  pub moves : turn .stand ≡ Running → drop left (restOf bytes t turn) ≡ drop steps (restOf bytes t turn₀)
+  pub within : turn .next ≤ records bytes
 
 -- where the run has ended, nothing follows
-halts : (bytes : List ℕ) (event : Event) (turn : Turn) (next : Memory → ℕ → BlockEnd) → isRan event ≡ false
-    → continued (endBy bytes event turn) next ≡ endBy bytes event turn
-halts bytes Ran turn next e = absurd (let z : _≡_ {A = ℕ} 0 1 = cc in omega arith)
+halts : (bytes : List ℕ) (stand : Stand) (turn : Turn) (next : Memory → ℕ → BlockEnd) → isRunning stand ≡ false
+    → continued (endBy bytes stand turn) next ≡ endBy bytes stand turn
+halts bytes Running turn next e = absurd (let z : _≡_ {A = ℕ} 0 1 = cc in omega arith)
 halts bytes (Strayed k) turn next e = refl
 halts bytes (Stopped k) turn next e = refl
 
-goes : (bytes : List ℕ) (event : Event) (turn : Turn) (next : Memory → ℕ → BlockEnd) → event ≡ Ran
-    → continued (endBy bytes event turn) next ≡ next (memoryOf bytes turn) (turn .shared .note)
-goes bytes event turn next e = ap (λ (x : Event). continued (endBy bytes x turn) next) e
+goes : (bytes : List ℕ) (stand : Stand) (turn : Turn) (next : Memory → ℕ → BlockEnd) → stand ≡ Running
+    → continued (endBy bytes stand turn) next ≡ next (memoryOf bytes turn) (turn .note)
+goes bytes stand turn next e = ap (λ (x : Stand). continued (endBy bytes x turn) next) e
 
-passes : (bytes : List ℕ) (event : Event) (turn : Turn) (next : Memory → ℕ → BlockEnd)
-    → ((m : Memory) (note : ℕ) → next m note ≡ passed m note) → continued (endBy bytes event turn) next ≡ endBy bytes event turn
-passes bytes Ran turn next e = e (memoryOf bytes turn) (turn .shared .note)
+passes : (bytes : List ℕ) (stand : Stand) (turn : Turn) (next : Memory → ℕ → BlockEnd)
+    → ((m : Memory) (note : ℕ) → next m note ≡ passed m note) → continued (endBy bytes stand turn) next ≡ endBy bytes stand turn
+passes bytes Running turn next e = e (memoryOf bytes turn) (turn .note)
 passes bytes (Strayed k) turn next e = refl
 passes bytes (Stopped k) turn next e = refl
 
@@ -60,70 +61,58 @@ drop-none zero ls h = refl
 drop-none (suc n) ls h = absurd (omega arith)
 
 module _ (bytes givens : List ℕ) (t steps : ℕ) (turn₀ : Turn) where
-  pub going-start : Going bytes givens t steps turn₀ steps turn₀
-  going-start = record { does = refl; moves = λ ran. refl }
+  pub going-start : turn₀ .next ≤ records bytes → Going bytes givens t steps turn₀ steps turn₀
+  going-start low = record { does = refl; moves = λ ran. refl; within = low }
 
-  module _ (left : ℕ) (turn : Turn) (g : Going bytes givens t steps turn₀ left turn) (low : turn .thread .next ≤ records bytes) where
+  module _ (left : ℕ) (turn : Turn) (g : Going bytes givens t steps turn₀ left turn) where
+    abbrev next : ℕ → List Line → Memory → ℕ → BlockEnd
+    next = runBlock (caseOf bytes) (givenBy givens)
+
     pub block-ends : left ≤ 0 → BlockRan bytes givens t steps turn₀ turn
-    block-ends none = record {
-      does = sym (g .does)
-          ∙ passes bytes (turn .shared .event) turn (runBlock (caseOf bytes) (givenBy givens) left (restOf bytes t turn))
-          (no-steps bytes givens left (restOf bytes t turn) none);
-      moves = λ ran. sym (drop-none left (restOf bytes t turn) none) ∙ g .moves ran;
-      within = low;
-    }
-
-    pub thread-ends : turn .thread .next ≡ 0 → BlockRan bytes givens t steps turn₀ turn
-    thread-ends ended =
-        let rest : restOf bytes t turn ≡ [] = ap (linesFrom bytes t) ended ∙ linesFrom-end bytes t in
+    block-ends none =
+        let rest = restOf bytes t turn in
         record {
-          does = sym (g .does)
-              ∙ passes bytes (turn .shared .event) turn (runBlock (caseOf bytes) (givenBy givens) left (restOf bytes t turn))
-              (nothing-left bytes givens left (restOf bytes t turn) rest);
-          moves = λ ran. rest ∙ sym (drop-nothing left) ∙ ap (drop left) (sym rest) ∙ g .moves ran;
-          within = low;
+          does = sym (g .does) ∙ passes bytes (turn .stand) turn (next left rest) (no-steps bytes givens left rest none);
+          moves = λ ran. sym (drop-none left rest none) ∙ g .moves ran;
+          within = g .within;
         }
 
-    pub run-ended : isRan (turn .shared .event) ≡ false → BlockRan bytes givens t steps turn₀ turn
-    run-ended ended = record {
-      does = sym (g .does) ∙ halts bytes (turn .shared .event) turn (runBlock (caseOf bytes) (givenBy givens) left (restOf bytes t turn)) ended;
-      moves = λ ran. absurd (let z : _≡_ {A = ℕ} 0 1 = not-ran ran in omega arith);
-      within = low;
-    }
-      where
-        not-ran : turn .shared .event ≡ Ran → _≡_ {A = ℕ} 0 1
-        not-ran ran = let e : isRan Ran ≡ false = rw ran at ended in cc
+    pub thread-ends : turn .next ≡ 0 → BlockRan bytes givens t steps turn₀ turn
+    thread-ends ended =
+        let rest = restOf bytes t turn in
+        let none : rest ≡ [] = ap (linesFrom bytes t) ended ∙ linesFrom-end bytes t in
+        record {
+          does = sym (g .does) ∙ passes bytes (turn .stand) turn (next left rest) (nothing-left bytes givens left rest none);
+          moves = λ ran. none ∙ sym (drop-nothing left) ∙ ap (drop left) (sym none) ∙ g .moves ran;
+          within = g .within;
+        }
 
-    pub going-on : (after : Turn) → Accepted bytes → isRan (turn .shared .event) ≡ true → 0 < left → 0 < turn .thread .next
+    pub run-ended : isRunning (turn .stand) ≡ false → BlockRan bytes givens t steps turn₀ turn
+    run-ended ended = record {
+      does = sym (g .does) ∙ halts bytes (turn .stand) turn (next left (restOf bytes t turn)) ended;
+      moves = λ ran. absurd (let e : isRunning Running ≡ false = rw ran at ended in let z : _≡_ {A = ℕ} 0 1 = cc in omega arith);
+      within = g .within;
+    }
+
+    pub going-on : (after : Turn) → Accepted bytes → isRunning (turn .stand) ≡ true → 0 < left → (turn .next ≡ 0 → ⊥)
         → Stepped bytes givens t turn after → Going bytes givens t steps turn₀ (left - 1) after
     going-on after ok runs some more s =
         let n = left - 1 in
         let e : left ≡ suc n = omega arith in
-        let k = turn .thread .next in
+        let k = turn .next in
+        let positive : 0 < k = omega arith in
         let later = linesFrom bytes t (nextRecord bytes k) in
-        let rest-is : restOf bytes t turn ≡ lineOf bytes t k ∷ later = ok .lines-go-on t k more low in
-        let ran : turn .shared .event ≡ Ran = ran-of (turn .shared .event) runs in
-        let next = runBlock (caseOf bytes) (givenBy givens) in
+        let rest-is : restOf bytes t turn ≡ lineOf bytes t k ∷ later = ok .lines-go-on t k positive (g .within) in
+        let ran : turn .stand ≡ Running = running-of (turn .stand) runs in
         record {
-          does = after-step after n later (s .moves)
+          does = ap (λ (x : ℕ). continued (endOf bytes after) (next n (linesFrom bytes t x))) (s .moves)
               ∙ sym (s .does n later)
-              ∙ ap (λ (x : List Line). next (suc n) x (memoryOf bytes turn) (turn .shared .note)) (sym rest-is)
-              ∙ ap (λ (x : ℕ). next x (restOf bytes t turn) (memoryOf bytes turn) (turn .shared .note)) (sym e)
-              ∙ sym (goes bytes (turn .shared .event) turn (next left (restOf bytes t turn)) ran)
+              ∙ ap (λ (x : List Line). next (suc n) x (memoryOf bytes turn) (turn .note)) (sym rest-is)
+              ∙ ap (λ (x : ℕ). next x (restOf bytes t turn) (memoryOf bytes turn) (turn .note)) (sym e)
+              ∙ sym (goes bytes (turn .stand) turn (next left (restOf bytes t turn)) ran)
               ∙ g .does;
-          moves = λ ran'.
-              ap (λ (x : ℕ). drop n (linesFrom bytes t x)) (s .moves ran') ∙ ap (drop (suc n)) (sym rest-is)
+          moves = λ _.
+              ap (λ (x : ℕ). drop n (linesFrom bytes t x)) (s .moves) ∙ ap (drop (suc n)) (sym rest-is)
               ∙ ap (λ (x : ℕ). drop x (restOf bytes t turn)) (sym e) ∙ g .moves ran;
+          within = omega (arith, s .moves, ok .nexts k positive (g .within));
         }
-      where
-        after-step : (after : Turn) (n : ℕ) (later : List Line) → (after .shared .event ≡ Ran → after .thread .next ≡ nextRecord bytes (turn .thread .next))
-            → endAfter bytes givens t n after
-            ≡ continued (endOf bytes after) (runBlock (caseOf bytes) (givenBy givens) n (linesFrom bytes t (nextRecord bytes (turn .thread .next))))
-        after-step after n later moves = go (after .shared .event) moves
-          where
-            go : (event : Event) → (event ≡ Ran → after .thread .next ≡ nextRecord bytes (turn .thread .next))
-                → continued (endBy bytes event after) (runBlock (caseOf bytes) (givenBy givens) n (restOf bytes t after))
-                ≡ continued (endBy bytes event after) (runBlock (caseOf bytes) (givenBy givens) n (linesFrom bytes t (nextRecord bytes (turn .thread .next))))
-            go Ran moves' = ap (λ (x : ℕ). runBlock (caseOf bytes) (givenBy givens) n (linesFrom bytes t x) (memoryOf bytes after) (after .shared .note)) (moves' refl)
-            go (Strayed k) moves' = refl
-            go (Stopped k) moves' = refl

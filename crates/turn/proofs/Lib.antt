@@ -1,4 +1,3 @@
-pub mod Memories
+pub mod Effects
 pub mod Steps
-pub mod LineKinds
 pub mod Blocks

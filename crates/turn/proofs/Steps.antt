@@ -1,117 +1,101 @@
--- A line that the code has run is a step of the machine.
+-- A line whose effect the code has carried out is a step of the machine.
 -- Assumes nothing.
 use mathlib.Core.Path.{_≡_, refl, sym, ap, ap₂, _∙_}
-use Prim.Native.Nat.{ℕ, suc, _≤_}
-use mathlib.Core.Bool.{Bool, true, false}
+use Prim.Native.Nat.{ℕ}
+use mathlib.Core.Bool.{true, false, cond}
 use mathlib.Core.List.{List, _∷_}
 use native.Mathlib.Omega.{arith}
-use lib.ListN.{getD, take}
-use Rattle.model.specs.CaseFile.{Line, kindOf, records, globalCount, nextRecord, lineOf, caseOf, itemCount}
-use Rattle.model.specs.Line.{Reads, guardTrue, valueOf, targetName, stops, breaks, strayInput}
-use Rattle.model.specs.Machine.{Memory, putLocal, putItem, noted, BlockEnd, runBlock}
+use lib.Dec.{eqb}
+use lib.ListN.{take}
+use Rattle.model.specs.CaseFile.{Line, globalCount, nextRecord, lineOf, caseOf, itemCount}
+use Rattle.model.specs.Line.{Reads, targetName, stops, strayInput}
+use Rattle.model.specs.Machine.{Memory, putLocal, putItem, readsIn, stepped, notedAt, runBlock}
 use Rattle.case_file.specs.declared.Record.{Record}
 use Rattle.case_file.specs.Records.{recordOf, asLine}
-use Rattle.turn.specs.declared.Event.{Event}
-use Rattle.turn.specs.declared.Event.the-variants.{Ran, Strayed, Stopped}
+use Rattle.line.specs.LineReads.{readsAt}
+use Rattle.turn.specs.declared.Effect.{Effect}
+use Rattle.turn.specs.declared.Stand.{Stand}
+use Rattle.turn.specs.declared.Stand.the-variants.{Running, Strayed, Stopped}
 use Rattle.turn.specs.declared.Turn.{Turn}
-use Rattle.line.specs.LineReads.{memory, readsAt}
-use Rattle.turn.specs.TurnState.{memoryOf, givenBy, isRan}
-use Rattle.turn.specs.Promises.{endIn, continued, leftBy, lineEnd, LineRan, Stepped}
+use Rattle.turn.specs.TurnState.{itemsOf, memoryOf, givenBy, effectOf, isRunning}
+use Rattle.turn.specs.Promises.{endBy, continued, Stepped}
 
-pub ran-of : (event : Event) → isRan event ≡ true → event ≡ Ran
-ran-of Ran e = refl
-ran-of (Strayed k) e = absurd (let z : _≡_ {A = ℕ} 0 1 = cc in omega arith)
-ran-of (Stopped k) e = absurd (let z : _≡_ {A = ℕ} 0 1 = cc in omega arith)
+pub running-of : (stand : Stand) → isRunning stand ≡ true → stand ≡ Running
+running-of Running e = refl
+running-of (Strayed k) e = absurd (let z : _≡_ {A = ℕ} 0 1 = cc in omega arith)
+running-of (Stopped k) e = absurd (let z : _≡_ {A = ℕ} 0 1 = cc in omega arith)
 
--- The turn with another event.
-abbrev pub halted : Turn → Event → Turn
-halted turn event = record {
-  thread = turn .thread;
-  shared = record { event = event; items = turn .shared .items; note = turn .shared .note };
-}
-
--- The turn with another next record, locals, items and note.
-abbrev pub movedTo : Turn → ℕ → List ℕ → List ℕ → ℕ → Turn
-movedTo turn next locals items note = record {
-  thread = record { next = next; locals = locals };
-  shared = record { event = turn .shared .event; items = items; note = note };
-}
-
-module _ (G count given : ℕ) (l : Record) (t : ℕ) (turn : Turn) where
-  abbrev k : ℕ
-  k = turn .thread .next
-
-  abbrev line : Line
-  line = asLine l t k
-
-  abbrev reads : Reads
-  reads = readsAt G count given (turn .thread .locals) (turn .shared .items) line
-
-  pub line-strays : strayInput (kindOf (l .kind)) line reads ≡ true → LineRan G count given l t turn (halted turn (Strayed k))
-  line-strays stray = record {
-    does = λ next. rw stray;
-    moves = λ ran. absurd (let z : _≡_ {A = ℕ} 0 1 = cc in omega arith);
-    within = λ most h h'. h;
-  }
-
-  pub line-stops : strayInput (kindOf (l .kind)) line reads ≡ false → stops (kindOf (l .kind)) line reads ≡ true
-      → LineRan G count given l t turn (halted turn (Stopped k))
-  line-stops stray stop = record {
-    does = λ next. rw (stray, stop);
-    moves = λ ran. absurd (let z : _≡_ {A = ℕ} 0 1 = cc in omega arith);
-    within = λ most h h'. h;
-  }
-
-  module _ (runs : isRan (turn .shared .event) ≡ true) (on : Bool) (value note : ℕ) (locals items : List ℕ)
-      (is-on : guardTrue line reads ≡ on) (is-value : valueOf line reads ≡ value)
-      (is-note : note ≡ noted (turn .shared .note) line (breaks (kindOf (l .kind)) line reads value))
-      (are-locals : locals ≡ putLocal on (targetName G line) value (turn .thread .locals))
-      (are-items : take count items ≡ putItem on (targetName G line) value (take count (turn .shared .items)))
-    where
-      memory-left : leftBy G line reads (memory (turn .thread .locals) (turn .shared .items) count) ≡ memory locals items count
-      memory-left = rw (is-on, is-value) (λ i. record { locals = sym are-locals i; items = sym are-items i })
-
-      note-left : noted (turn .shared .note) line (breaks (kindOf (l .kind)) line reads (valueOf line reads)) ≡ note
-      note-left = rw is-value (sym is-note)
-
-      pub line-runs : strayInput (kindOf (l .kind)) line reads ≡ false → stops (kindOf (l .kind)) line reads ≡ false
-          → LineRan G count given l t turn (movedTo turn (l .next) locals items note)
-      line-runs stray stop = record {
-        does = λ next. rw (stray, stop) (ap₂ next memory-left note-left
-            ∙ sym (ap (λ (x : Event). continued (endIn count x (movedTo turn (l .next) locals items note)) next) (ran-of (turn .shared .event) runs)));
-        moves = λ ran. refl;
-        within = λ most h h'. h';
-      }
-
--- How record l ends as the turn's next line of thread t.
-abbrev endAt : ℕ → Turn → ℕ → ℕ → ℕ → Record → (Memory → ℕ → BlockEnd) → BlockEnd
-endAt t turn G count given l next =
-    lineEnd G (asLine l t (turn .thread .next)) (readsAt G count given (turn .thread .locals) (turn .shared .items) (asLine l t (turn .thread .next)))
-    (memory (turn .thread .locals) (turn .shared .items) count) (turn .shared .note) next
-
--- A line of the case that has run is a step.
-pub stepped : (bytes givens : List ℕ) (t : ℕ) (turn after : Turn) (l : Record) (G count given : ℕ)
-    → l ≡ recordOf bytes (turn .thread .next) → G ≡ globalCount bytes → count ≡ itemCount (caseOf bytes)
-    → given ≡ getD givens (turn .thread .next) 0
-    → turn .thread .next ≤ records bytes → nextRecord bytes (turn .thread .next) ≤ records bytes
-    → LineRan G count given l t turn after → Stepped bytes givens t turn after
-unfolding runBlock
-stepped bytes givens t turn after l G count given is-record globals items value low h ran =
-    let next-is : l .next ≡ nextRecord bytes (turn .thread .next) = ap (λ (x : Record). x .next) is-record in
-    record {
-      does = λ steps ls. same steps ls;
-      moves = λ r. ran .moves r ∙ next-is;
-      within = ran .within (records bytes) low (omega arith);
-    }
+-- A turn's next line is line l of a case with G globals and so many items.
+module _ (bytes givens : List ℕ) (t : ℕ) (turn : Turn) (G count : ℕ) (l : Record) (is-l : l ≡ recordOf bytes t (turn .next))
+    (globals : G ≡ globalCount bytes) (items : count ≡ itemCount (caseOf bytes))
   where
-    same : (steps : ℕ) (ls : List Line)
-        → runBlock (caseOf bytes) (givenBy givens) (suc steps) (lineOf bytes t (turn .thread .next) ∷ ls) (memoryOf bytes turn) (turn .shared .note)
-        ≡ continued (endIn (itemCount (caseOf bytes)) (after .shared .event) after) (runBlock (caseOf bytes) (givenBy givens) steps ls)
-    same steps ls =
-        let next = runBlock (caseOf bytes) (givenBy givens) steps ls in
-        ap (λ (x : Record). endAt t turn (globalCount bytes) (itemCount (caseOf bytes)) (getD givens (turn .thread .next) 0) x next) (sym is-record)
-        ∙ ap (λ (x : ℕ). endAt t turn x (itemCount (caseOf bytes)) (getD givens (turn .thread .next) 0) l next) (sym globals)
-        ∙ ap (λ (x : ℕ). endAt t turn G (itemCount (caseOf bytes)) x l next) (sym value)
-        ∙ ap (λ (x : ℕ). endAt t turn G x given l next) (sym items)
-        ∙ ran .does next
-        ∙ ap (λ (x : ℕ). continued (endIn x (after .shared .event) after) next) items
+    abbrev line : Line
+    line = lineOf bytes t (turn .next)
+
+    abbrev reads : Reads
+    reads = readsIn (caseOf bytes) (givenBy givens) line (memoryOf bytes turn)
+
+    abbrev effectAt : ℕ → ℕ → Record → Effect
+    effectAt G' count' l' =
+        effectOf (asLine l' (turn .next)) (readsAt G' count' (givenBy givens (turn .next)) (turn .locals) (turn .items) (asLine l' (turn .next)))
+
+    module _ (e : Effect) (is-e : e ≡ effectAt G count l) (next : ℕ) (moved : next ≡ nextRecord bytes (turn .next)) where
+      effect-is : e ≡ effectOf line reads
+      effect-is =
+          is-e ∙ ap (effectAt G count) is-l ∙ ap (λ (x : ℕ). effectAt x count (recordOf bytes t (turn .next))) globals
+          ∙ ap (λ (x : ℕ). effectAt (globalCount bytes) x (recordOf bytes t (turn .next))) items
+
+      pub step-strays : e .strays ≡ true
+          → Stepped bytes givens t turn (record { next = next; locals = turn .locals; items = turn .items; stand = Strayed (turn .next); note = turn .note })
+      unfolding runBlock
+      step-strays h =
+          let s : strayInput (line .kind) line reads ≡ true = sym (ap (λ (x : Effect). x .strays) effect-is) ∙ h in
+          record { does = λ steps ls. rw s; moves = moved }
+
+      module _ (not-stray : e .strays ≡ false) where
+        passes : strayInput (line .kind) line reads ≡ false
+        passes = sym (ap (λ (x : Effect). x .strays) effect-is) ∙ not-stray
+
+        pub step-stops : e .stops ≡ true
+            → Stepped bytes givens t turn (record { next = next; locals = turn .locals; items = turn .items; stand = Stopped (turn .next); note = turn .note })
+        unfolding runBlock
+        step-stops h =
+            let s : stops (line .kind) line reads ≡ true = sym (ap (λ (x : Effect). x .stops) effect-is) ∙ h in
+            record { does = λ steps ls. rw (passes, s); moves = moved }
+
+        module _ (not-stop : e .stops ≡ false) (runs : isRunning (turn .stand) ≡ true) (note : ℕ)
+            (is-note : note ≡ cond (eqb (turn .note) 0) (cond (e .breaks) (turn .next) 0) (turn .note))
+          where
+            goes : stops (line .kind) line reads ≡ false
+            goes = sym (ap (λ (x : Effect). x .stops) effect-is) ∙ not-stop
+
+            -- a line that goes on, by what it leaves
+            leaves : (locals' items' : List ℕ) → locals' ≡ putLocal (e .writes) (targetName (globalCount bytes) line) (e .value) (turn .locals)
+                → itemsOf bytes items' ≡ putItem (e .writes) (targetName (globalCount bytes) line) (e .value) (itemsOf bytes (turn .items))
+                → Stepped bytes givens t turn (record { next = next; locals = locals'; items = items'; stand = turn .stand; note = note })
+            unfolding runBlock
+            leaves locals' items' are-locals are-items =
+                let after : Turn = record { next = next; locals = locals'; items = items'; stand = turn .stand; note = note } in
+                let left : stepped (caseOf bytes) (givenBy givens) line (memoryOf bytes turn) ≡ memoryOf bytes after =
+                sym (λ i. record { locals = (rw effect-is at are-locals) i; items = (rw effect-is at are-items) i }) in
+                let noted : notedAt (caseOf bytes) (givenBy givens) (turn .note) line (memoryOf bytes turn) ≡ note = sym (rw effect-is at is-note) in
+                record {
+                  does = λ steps ls. rw (passes, goes)
+                      (ap₂ (runBlock (caseOf bytes) (givenBy givens) steps ls) left noted
+                      ∙ sym (ap (λ (x : Stand). continued (endBy bytes x after) (runBlock (caseOf bytes) (givenBy givens) steps ls)) (running-of (turn .stand) runs)));
+                  moves = moved;
+                }
+
+            pub step-out : e .writes ≡ false
+                → Stepped bytes givens t turn (record { next = next; locals = turn .locals; items = turn .items; stand = turn .stand; note = note })
+            unfolding putLocal putItem
+            step-out off = leaves (turn .locals) (turn .items) (rw off) (rw off)
+
+            pub step-in : e .writes ≡ true → (name : ℕ) (locals' items' : List ℕ) → ((k : ℕ) → name ≡ targetName G (asLine l k))
+                → locals' ≡ putLocal true name (e .value) (turn .locals)
+                → take count items' ≡ putItem true name (e .value) (take count (turn .items))
+                → Stepped bytes givens t turn (record { next = next; locals = locals'; items = items'; stand = turn .stand; note = note })
+            step-in on name locals' items' is-name are-locals are-items =
+                let is : name ≡ targetName (globalCount bytes) line =
+                is-name (turn .next) ∙ ap₂ (λ (x : ℕ) (y : Record). targetName x (asLine y (turn .next))) globals is-l in
+                leaves locals' items' (rw (on, ← is) are-locals) (rw (on, ← is, ← items) are-items)

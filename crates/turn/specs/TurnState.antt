@@ -5,36 +5,40 @@ use mathlib.Core.Bool.{Bool, true, false}
 use mathlib.Core.List.{List}
 use lib.ListN.{getD, take}
 use Rattle.model.specs.CaseFile.{Line, caseOf, itemCount}
+use Rattle.model.specs.Line.{Reads, guardTrue, valueOf, stops, breaks, strayInput}
 use Rattle.model.specs.Machine.{Memory}
 use Rattle.laws.specs.Accepted.{linesFrom}
-use Rattle.turn.specs.declared.Event.{Event}
-use Rattle.turn.specs.declared.Event.the-variants.{Ran, Strayed, Stopped}
-use Rattle.turn.specs.declared.Course.{Course}
+use Rattle.turn.specs.declared.Effect.{Effect}
+use Rattle.turn.specs.declared.Stand.{Stand}
+use Rattle.turn.specs.declared.Stand.the-variants.{Running, Strayed, Stopped}
 use Rattle.turn.specs.declared.Turn.{Turn}
-
--- A turn: what goes from step to step, and the locals and items that are lent to the steps.
-abbrev pub turnOf : Course → List ℕ → List ℕ → Turn
-turnOf course locals items = record {
-  thread = record { next = course .next; locals = locals };
-  shared = record { event = course .event; items = items; note = course .note };
-}
 
 abbrev pub itemsOf : List ℕ → List ℕ → List ℕ
 itemsOf bytes items = take (itemCount (caseOf bytes)) items
 
 abbrev pub memoryOf : List ℕ → Turn → Memory
-memoryOf bytes turn = record { locals = turn .thread .locals; items = itemsOf bytes (turn .shared .items) }
+memoryOf bytes turn = record { locals = turn .locals; items = itemsOf bytes (turn .items) }
 
 -- The lines that are left, as lines of thread t.
 abbrev pub restOf : List ℕ → ℕ → Turn → List Line
-restOf bytes t turn = linesFrom bytes t (turn .thread .next)
+restOf bytes t turn = linesFrom bytes t (turn .next)
 
 -- The values given, by record number.
 abbrev pub givenBy : List ℕ → ℕ → ℕ
 givenBy givens k = getD givens k 0
 
+-- What a line with these reads does.
+abbrev pub effectOf : Line → Reads → Effect
+effectOf l reads = record {
+  strays = strayInput (l .kind) l reads;
+  stops = stops (l .kind) l reads;
+  breaks = breaks (l .kind) l reads (valueOf l reads);
+  writes = guardTrue l reads;
+  value = valueOf l reads;
+}
+
 -- Whether the run goes on.
-abbrev pub isRan : Event → Bool
-isRan Ran = true
-isRan (Strayed k) = false
-isRan (Stopped k) = false
+abbrev pub isRunning : Stand → Bool
+isRunning Running = true
+isRunning (Strayed k) = false
+isRunning (Stopped k) = false
