@@ -1,38 +1,48 @@
 -- What a run has come to, and the reply that says it.
 -- Assumes nothing.
-use mathlib.Core.Path.{_≡_, refl, ap, _∙_}
+use mathlib.Core.Path.{_≡_, refl, ap, _∙_, subst}
 use Prim.Native.Nat.{ℕ}
 use mathlib.Core.List.{List}
 use borrow.Author.Tests.{eq-eqb, ne-eqb}
-use Rattle.model.specs.Machine.{refused14, cutOff, violated, clean, ending}
+use Rattle.model.specs.Machine.{State, Outcome, refused14, cutOff, violated, clean, ending}
 use Rattle.model.specs.declared.Replayed.the-variants.{Violated, Clean, CutOff, Refused}
-use Rattle.turn.specs.declared.Event.{Event}
-use Rattle.turn.specs.declared.Event.the-variants.{Ran, Strayed, Stopped}
-use Rattle.turn.specs.declared.Shared.{Shared}
+use Rattle.turn.specs.declared.Stand.{Stand}
+use Rattle.turn.specs.declared.Stand.the-variants.{Running, Strayed, Stopped}
 use Rattle.turn.specs.TurnState.{itemsOf}
+use Rattle.run.specs.declared.Thread.{Thread}
+use Rattle.run.specs.declared.Shared.{Shared}
 use Rattle.run.specs.declared.Ended.{Ended}
-use Rattle.run.specs.Promises.{resumed, outcomeOf, Replies}
+use Rattle.run.specs.RunState.{stateOf}
+use Rattle.run.specs.Promises.{resumed, outcomeOf, Played, Replies, Comes}
 
-module _ (bytes : List ℕ) (shared : Shared) (e : Ended) where
-  abbrev items : List ℕ
-  items = itemsOf bytes (shared .items)
+module _ (bytes : List ℕ) (threads : List Thread) (shared : Shared) where
+  abbrev state : State
+  state = stateOf bytes threads (shared .items)
 
-  resumes : (event : Event) → shared .event ≡ event → outcomeOf bytes shared ≡ resumed event items (ending (shared .note) items)
-  resumes event is = ap (λ (x : Event). resumed x items (ending (shared .note) items)) is
+  abbrev Ends : Ended → Type 0
+  Ends e = Replies bytes (outcomeOf bytes threads shared) e
 
-  pub ends-stray : (k : ℕ) → shared .event ≡ Strayed k → e ≡ record { reply = Refused 14 k; items = shared .items } → Replies bytes (outcomeOf bytes shared) e
-  ends-stray k event is = let o : outcomeOf bytes shared ≡ refused14 k = resumes (Strayed k) event in rw (is, o) (record { reply = refl; items = λ slice. refl })
+  resumes : (stand : Stand) → shared .stand ≡ stand → outcomeOf bytes threads shared ≡ resumed stand (itemsOf bytes (shared .items)) (ending (shared .note) state)
+  resumes stand is = ap (λ (x : Stand). resumed x (itemsOf bytes (shared .items)) (ending (shared .note) state)) is
 
-  pub ends-cut : (k : ℕ) → shared .event ≡ Stopped k → e ≡ record { reply = CutOff k; items = shared .items } → Replies bytes (outcomeOf bytes shared) e
-  ends-cut k event is = let o : outcomeOf bytes shared ≡ cutOff k items = resumes (Stopped k) event in rw (is, o) (record { reply = refl; items = λ slice. refl })
+  pub ends-stray : (k : ℕ) → shared .stand ≡ Strayed k → Ends (record { reply = Refused 14 k; threads = threads; items = shared .items })
+  ends-stray k is = let o : outcomeOf bytes threads shared ≡ refused14 k = resumes (Strayed k) is in rw o (record { reply = refl; left = tt })
 
-  pub ends-clean : shared .event ≡ Ran → shared .note ≡ 0 → e ≡ record { reply = Clean; items = shared .items } → Replies bytes (outcomeOf bytes shared) e
-  ends-clean event zero is =
-      let o : outcomeOf bytes shared ≡ clean items = resumes Ran event ∙ rw (eq-eqb (shared .note) 0 zero) in
-      rw (is, o) (record { reply = refl; items = λ slice. refl })
+  pub ends-cut : (k : ℕ) → shared .stand ≡ Stopped k → Ends (record { reply = CutOff k; threads = threads; items = shared .items })
+  ends-cut k is =
+      let o : outcomeOf bytes threads shared ≡ cutOff k (itemsOf bytes (shared .items)) = resumes (Stopped k) is in
+      rw o (record { reply = refl; left = refl })
 
-  pub ends-violated : shared .event ≡ Ran → (shared .note ≡ 0 → ⊥) → e ≡ record { reply = Violated (shared .note); items = shared .items }
-      → Replies bytes (outcomeOf bytes shared) e
-  ends-violated event some is =
-      let o : outcomeOf bytes shared ≡ violated (shared .note) items = resumes Ran event ∙ rw (ne-eqb (shared .note) 0 some) in
-      rw (is, o) (record { reply = refl; items = λ slice. refl })
+  pub ends-clean : shared .stand ≡ Running → shared .note ≡ 0 → Ends (record { reply = Clean; threads = threads; items = shared .items })
+  ends-clean is zero =
+      let o : outcomeOf bytes threads shared ≡ clean state = resumes Running is ∙ rw (eq-eqb (shared .note) 0 zero) in
+      rw o (record { reply = refl; left = refl })
+
+  pub ends-violated : shared .stand ≡ Running → (shared .note ≡ 0 → ⊥) → Ends (record { reply = Violated (shared .note); threads = threads; items = shared .items })
+  ends-violated is some =
+      let o : outcomeOf bytes threads shared ≡ violated (shared .note) state = resumes Running is ∙ rw (ne-eqb (shared .note) 0 some) in
+      rw o (record { reply = refl; left = refl })
+
+pub comes : (bytes givens lengths : List ℕ) (threads : List Thread) (shared : Shared) (after : List Thread) (last : Shared) (e : Ended)
+    → Played bytes givens lengths threads shared after last → ((bs : List ℕ) → Replies bs (outcomeOf bs after last) e) → Comes bytes givens lengths threads shared e
+comes bytes givens lengths threads shared after last e played ended = subst (λ (x : Outcome). Replies bytes x e) (played .comes) (ended bytes)

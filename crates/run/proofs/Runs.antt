@@ -1,25 +1,27 @@
 -- The loop of all blocks: after some of them, the blocks that are left decide.
 -- Assumes nothing.
-use mathlib.Core.Path.{_≡_, refl, sym, ap, ap₂, _∙_}
+use mathlib.Core.Path.{_≡_, refl, sym, ap, ap₂, _∙_, subst}
 use Prim.Native.Nat.{ℕ, zero, suc, _+_, _%_, _≤_, _<_}
 use mathlib.Core.List.{List, [], _∷_}
 use native.Mathlib.Omega.{arith}
 use native.Mathlib.Nat.{mod-lt, add-zero, zero-add}
 use native.Mathlib.Numerals.{add-one}
 use lib.ListN.{getD, set, length, drop, length-set, drop-of-length-le}
-use lib.Seq.{drop-cons, getD-set-other}
+use lib.Seq.{drop-cons, getD-set-same, getD-set-other}
 use Rattle.model.specs.CaseFile.{Line, records, threadCount, caseOf}
 use Rattle.model.specs.Machine.{Memory, State, BlockEnd, runBlock, restIn, memoryIn, afterBlock, Outcome, afterSteps, runBlocks}
-use Rattle.laws.specs.Accepted.{Accepted, linesFrom}
+use Rattle.laws.specs.Accepted.{linesFrom}
 use Rattle.laws.proofs.Views.{EqView, same, diff, eq-view}
-use Rattle.turn.specs.declared.Thread.{Thread}
-use Rattle.turn.specs.declared.Event.{Event}
-use Rattle.turn.specs.declared.Event.the-variants.{Ran, Strayed, Stopped}
-use Rattle.turn.specs.declared.Shared.{Shared}
+use Rattle.turn.specs.declared.Stand.{Stand}
+use Rattle.turn.specs.declared.Stand.the-variants.{Running, Strayed, Stopped}
 use Rattle.turn.specs.TurnState.{itemsOf, memoryOf, givenBy}
-use Rattle.turn.specs.Promises.{endBy, endOf, continued}
-use Rattle.run.specs.RunState.{none, threadAt, turnAt, listFrom, restAt, stateOf, Within}
-use Rattle.run.specs.Promises.{BlockAt, resumed, outcomeFrom, Played}
+use Rattle.turn.specs.declared.Turn.{Turn}
+use Rattle.turn.specs.Promises.{Ready, endBy, endOf, continued, BlockRan}
+use Rattle.run.specs.declared.Thread.{Thread}
+use Rattle.run.specs.declared.Shared.{Shared}
+use Rattle.run.specs.declared.Moved.{Moved}
+use Rattle.run.specs.RunState.{none, threadAt, turnOf, turnAt, listFrom, restAt, stateOf}
+use Rattle.run.specs.Promises.{RunReady, BlockReady, MovedBy, BlockAt, resumed, outcomeFrom, Played}
 
 module _ {A : Type 0} where
   pub listFrom-at : (f : ℕ → A) (i many j : ℕ) (d : A) → j < many → getD (listFrom f i many) j d ≡ f (i + j)
@@ -50,9 +52,12 @@ others-same : (t : ℕ) (threads after : List Thread) → after ≡ set threads 
 others-same t threads after others u other =
     ap (λ (x : List Thread). threadAt x u) others ∙ getD-set-other threads t u (threadAt after t) none other
 
-module _ (bytes givens : List ℕ) (i steps : ℕ) (threads after : List Thread) (shared last : Shared) (some : 0 < threadCount bytes)
-    (b : BlockAt bytes givens (i % threadCount bytes) steps threads shared after last)
+module _ (bytes givens lengths : List ℕ) (i : ℕ) (threads after : List Thread) (shared last : Shared) (some : 0 < threadCount bytes)
+    (b : BlockAt bytes givens lengths i threads shared after last)
   where
+    abbrev steps : ℕ
+    steps = getD lengths i 0
+
     abbrev t : ℕ
     t = i % threadCount bytes
 
@@ -77,85 +82,107 @@ module _ (bytes givens : List ℕ) (i steps : ℕ) (threads after : List Thread)
         listFrom-set f g 0 (threadCount bytes) t inside (λ u p. others u (λ q. p (q ∙ sym (zero-add t))))
         ∙ ap (λ x'. set (listFrom f 0 (threadCount bytes)) t x') (ap g (zero-add t) ∙ e)
 
-    state-after : last .event ≡ Ran
+    state-after : last .stand ≡ Running
         → afterBlock (caseOf bytes) i steps case-state (memoryOf bytes (turnAt after t last)) ≡ stateOf bytes after (last .items)
     state-after ran =
         let kept = others-same t threads after (b .others) in
         λ j. record {
           rests = sym (changed (restAt bytes threads) (restAt bytes after) (drop steps (restIn (caseOf bytes) i case-state))
               (λ u other. ap (λ (x : Thread). linesFrom bytes u (x .next)) (kept u other))
-              (b .ran t .moves ran ∙ ap (drop steps) (sym rest-in))) j;
+              (b .ran .moves ran ∙ ap (drop steps) (sym rest-in))) j;
           locals = sym (changed (λ u. threadAt threads u .locals) (λ u. threadAt after u .locals) (threadAt after t .locals)
               (λ u other. ap (λ (x : Thread). x .locals) (kept u other)) refl) j;
           items = itemsOf bytes (last .items);
         }
 
     abbrev next : List ℕ → Memory → ℕ → Outcome
-    next lengths m note =
-        runBlocks (caseOf bytes) (givenBy givens) (suc i) lengths (afterBlock (caseOf bytes) i steps case-state m) note
+    next later m note =
+        runBlocks (caseOf bytes) (givenBy givens) (suc i) later (afterBlock (caseOf bytes) i steps case-state m) note
 
     -- the blocks after this one, from the turn that this block leaves
-    goes-on : (lengths : List ℕ) → afterSteps (endOf bytes (turnAt after t last)) (next lengths) ≡ outcomeFrom bytes givens (suc i) lengths after last
-    goes-on lengths = go (last .event) state-after
+    goes-on : (later : List ℕ) → afterSteps (endOf bytes (turnAt after t last)) (next later) ≡ outcomeFrom bytes givens (suc i) later after last
+    goes-on later = go (last .stand) state-after
       where
-        go : (event : Event) → (event ≡ Ran → afterBlock (caseOf bytes) i steps case-state (memoryOf bytes (turnAt after t last)) ≡ stateOf bytes after (last .items))
-            → afterSteps (endBy bytes event (turnAt after t last)) (next lengths)
-            ≡ resumed event (itemsOf bytes (last .items)) (runBlocks (caseOf bytes) (givenBy givens) (suc i) lengths (stateOf bytes after (last .items)) (last .note))
-        go Ran e = ap (λ (x : State). runBlocks (caseOf bytes) (givenBy givens) (suc i) lengths x (last .note)) (e refl)
+        go : (stand : Stand) → (stand ≡ Running → afterBlock (caseOf bytes) i steps case-state (memoryOf bytes (turnAt after t last)) ≡ stateOf bytes after (last .items))
+            → afterSteps (endBy bytes stand (turnAt after t last)) (next later)
+            ≡ resumed stand (itemsOf bytes (last .items)) (runBlocks (caseOf bytes) (givenBy givens) (suc i) later (stateOf bytes after (last .items)) (last .note))
+        go Running e = ap (λ (x : State). runBlocks (caseOf bytes) (givenBy givens) (suc i) later x (last .note)) (e refl)
         go (Strayed k) e = refl
         go (Stopped k) e = refl
 
     abbrev block : Memory → ℕ → BlockEnd
     block = runBlock (caseOf bytes) (givenBy givens) steps (restAt bytes threads t)
 
-    block-next : (lengths : List ℕ) → outcomeFrom bytes givens i (steps ∷ lengths) threads shared ≡ outcomeFrom bytes givens (suc i) lengths after last
+    block-next : (later : List ℕ) → outcomeFrom bytes givens i (steps ∷ later) threads shared ≡ outcomeFrom bytes givens (suc i) later after last
     unfolding runBlocks
-    block-next lengths = go (shared .event) (b .ran t .does) ∙ goes-on lengths
+    block-next later = go (shared .stand) (b .ran .does) ∙ goes-on later
       where
-        go : (event : Event) → continued (endBy bytes event (turnAt threads t shared)) block ≡ endOf bytes (turnAt after t last)
-            → resumed event (itemsOf bytes (shared .items)) (runBlocks (caseOf bytes) (givenBy givens) i (steps ∷ lengths) case-state (shared .note))
-            ≡ afterSteps (endOf bytes (turnAt after t last)) (next lengths)
-        go Ran e =
-            ap (λ (x : BlockEnd). afterSteps x (next lengths))
+        go : (stand : Stand) → continued (endBy bytes stand (turnAt threads t shared)) block ≡ endOf bytes (turnAt after t last)
+            → resumed stand (itemsOf bytes (shared .items)) (runBlocks (caseOf bytes) (givenBy givens) i (steps ∷ later) case-state (shared .note))
+            ≡ afterSteps (endOf bytes (turnAt after t last)) (next later)
+        go Running e =
+            ap (λ (x : BlockEnd). afterSteps x (next later))
             (ap₂ (λ (x : List Line) (y : Memory). runBlock (caseOf bytes) (givenBy givens) steps x y (shared .note)) rest-in memory-in ∙ e)
-        go (Strayed k) e = ap (λ (x : BlockEnd). afterSteps x (next lengths)) e
-        go (Stopped k) e = ap (λ (x : BlockEnd). afterSteps x (next lengths)) e
+        go (Strayed k) e = ap (λ (x : BlockEnd). afterSteps x (next later)) e
+        go (Stopped k) e = ap (λ (x : BlockEnd). afterSteps x (next later)) e
 
-    within-after : Within bytes threads → Within bytes after
-    within-after w = record {
-      nexts = λ u h. go u h (eq-view u t);
-      four = ap length (b .others) ∙ length-set threads t (threadAt after t) ∙ w .four;
+    ready-after : RunReady bytes givens threads → RunReady bytes givens after
+    ready-after ready = record {
+      accepted = ready .accepted;
+      all-given = ready .all-given;
+      within = λ u h. go u h (eq-view u t);
+      has-all = ap length (b .others) ∙ length-set threads t (threadAt after t) ∙ ready .has-all;
     }
       where
         go : (u : ℕ) → u < threadCount bytes → EqView u t → threadAt after u .next ≤ records bytes
-        go u h (same e q) = rw e (b .ran t .within)
-        go u h (diff e q) = omega (arith, ap (λ (x : Thread). x .next) (others-same t threads after (b .others) u e), w .nexts u h)
+        go u h (same e q) = rw e (b .ran .within)
+        go u h (diff e q) = omega (arith, ap (λ (x : Thread). x .next) (others-same t threads after (b .others) u e), ready .within u h)
 
 -- After some of the blocks.
 pub record Playing (bytes givens lengths : List ℕ) (threads₀ : List Thread) (shared₀ : Shared) (i : ℕ) (threads : List Thread) (shared : Shared) : Type 0 where
   pub does : outcomeFrom bytes givens i (drop i lengths) threads shared ≡ outcomeFrom bytes givens 0 lengths threads₀ shared₀
-  pub within : Within bytes threads
+  pub ready : RunReady bytes givens threads
 
 module _ (bytes givens lengths : List ℕ) (threads₀ : List Thread) (shared₀ : Shared) where
-  pub playing-start : Within bytes threads₀ → Playing bytes givens lengths threads₀ shared₀ 0 threads₀ shared₀
-  playing-start within = record { does = refl; within = within }
+  pub playing-start : RunReady bytes givens threads₀ → Playing bytes givens lengths threads₀ shared₀ 0 threads₀ shared₀
+  playing-start ready = record { does = refl; ready = ready }
 
   module _ (i : ℕ) (threads : List Thread) (shared : Shared) (p : Playing bytes givens lengths threads₀ shared₀ i threads shared) where
-    pub playing-on : (after : List Thread) (last : Shared) → Accepted bytes → i < length lengths
-        → BlockAt bytes givens (i % threadCount bytes) (getD lengths i 0) threads shared after last
+    pub playing-on : (after : List Thread) (last : Shared) → i < length lengths → BlockAt bytes givens lengths i threads shared after last
         → Playing bytes givens lengths threads₀ shared₀ (i + 1) after last
-    playing-on after last ok more b =
-        let some : 0 < threadCount bytes = omega (arith, ok .some-threads) in
+    playing-on after last more b =
+        let some : 0 < threadCount bytes = omega (arith, p .ready .accepted .some-threads) in
         record {
           does = rw (add-one i)
-              (sym (block-next bytes givens i (getD lengths i 0) threads after shared last some b (drop (suc i) lengths))
+              (sym (block-next bytes givens lengths i threads after shared last some b (drop (suc i) lengths))
               ∙ ap (λ (x : List ℕ). outcomeFrom bytes givens i x threads shared) (sym (drop-cons lengths i 0 more))
               ∙ p .does);
-          within = within-after bytes givens i (getD lengths i 0) threads after shared last some b (p .within);
+          ready = ready-after bytes givens lengths i threads after shared last some b (p .ready);
         }
 
-    pub playing-end : length lengths ≤ i → Played bytes givens lengths threads₀ shared₀ shared
+    pub playing-end : length lengths ≤ i → Played bytes givens lengths threads₀ shared₀ threads shared
     unfolding runBlocks
     playing-end over = record {
       comes = ap (λ (x : List ℕ). outcomeFrom bytes givens i x threads shared) (sym (drop-of-length-le lengths over)) ∙ p .does;
+    }
+
+-- Block i by its thread's turn.
+module _ (bytes lengths givens : List ℕ) (thread : Thread) (shared : Shared) (i : ℕ) (turn : Turn) (is-turn : turn ≡ turnOf thread shared) where
+  pub ready-turn : BlockReady bytes lengths givens thread i → Ready bytes givens turn
+  ready-turn ready = rw is-turn (record { accepted = ready .accepted; all-given = ready .all-given; within = ready .within })
+
+  pub moved-by : (t : ℕ) (moved : Moved) → t ≡ i % threadCount bytes
+      → BlockRan bytes givens t (getD lengths i 0) turn (turnOf (moved .thread) (moved .shared)) → MovedBy bytes givens lengths i thread shared moved
+  moved-by t moved is-t ran = record { ran = rw (is-turn, is-t) at ran }
+
+-- the thread that is stored, as the list then has it
+pub stored : (bytes givens lengths : List ℕ) (i : ℕ) (threads : List Thread) (shared : Shared) (r : Moved) → i % threadCount bytes < length threads
+    → MovedBy bytes givens lengths i (threadAt threads (i % threadCount bytes)) shared r
+    → BlockAt bytes givens lengths i threads shared (set threads (i % threadCount bytes) (r .thread)) (r .shared)
+stored bytes givens lengths i threads shared r h moved =
+    let t = i % threadCount bytes in
+    let there = getD-set-same threads t (r .thread) none h in
+    record {
+      ran = subst (λ (x : Thread). BlockRan bytes givens t (getD lengths i 0) (turnAt threads t shared) (turnOf x (r .shared))) (sym there) (moved .ran);
+      others = ap (set threads t) (sym there);
     }

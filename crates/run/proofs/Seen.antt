@@ -15,12 +15,12 @@ use denote.Builtin.{u8, u16}
 use denote.Ref.{RefT}
 use denote.Slice.{sliceVal, ShrSlice, shr-slice-copy}
 use denote.Struct.Laws as LL
-use Rattle.turn.specs.declared.Thread.{Thread}
-use Rattle.turn.specs.declared.Shared.{Shared}
-use Rattle.turn.proofs.Thread as T
-use Rattle.turn.proofs.Thread.Laws as T′
-use Rattle.turn.proofs.Shared as S
-use Rattle.turn.proofs.Shared.Laws as S′
+use Rattle.run.specs.declared.Thread.{Thread}
+use Rattle.run.specs.declared.Shared.{Shared}
+use Rattle.run.proofs.Thread as T
+use Rattle.run.proofs.Thread.Laws as T′
+use Rattle.run.proofs.Shared as S
+use Rattle.run.proofs.Shared.Laws as S′
 
 -- the machine values of a shared slice, a thread, and what the threads share
 abbrev pub valOf : RefT (List ℕ) → Val

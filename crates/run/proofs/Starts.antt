@@ -1,25 +1,25 @@
 -- Where a run starts: the code's arrays hold the machine's first state.
 -- Assumes nothing.
 use mathlib.Core.Path.{_≡_, refl, sym, ap, ap₂, _∙_, subst}
-use Prim.Native.Nat.{ℕ, zero, suc, _+_, _-_, _≤_, _<_}
+use Prim.Native.Nat.{ℕ, zero, suc, _+_, _-_, _%_, _≤_, _<_}
 use mathlib.Core.List.{List, [], _∷_, _++_, append-assoc}
 use native.Mathlib.Omega.{arith}
-use native.Mathlib.Nat.{add-zero, zero-add}
+use native.Mathlib.Nat.{add-zero, zero-add, mod-lt}
 use native.Mathlib.Numerals.{add-one}
-use lib.ListN.{set, take, replicate}
+use lib.ListN.{length, set, take, replicate}
 use lib.Seq.{take-append-add, set-at}
-use Rattle.model.specs.Limits.{localCount}
+use Rattle.model.specs.Limits.{mostThreads, mostGlobals, mostItems, localCount}
 use Rattle.model.specs.Lists.{numbersFrom}
-use Rattle.model.specs.CaseFile.{Line, threadCount, globalCount, mutexCount, firstRecord, initialValue, chains, caseOf}
-use Rattle.model.specs.Machine.{State, start, Outcome, runBlocks}
-use Rattle.laws.specs.Accepted.{Accepted, linesFrom}
+use Rattle.model.specs.CaseFile.{Line, records, threadCount, globalCount, mutexCount, firstRecord, initialValue, chains, caseOf}
+use Rattle.model.specs.Machine.{State, start, Outcome, run, runBlocks}
+use Rattle.laws.specs.Accepted.{Accepted, threadLines, linesFrom}
 use Rattle.laws.proofs.Ranges.{length-numbersFrom}
-use Rattle.turn.specs.declared.Thread.{Thread}
-use Rattle.turn.specs.declared.Shared.{Shared}
 use Rattle.turn.specs.TurnState.{itemsOf, givenBy}
+use Rattle.run.specs.declared.Thread.{Thread}
+use Rattle.run.specs.declared.Shared.{Shared}
 use Rattle.run.specs.declared.Ended.{Ended}
-use Rattle.run.specs.RunState.{threadAt, listFrom, restAt, stateOf, Within, firstItems, firstThread, firstThreads, firstShared}
-use Rattle.run.specs.Promises.{outcomeFrom, outcomeOf, Played, Replies}
+use Rattle.run.specs.RunState.{threadAt, listFrom, restAt, stateOf, firstItems, firstThread, firstThreads, firstShared}
+use Rattle.run.specs.Promises.{RunReady, outcomeFrom, Replies, Comes}
 use Rattle.run.proofs.Runs.{listFrom-same}
 
 numbersFrom-snoc : (f : ℕ → ℕ) (i many : ℕ) → numbersFrom f i (suc many) ≡ numbersFrom f i many ++ (f (i + many) ∷ [])
@@ -34,21 +34,21 @@ take-zeros (suc m) zero h = absurd (omega arith)
 take-zeros (suc m) (suc n) h = ap (λ (xs : List ℕ). 0 ∷ xs) (take-zeros m n (omega arith))
 
 module _ (bytes : List ℕ) where
-  pub items-none : replicate 12 0 ≡ firstItems bytes 0
+  pub items-none : replicate mostItems 0 ≡ firstItems bytes 0
   unfolding firstItems numbersFrom
   items-none = refl
 
-  pub items-more : (g value : ℕ) (items : List ℕ) → g < 8 → items ≡ firstItems bytes g → value ≡ initialValue bytes g
+  pub items-more : (g value : ℕ) (items : List ℕ) → g < mostGlobals → items ≡ firstItems bytes g → value ≡ initialValue bytes g
       → set items g value ≡ firstItems bytes (g + 1)
   unfolding firstItems
   items-more g value items h e is =
-      let more : 12 - g ≡ suc (11 - g) = omega arith in
-      let less : 12 - (g + 1) ≡ 11 - g = omega arith in
+      let left = mostItems - (g + 1) in
+      let more : mostItems - g ≡ suc left = omega arith in
       let f = initialValue bytes in
-      rw (e, more, less, is)
-      (set-at (numbersFrom f 0 g) 0 (replicate (11 - g) 0) (f g) g (length-numbersFrom f 0 g)
-      ∙ sym (append-assoc (numbersFrom f 0 g) (f g ∷ []) (replicate (11 - g) 0))
-      ∙ ap (λ (xs : List ℕ). xs ++ replicate (11 - g) 0)
+      rw (e, more, is)
+      (set-at (numbersFrom f 0 g) 0 (replicate left 0) (f g) g (length-numbersFrom f 0 g)
+      ∙ sym (append-assoc (numbersFrom f 0 g) (f g ∷ []) (replicate left 0))
+      ∙ ap (λ (xs : List ℕ). xs ++ replicate left 0)
       (sym (ap (numbersFrom f 0) (add-one g) ∙ numbersFrom-snoc f 0 g ∙ ap (λ (x : ℕ). numbersFrom f 0 g ++ (f x ∷ [])) (zero-add g))))
 
   module _ (ok : Accepted bytes) where
@@ -56,25 +56,28 @@ module _ (bytes : List ℕ) where
     unfolding firstItems
     items-start =
         let globals = numbersFrom (initialValue bytes) 0 (globalCount bytes) in
-        let zeros : List ℕ = replicate (12 - globalCount bytes) 0 in
+        let zeros : List ℕ = replicate (mostItems - globalCount bytes) 0 in
         ap (λ (x : ℕ). take (x + mutexCount bytes) (globals ++ zeros)) (sym (length-numbersFrom (initialValue bytes) 0 (globalCount bytes)))
         ∙ take-append-add globals zeros (mutexCount bytes)
-        ∙ ap (λ (xs : List ℕ). globals ++ xs) (take-zeros (mutexCount bytes) (12 - globalCount bytes) (omega (arith, ok .few-globals, ok .few-mutexes)))
+        ∙ ap (λ (xs : List ℕ). globals ++ xs) (take-zeros (mutexCount bytes) (mostItems - globalCount bytes) (omega (arith, ok .few-globals, ok .few-mutexes)))
 
-    thread-start : (t : ℕ) → t < threadCount bytes → threadAt (firstThreads bytes) t ≡ firstThread (firstRecord bytes t)
+    thread-start : (t : ℕ) → t < threadCount bytes → threadAt (firstThreads bytes) t ≡ firstThread bytes t
     thread-start t h = go t (omega (arith, h, ok .few-threads))
       where
-        go : (u : ℕ) → u < 4 → threadAt (firstThreads bytes) u ≡ firstThread (firstRecord bytes u)
+        go : (u : ℕ) → u < mostThreads → threadAt (firstThreads bytes) u ≡ firstThread bytes u
         go zero b = refl
         go (suc zero) b = refl
         go (suc (suc zero)) b = refl
         go (suc (suc (suc zero))) b = refl
         go (suc (suc (suc (suc u)))) b = absurd (omega arith)
 
-    chains-list : (t many : ℕ) → chains bytes t many ≡ listFrom (λ u. linesFrom bytes u (firstRecord bytes u)) t many
+    pub thread-below : (i : ℕ) → i % threadCount bytes < mostThreads
+    thread-below i = let some : 0 < threadCount bytes = omega (arith, ok .some-threads) in omega (arith, mod-lt i some, ok .few-threads)
+
+    chains-list : (t many : ℕ) → chains bytes t many ≡ listFrom (threadLines bytes) t many
     unfolding chains listFrom
     chains-list t zero = refl
-    chains-list t (suc many) = ap (λ (ls : List (List Line)). linesFrom bytes t (firstRecord bytes t) ∷ ls) (chains-list (suc t) many)
+    chains-list t (suc many) = ap (λ (ls : List (List Line)). threadLines bytes t ∷ ls) (chains-list (suc t) many)
 
     same-lists : {A : Type 0} (x : A) (t many : ℕ) → replicate many x ≡ listFrom (λ u. x) t many
     unfolding listFrom
@@ -83,7 +86,7 @@ module _ (bytes : List ℕ) where
 
     state-start : stateOf bytes (firstThreads bytes) (firstItems bytes (globalCount bytes)) ≡ start (caseOf bytes)
     state-start = λ i. record {
-      rests = (listFrom-same (λ u. linesFrom bytes u (firstRecord bytes u)) (restAt bytes (firstThreads bytes)) 0 (threadCount bytes)
+      rests = (listFrom-same (threadLines bytes) (restAt bytes (firstThreads bytes)) 0 (threadCount bytes)
           (λ t low high. ap (λ (x : Thread). linesFrom bytes t (x .next)) (thread-start t (omega (arith, high))))
           ∙ sym (chains-list 0 (threadCount bytes))) i;
       locals = (listFrom-same (λ u. replicate localCount 0) (λ u. threadAt (firstThreads bytes) u .locals) 0 (threadCount bytes)
@@ -92,20 +95,18 @@ module _ (bytes : List ℕ) where
       items = items-start i;
     }
 
-    run-starts : (givens lengths : List ℕ)
-        → outcomeFrom bytes givens 0 lengths (firstThreads bytes) (firstShared bytes) ≡ runBlocks (caseOf bytes) (givenBy givens) 0 lengths (start (caseOf bytes)) 0
-    run-starts givens lengths = ap (λ (x : State). runBlocks (caseOf bytes) (givenBy givens) 0 lengths x 0) state-start
-
-    pub within-start : Within bytes (firstThreads bytes)
-    within-start = record {
-      nexts = λ t h. omega (arith, ap (λ (x : Thread). x .next) (thread-start t h), ok .firsts t h);
-      four = refl;
+    pub ready-start : (givens : List ℕ) → records bytes < length givens → RunReady bytes givens (firstThreads bytes)
+    ready-start givens all-given = record {
+      accepted = ok;
+      all-given = all-given;
+      within = λ t h. omega (arith, ap (λ (x : Thread). x .next) (thread-start t h), ok .firsts t h);
+      has-all = refl;
     }
 
-    pub run-replies : (givens lengths : List ℕ) (threads : List Thread) (shared last : Shared) (e : Ended)
-        → threads ≡ firstThreads bytes → shared ≡ firstShared bytes → Played bytes givens lengths threads shared last → Replies bytes (outcomeOf bytes last) e
-        → Replies bytes (runBlocks (caseOf bytes) (givenBy givens) 0 lengths (start (caseOf bytes)) 0) e
-    run-replies givens lengths threads shared last e is-threads is-shared played replies =
+    pub run-replies : (givens lengths : List ℕ) (threads : List Thread) (shared : Shared) (e : Ended) → threads ≡ firstThreads bytes → shared ≡ firstShared bytes
+        → Comes bytes givens lengths threads shared e → Replies bytes (run (caseOf bytes) lengths (givenBy givens)) e
+    unfolding run
+    run-replies givens lengths threads shared e are-threads is-shared replies =
         subst (λ (x : Outcome). Replies bytes x e)
-        (played .comes ∙ ap₂ (outcomeFrom bytes givens 0 lengths) is-threads is-shared ∙ run-starts givens lengths)
+        (ap₂ (outcomeFrom bytes givens 0 lengths) are-threads is-shared ∙ ap (λ (x : State). runBlocks (caseOf bytes) (givenBy givens) 0 lengths x 0) state-start)
         replies

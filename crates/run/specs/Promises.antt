@@ -1,47 +1,80 @@
--- What all blocks of a run promise, in terms of the machine.
+-- What the blocks of a run ask and promise, in terms of the machine.
 -- Assumes nothing.
 use mathlib.Core.Path.{_≡_}
-use Prim.Native.Nat.{ℕ}
+use Prim.Native.Nat.{ℕ, _%_, _≤_, _<_}
 use mathlib.Core.List.{List}
-use lib.ListN.{set}
-use Rattle.model.specs.CaseFile.{caseOf}
-use Rattle.model.specs.Machine.{Outcome, refused14, cutOff, ending, runBlocks}
-use Rattle.model.specs.Answers.{answerOfRun, itemsAfter, afterReplayed}
-use Rattle.turn.specs.declared.Thread.{Thread}
-use Rattle.turn.specs.declared.Event.{Event}
-use Rattle.turn.specs.declared.Event.the-variants.{Ran, Strayed, Stopped}
-use Rattle.turn.specs.declared.Shared.{Shared}
+use lib.ListN.{getD, length, set}
+use Rattle.model.specs.Limits.{mostThreads}
+use Rattle.model.specs.CaseFile.{records, threadCount, caseOf}
+use Rattle.model.specs.Machine.{Outcome, refused14, cutOff, violated, clean, ending, runBlocks}
+use Rattle.model.specs.Answers.{answerOfRun}
+use Rattle.laws.specs.Accepted.{Accepted}
+use Rattle.turn.specs.declared.Stand.{Stand}
+use Rattle.turn.specs.declared.Stand.the-variants.{Running, Strayed, Stopped}
 use Rattle.turn.specs.TurnState.{itemsOf, givenBy}
 use Rattle.turn.specs.Promises.{BlockRan}
+use Rattle.run.specs.declared.Thread.{Thread}
+use Rattle.run.specs.declared.Shared.{Shared}
+use Rattle.run.specs.declared.Moved.{Moved}
 use Rattle.run.specs.declared.Ended.{Ended}
-use Rattle.run.specs.RunState.{threadAt, turnAt, stateOf}
+use Rattle.run.specs.RunState.{threadAt, turnOf, turnAt, stateOf}
 
--- A block of thread t with so many steps: the thread and what is shared have run it, and no other thread moves.
-pub record BlockAt (bytes givens : List ℕ) (t steps : ℕ) (threads : List Thread) (shared : Shared) (after : List Thread) (last : Shared) : Type 0 where
-  pub ran : (u : ℕ) → BlockRan bytes givens u steps (turnAt threads t shared) (turnAt after t last)
-  pub others : after ≡ set threads t (threadAt after t)
+-- The case is accepted, each of its records is given a value, and every thread is at one of them or at its end.
+pub record RunReady (bytes givens : List ℕ) (threads : List Thread) : Type 0 where
+  pub accepted : Accepted bytes
+  pub all-given : records bytes < length givens
+  pub within : (t : ℕ) → t < threadCount bytes → threadAt threads t .next ≤ records bytes
+  pub has-all : length threads ≡ mostThreads
+
+-- The same for a block's thread, where there is a block i.
+pub record BlockReady (bytes lengths givens : List ℕ) (thread : Thread) (i : ℕ) : Type 0 where
+  pub accepted : Accepted bytes
+  pub all-given : records bytes < length givens
+  pub within : thread .next ≤ records bytes
+  pub is-block : i < length lengths
+
+-- Block i, by its thread: the turn has run it.
+pub record MovedBy (bytes givens lengths : List ℕ) (i : ℕ) (thread : Thread) (shared : Shared) (r : Moved) : Type 0 where
+  pub ran : BlockRan bytes givens (i % threadCount bytes) (getD lengths i 0) (turnOf thread shared) (turnOf (r .thread) (r .shared))
+
+-- Block i: its thread and what is shared have run it, and no other thread moves.
+pub record BlockAt (bytes givens lengths : List ℕ) (i : ℕ) (threads : List Thread) (shared : Shared) (after : List Thread) (last : Shared) : Type 0 where
+  pub ran : BlockRan bytes givens (i % threadCount bytes) (getD lengths i 0) (turnAt threads (i % threadCount bytes) shared) (turnAt after (i % threadCount bytes) last)
+  pub others : after ≡ set threads (i % threadCount bytes) (threadAt after (i % threadCount bytes))
 
 -- The outcome of the blocks that follow, unless the run has ended.
-abbrev pub resumed : Event → List ℕ → Outcome → Outcome
-resumed Ran items next = next
+abbrev pub resumed : Stand → List ℕ → Outcome → Outcome
+resumed Running items next = next
 resumed (Strayed k) items next = refused14 k
 resumed (Stopped k) items next = cutOff k items
 
 -- What a run comes to from here, with the blocks from i on.
 abbrev pub outcomeFrom : List ℕ → List ℕ → ℕ → List ℕ → List Thread → Shared → Outcome
 outcomeFrom bytes givens i lengths threads shared =
-    resumed (shared .event) (itemsOf bytes (shared .items))
+    resumed (shared .stand) (itemsOf bytes (shared .items))
     (runBlocks (caseOf bytes) (givenBy givens) i lengths (stateOf bytes threads (shared .items)) (shared .note))
 
 -- What a run has come to, when no block is left.
-abbrev pub outcomeOf : List ℕ → Shared → Outcome
-outcomeOf bytes shared = resumed (shared .event) (itemsOf bytes (shared .items)) (ending (shared .note) (itemsOf bytes (shared .items)))
+abbrev pub outcomeOf : List ℕ → List Thread → Shared → Outcome
+outcomeOf bytes threads shared =
+    resumed (shared .stand) (itemsOf bytes (shared .items)) (ending (shared .note) (stateOf bytes threads (shared .items)))
 
 -- The blocks with these lengths have been run.
-pub record Played (bytes givens lengths : List ℕ) (threads : List Thread) (shared last : Shared) : Type 0 where
-  pub comes : outcomeOf bytes last ≡ outcomeFrom bytes givens 0 lengths threads shared
+pub record Played (bytes givens lengths : List ℕ) (threads : List Thread) (shared : Shared) (after : List Thread) (last : Shared) : Type 0 where
+  pub comes : outcomeOf bytes after last ≡ outcomeFrom bytes givens 0 lengths threads shared
 
--- A run that came to this outcome: the reply, and what is written of its items.
+-- Threads and items at the end of a run with this outcome: they stand for its state; of a run that is cut off, the items do.
+abbrev pub Leaves : List ℕ → Outcome → List Thread → List ℕ → Type 0
+Leaves bytes (refused14 k) threads items = Unit {0}
+Leaves bytes (cutOff k left) threads items = itemsOf bytes items ≡ left
+Leaves bytes (violated k s) threads items = stateOf bytes threads items ≡ s
+Leaves bytes (clean s) threads items = stateOf bytes threads items ≡ s
+
+-- A run that came to this outcome: the reply, and what is left.
 pub record Replies (bytes : List ℕ) (outcome : Outcome) (e : Ended) : Type 0 where
   pub reply : e .reply ≡ answerOfRun outcome
-  pub items : (slice : List ℕ) → afterReplayed (e .reply) (itemsOf bytes (e .items)) slice ≡ afterReplayed (e .reply) (itemsAfter outcome) slice
+  pub left : Leaves bytes outcome (e .threads) (e .items)
+
+-- The run in blocks with these lengths, from these threads on.
+abbrev pub Comes : List ℕ → List ℕ → List ℕ → List Thread → Shared → Ended → Type 0
+Comes bytes givens lengths threads shared e = Replies bytes (outcomeFrom bytes givens 0 lengths threads shared) e

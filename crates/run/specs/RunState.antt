@@ -4,16 +4,16 @@ use mathlib.Core.Path.{_≡_}
 use Prim.Native.Nat.{ℕ, zero, suc, _-_, _≤_, _<_}
 use mathlib.Core.List.{List, [], _∷_, _++_}
 use lib.ListN.{getD, length, replicate}
-use Rattle.model.specs.Limits.{localCount}
+use Rattle.model.specs.Limits.{mostThreads, mostItems, localCount}
 use Rattle.model.specs.Lists.{numbersFrom}
-use Rattle.model.specs.CaseFile.{Line, field, records, threadCount, globalCount, initialValue}
+use Rattle.model.specs.CaseFile.{Line, records, threadCount, globalCount, firstRecord, initialValue}
 use Rattle.model.specs.Machine.{State}
 use Rattle.laws.specs.Accepted.{linesFrom}
-use Rattle.turn.specs.declared.Thread.{Thread}
-use Rattle.turn.specs.declared.Event.the-variants.{Ran}
-use Rattle.turn.specs.declared.Shared.{Shared}
+use Rattle.turn.specs.declared.Stand.the-variants.{Running}
 use Rattle.turn.specs.declared.Turn.{Turn}
 use Rattle.turn.specs.TurnState.{itemsOf}
+use Rattle.run.specs.declared.Thread.{Thread}
+use Rattle.run.specs.declared.Shared.{Shared}
 
 abbrev pub none : Thread
 none = record { next = 0; locals = [] }
@@ -21,9 +21,18 @@ none = record { next = 0; locals = [] }
 abbrev pub threadAt : List Thread → ℕ → Thread
 threadAt threads t = getD threads t none
 
--- Thread t's turn.
+-- A thread's turn.
+abbrev pub turnOf : Thread → Shared → Turn
+turnOf thread shared = record {
+  next = thread .next;
+  locals = thread .locals;
+  items = shared .items;
+  stand = shared .stand;
+  note = shared .note;
+}
+
 abbrev pub turnAt : List Thread → ℕ → Shared → Turn
-turnAt threads t shared = record { thread = threadAt threads t; shared = shared }
+turnAt threads t shared = turnOf (threadAt threads t) shared
 
 -- f t, f (t + 1), .. : so many
 unfoldable pub listFrom : {A : Type 0} → (ℕ → A) → ℕ → ℕ → List A
@@ -41,22 +50,16 @@ stateOf bytes threads items = record {
   items = itemsOf bytes items;
 }
 
--- Every thread is at a record of the case or at its end.
-pub record Within (bytes : List ℕ) (threads : List Thread) : Type 0 where
-  pub nexts : (t : ℕ) → t < threadCount bytes → threadAt threads t .next ≤ records bytes
-  pub four : length threads ≡ 4
-
 -- The items where a run starts: the globals' initial values, so many of them, and zeros.
 unfoldable pub firstItems : List ℕ → ℕ → List ℕ
-firstItems bytes many = numbersFrom (initialValue bytes) 0 many ++ replicate (12 - many) 0
+firstItems bytes many = numbersFrom (initialValue bytes) 0 many ++ replicate (mostItems - many) 0
 
--- A thread that has not begun.
-abbrev pub firstThread : ℕ → Thread
-firstThread first = record { next = first; locals = replicate localCount 0 }
+-- Thread t where a run starts.
+abbrev pub firstThread : List ℕ → ℕ → Thread
+firstThread bytes t = record { next = firstRecord bytes t; locals = replicate localCount 0 }
 
 abbrev pub firstThreads : List ℕ → List Thread
-firstThreads bytes =
-    firstThread (field bytes 4) ∷ (firstThread (field bytes 5) ∷ (firstThread (field bytes 6) ∷ (firstThread (field bytes 7) ∷ [])))
+firstThreads bytes = firstThread bytes 0 ∷ (firstThread bytes 1 ∷ (firstThread bytes 2 ∷ (firstThread bytes 3 ∷ [])))
 
 abbrev pub firstShared : List ℕ → Shared
-firstShared bytes = record { event = Ran; items = firstItems bytes (globalCount bytes); note = 0 }
+firstShared bytes = record { items = firstItems bytes (globalCount bytes); stand = Running; note = 0 }

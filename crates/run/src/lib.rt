@@ -1,56 +1,78 @@
 // The run of an accepted case: its threads stand in a lent slice, and each block moves one of them.
 ghost use mathlib.Core.Path.{_≡_};
-ghost use Prim.Native.Nat.{ℕ, _≤_, _<_};
+ghost use Prim.Native.Nat.{ℕ, _%_, _≤_, _<_};
 ghost use mathlib.Core.List.{List};
-ghost use lib.ListN.{length, getD};
-ghost use Rattle.model.specs.CaseFile.{field, records, threadCount, caseOf};
-ghost use Rattle.model.specs.Machine.{start, runBlocks};
+ghost use lib.ListN.{length};
+ghost use Rattle.model.specs.Limits.{mostThreads, mostGlobals, headerBytes};
+ghost use Rattle.model.specs.CaseFile.{records, threadCount, caseOf};
+ghost use Rattle.model.specs.Machine as machine;
 ghost use Rattle.laws.specs.Accepted.{Accepted};
 ghost use Rattle.turn.specs.TurnState.{givenBy};
-ghost use Rattle.run.specs.RunState.{threadAt, Within, firstItems, firstThread, firstThreads, firstShared};
-ghost use Rattle.run.specs.Promises.{BlockAt, outcomeOf, Played, Replies};
+ghost use Rattle.run.specs.RunState.{turnOf, firstItems, firstThread, firstThreads, firstShared};
+ghost use Rattle.run.specs.Promises.{BlockReady, RunReady, BlockAt, MovedBy, outcomeOf, Played, Comes, Replies};
+use model::ITEMS;
+use model::LOCALS;
 use model::Replayed;
-use turn::Event;
-use turn::Shared;
-use turn::Thread;
+use model::THREADS;
+use turn::Stand;
+use turn::Turn;
 
-pub struct Ended {
-    pub reply: Replayed,
-    pub items: [u16; 12],
+// A thread's next record, 0 at its end, and its locals.
+pub struct Thread {
+    pub next: usize,
+    pub locals: [u16; LOCALS],
 }
 
-// The run of a case in blocks with these lengths, from its start. Its parameters are plain.
+// What the threads share: the items, how the run stands, and the record of the first zero assert, 0 while there is none.
+pub struct Shared {
+    pub items: [u16; ITEMS],
+    pub stand: Stand,
+    pub note: u16,
+}
+
+// A block's thread after it, and what the threads then share.
+pub struct Moved {
+    pub thread: Thread,
+    pub shared: Shared,
+}
+
+// The reply, and the threads and the items at the run's end.
+pub struct Ended {
+    pub reply: Replayed,
+    pub threads: [Thread; THREADS],
+    pub items: [u16; ITEMS],
+}
+
+// The run of a case in blocks with these lengths, from its start.
 pub fn run_case(case: &[u8], lengths: &[u16], given: &[u16]) -> Ended
     requires { ⌜ Accepted (now case) ⌝ }
     requires { ⌜ records (now case) < length (now given) ⌝ }
-    ensures { λ r. ⌜ Replies (now (case .entry)) (runBlocks (caseOf (now (case .entry))) (givenBy (now (given .entry))) 0 (now (lengths .entry)) (start (caseOf (now (case .entry)))) 0) r ⌝ }
+    ensures { λ r. ⌜ Replies (now (case .entry)) (machine.run (caseOf (now (case .entry))) (now (lengths .entry)) (givenBy (now (given .entry)))) r ⌝ }
 {
-    let count = case_file::field_at(case, 0) as usize;
     let threads = first_threads(case);
     let shared = first_shared(case);
-    let last = lend(threads, count, case, lengths, given, shared);
-    end_of(last)
+    lend(threads, case, lengths, given, shared)
 }
 
 // The threads where a run starts; an absent thread is at its end.
-fn first_threads(case: &[u8]) -> [Thread; 4]
-    requires { ⌜ 32 ≤ length (now case) ⌝ }
+fn first_threads(case: &[u8]) -> [Thread; THREADS]
+    requires { ⌜ headerBytes ≤ length (now case) ⌝ }
     ensures { λ r. ⌜ r ≡ firstThreads (now (case .entry)) ⌝ }
 {
-    let a = first_thread(case, 4);
-    let b = first_thread(case, 5);
-    let c = first_thread(case, 6);
-    let d = first_thread(case, 7);
+    let a = first_thread(case, 0);
+    let b = first_thread(case, 1);
+    let c = first_thread(case, 2);
+    let d = first_thread(case, 3);
     [a, b, c, d]
 }
 
-// A thread at the record that field j of the header names.
-fn first_thread(case: &[u8], j: usize) -> Thread
-    requires { ⌜ (j < 8) × (32 ≤ length (now case)) ⌝ }
-    ensures { λ r. ⌜ r ≡ firstThread (field (now (case .entry)) j) ⌝ }
+// Thread t at its first record.
+fn first_thread(case: &[u8], t: usize) -> Thread
+    requires { ⌜ (t < mostThreads) × (headerBytes ≤ length (now case)) ⌝ }
+    ensures { λ r. ⌜ r ≡ firstThread (now (case .entry)) t ⌝ }
 {
-    let locals = [0u16; 16];
-    let next = case_file::field_at(case, j);
+    let locals = [0u16; LOCALS];
+    let next = case_file::first_of(case, t);
     Thread { next, locals }
 }
 
@@ -59,24 +81,23 @@ fn first_shared(case: &[u8]) -> Shared
     requires { ⌜ Accepted (now case) ⌝ }
     ensures { λ r. ⌜ r ≡ firstShared (now (case .entry)) ⌝ }
 {
-    let globals = case_file::field_at(case, 2) as usize;
-    let items = first_items(case, globals);
+    let items = first_items(case, case_file::globals(case) as usize);
     Shared {
-        event: Event::Ran,
         items,
+        stand: Stand::Running,
         note: 0,
     }
 }
 
 // The items where a run starts.
-fn first_items(case: &[u8], globals: usize) -> [u16; 12]
-    requires { ⌜ (32 ≤ length (now case)) × (globals ≤ 8) ⌝ }
+fn first_items(case: &[u8], globals: usize) -> [u16; ITEMS]
+    requires { ⌜ (headerBytes ≤ length (now case)) × (globals ≤ mostGlobals) ⌝ }
     ensures { λ r. ⌜ r ≡ firstItems (now (case .entry)) globals ⌝ }
 {
-    let mut items = [0u16; 12];
+    let mut items = [0u16; ITEMS];
     let mut g = 0;
     while g < globals {
-        items[g] = case_file::field_at(case, 8 + g);
+        items[g] = case_file::initial_of(case, g);
         g += 1;
     }
     items
@@ -84,89 +105,153 @@ fn first_items(case: &[u8], globals: usize) -> [u16; 12]
 
 // The threads are lent to all blocks. Its parameters are plain, so that callers need no walk.
 fn lend(
-    threads: [Thread; 4],
-    count: usize,
+    threads: [Thread; THREADS],
     case: &[u8],
     lengths: &[u16],
     given: &[u16],
     shared: Shared,
-) -> Shared
-    requires { ⌜ Accepted (now case) × Within (now case) threads × (count ≡ threadCount (now case)) × (records (now case) < length (now given)) ⌝ }
-    ensures { λ r. ⌜ Played (now (case .entry)) (now (given .entry)) (now (lengths .entry)) threads shared r ⌝ }
+) -> Ended
+    requires { ⌜ RunReady (now case) (now given) threads ⌝ }
+    ensures { λ r. ⌜ Comes (now (case .entry)) (now (given .entry)) (now (lengths .entry)) threads shared r ⌝ }
 {
     let mut ts = threads;
-    blocks_at(&mut ts, count, case, lengths, given, shared)
+    let last = blocks_at(&mut ts, case, lengths, given, shared);
+    end_of(ts, last)
 }
 
-// All blocks with these lengths; block i belongs to thread i modulo the number of threads.
+// All blocks with these lengths.
 fn blocks_at(
     threads: &mut [Thread],
-    count: usize,
     case: &[u8],
     lengths: &[u16],
     given: &[u16],
     shared: Shared,
 ) -> Shared
-    requires { ⌜ Accepted (now case) × Within (now case) (now threads) × (count ≡ threadCount (now case)) × (records (now case) < length (now given)) ⌝ }
-    ensures { λ r. ⌜ Played (now (case .entry)) (now (given .entry)) (now (lengths .entry)) (now (threads .entry)) shared r ⌝ }
+    requires { ⌜ RunReady (now case) (now given) (now threads) ⌝ }
+    ensures { λ r. ⌜ Played (now (case .entry)) (now (given .entry)) (now (lengths .entry)) (now (threads .entry)) shared (now (threads .exit)) r ⌝ }
 {
     let mut last = shared;
     let mut i = 0;
     while i < lengths.len() {
-        last = block_at(threads, i % count, case, lengths, given, i, last);
+        last = block_at(threads, case, lengths, given, i, last);
         i += 1;
     }
     last
 }
 
-// Block i, of thread t.
+// Block i, of the thread that it belongs to.
 fn block_at(
     threads: &mut [Thread],
-    t: usize,
     case: &[u8],
     lengths: &[u16],
     given: &[u16],
     i: usize,
     shared: Shared,
 ) -> Shared
-    requires { ⌜ Accepted (now case) × (t < length (now threads)) × (threadAt (now threads) t .next ≤ records (now case)) × (i < length (now lengths)) × (records (now case) < length (now given)) ⌝ }
-    ensures { λ r. ⌜ BlockAt (now (case .entry)) (now (given .entry)) t (getD (now (lengths .entry)) i 0) (now (threads .entry)) shared (now (threads .exit)) r ⌝ }
+    requires { ⌜ RunReady (now case) (now given) (now threads) × (i < length (now lengths)) ⌝ }
+    ensures { λ r. ⌜ BlockAt (now (case .entry)) (now (given .entry)) (now (lengths .entry)) i (now (threads .entry)) shared (now (threads .exit)) r ⌝ }
 {
-    let turn = turn::block_of(threads[t], shared, case, lengths, given, i);
-    threads[t] = turn.thread;
-    turn.shared
+    let t = thread_of(case, i);
+    let moved = block_of(threads[t], shared, case, lengths, given, i);
+    threads[t] = moved.thread;
+    moved.shared
+}
+
+// The thread that block i belongs to.
+fn thread_of(case: &[u8], i: usize) -> usize
+    requires { ⌜ Accepted (now case) ⌝ }
+    ensures { λ r. ⌜ r ≡ i % threadCount (now (case .entry)) ⌝ }
+{
+    i % case_file::threads(case) as usize
+}
+
+// Block i of a run, by the thread that it belongs to.
+fn block_of(
+    thread: Thread,
+    shared: Shared,
+    case: &[u8],
+    lengths: &[u16],
+    given: &[u16],
+    i: usize,
+) -> Moved
+    requires { ⌜ BlockReady (now case) (now lengths) (now given) thread i ⌝ }
+    ensures { λ r. ⌜ MovedBy (now (case .entry)) (now (given .entry)) (now (lengths .entry)) i thread shared r ⌝ }
+{
+    let t = thread_of(case, i) as u16;
+    let turn = turn_of(thread, shared);
+    let after = turn.block(t, case, given, lengths[i]);
+    let locals = after.locals;
+    let items = after.items;
+    let stand = after.stand;
+    let thread = Thread {
+        next: after.next,
+        locals,
+    };
+    let shared = Shared {
+        items,
+        stand,
+        note: after.note,
+    };
+    Moved { thread, shared }
+}
+
+// The thread's turn.
+fn turn_of(thread: Thread, shared: Shared) -> Turn
+    ensures { λ r. ⌜ r ≡ turnOf thread shared ⌝ }
+{
+    let locals = thread.locals;
+    let items = shared.items;
+    let stand = shared.stand;
+    Turn {
+        next: thread.next,
+        locals,
+        items,
+        stand,
+        note: shared.note,
+    }
 }
 
 // What a run has come to.
-fn end_of(shared: Shared) -> Ended
-    ensures { λ r. ⌜ ((bytes : List ℕ) → Replies bytes (outcomeOf bytes shared) r) ⌝ }
+fn end_of(threads: [Thread; THREADS], shared: Shared) -> Ended
+    ensures { λ r. ⌜ ((bytes : List ℕ) → Replies bytes (outcomeOf bytes threads shared) r) ⌝ }
 {
-    let e = shared.event;
     let items = shared.items;
-    match e {
-        Event::Ran => {}
-        Event::Strayed(k) => {
-            return ended_by(
-                Replayed::Refused {
-                    number: 14,
-                    place: k,
-                },
+    let stand = shared.stand;
+    match stand {
+        Stand::Running => {}
+        Stand::Strayed(k) => {
+            let reply = Replayed::Refused {
+                number: 14,
+                place: k,
+            };
+            return Ended {
+                reply,
+                threads,
                 items,
-            );
+            };
         }
-        Event::Stopped(k) => {
-            return ended_by(Replayed::CutOff(k), items);
+        Stand::Stopped(k) => {
+            let reply = Replayed::CutOff(k);
+            return Ended {
+                reply,
+                threads,
+                items,
+            };
         }
     }
     let note = shared.note;
     if note == 0 {
-        return ended_by(Replayed::Clean, items);
+        let reply = Replayed::Clean;
+        return Ended {
+            reply,
+            threads,
+            items,
+        };
     }
-    ended_by(Replayed::Violated(note), items)
-}
-
-fn ended_by(reply: Replayed, items: [u16; 12]) -> Ended
-    ensures { λ r. ⌜ r ≡ record { reply = reply; items = items } ⌝ }
-{
-    Ended { reply, items }
+    let reply = Replayed::Violated(note);
+    Ended {
+        reply,
+        threads,
+        items,
+    }
 }

@@ -2,9 +2,9 @@
 use mathlib.Core.Path.{_≡_}
 use Prim.Native.Nat.{_≤_, _-_}
 use native.Mathlib.Omega.{arith}
-use borrow.Author.Needs.{needs}
 use Rattle.run.specs.RunState.{firstItems}
 use Rattle.run.proofs.Starts.{items-none, items-more}
+use borrow.Author.Needs.{needs}
 use Rattle.run.proofs.first_items.Statement.{statement}
 use Rattle.run.proofs.first_items.Tie as tie
 
@@ -17,11 +17,8 @@ abbrev μ-loop : tie.MeasureT-loop
 loop-holds : tie.Need-loop-holds Inv-loop μ-loop
 loop-holds c = (search needs, items-none _)
 
-add-field-at : tie.Need-add-field-at Inv-loop μ-loop
-add-field-at c = search needs
-
-field-at-requires : tie.Need-field-at-requires Inv-loop μ-loop
-field-at-requires c κs = search needs
+initial-of-requires : tie.Need-initial-of-requires Inv-loop μ-loop
+initial-of-requires c κs = search needs
 
 mul-items : tie.Need-mul-items Inv-loop μ-loop
 mul-items c = search needs
@@ -36,7 +33,7 @@ loop-less : tie.Need-loop-less Inv-loop μ-loop
 loop-less c = search needs
 
 loop-again : tie.Need-loop-again Inv-loop μ-loop
-loop-again c = (search needs, items-more _ _ _ _ (omega arith) (c .before .before .loop .inv .1) (c .field-at .ensures))
+loop-again c = (search needs, items-more _ _ _ _ (omega arith) (c .before .before .loop .inv .1) (c .initial-of .ensures))
 
 returns : tie.Need-returns Inv-loop μ-loop
 returns c = let e : c .before .loop .g ≡ c .before .before .before .args .globals = omega arith in rw (← e) (c .before .loop .inv .1)
@@ -48,8 +45,7 @@ first-items-spec =
     Inv-loop
     μ-loop
     loop-holds
-    add-field-at
-    field-at-requires
+    initial-of-requires
     mul-items
     array-write-items
     add-g
