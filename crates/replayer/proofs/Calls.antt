@@ -10,9 +10,9 @@ use lib.ListN.{getD, set, length, take, drop}
 use lib.Seq.{set-at, drop-cons, take-suc, length-take-le}
 use borrow.Author.Tests.{le-leb, lt-leb, eq-eqb, ne-eqb}
 use Rattle.model.specs.Lists.{writtenOver}
-use Rattle.model.specs.CaseFile.{globalCount, mutexCount, switchCount, caseOf, itemCount}
+use Rattle.model.specs.CaseFile.{switchCount, caseOf, itemCount}
 use Rattle.model.specs.Accept.{verdict}
-use Rattle.model.specs.Machine.{Outcome, run, runBlocks, start}
+use Rattle.model.specs.Machine.{State, Outcome, refused14, cutOff, violated, clean, run}
 use Rattle.model.specs.Schedule.{allInputLines, scheduleSize, blockLengths, valueGiven, lengthsAddUp, runOf}
 use Rattle.model.specs.Answers.{onCase, answerOfRun, itemsAfter, afterReplayed, replayed, replayedInto}
 use Rattle.model.specs.declared.Verdict.the-variants as verdicts
@@ -21,8 +21,9 @@ use Rattle.model.specs.declared.Replayed.the-variants.{Violated, Clean, CutOff,
 use Rattle.laws.specs.Accepted.{Accepted}
 use Rattle.turn.specs.TurnState.{itemsOf, givenBy}
 use Rattle.run.specs.declared.Ended.{Ended}
-use Rattle.run.specs.Promises.{Replies}
+use Rattle.run.specs.Promises.{Leaves, Replies}
 use Rattle.replayer.specs.InputValues.{Inputs, putThreads, noInputs}
+use Rattle.replayer.specs.Promises.{outcomeIn, Ran}
 use Rattle.replayer.proofs.Values.{used-is, value-is}
 
 -- Values written one by one.
@@ -39,45 +40,42 @@ module _ (values slice : List ℕ) where
   unfolding writtenOver
   write-end items count g fits e is = rw (length-take-le count values fits, ← e) is
 
--- The run, from its start to what is written.
-module _ (bytes lengths givens : List ℕ) (e : Ended)
-    (replies : Replies bytes (runBlocks (caseOf bytes) (givenBy givens) 0 lengths (start (caseOf bytes)) 0) e)
-  where
-    same-outcome : runBlocks (caseOf bytes) (givenBy givens) 0 lengths (start (caseOf bytes)) 0 ≡ run (caseOf bytes) lengths (givenBy givens)
-    unfolding run
-    same-outcome = refl
+-- The run, to what is written.
+module _ (bytes lengths givens : List ℕ) (e : Ended) (replies : Replies bytes (outcomeIn bytes lengths givens) e) where
+  -- what is left of the run is what is written of it
+  writes : (outcome : Outcome) → Leaves bytes outcome (e .threads) (e .items) → (slice : List ℕ)
+      → afterReplayed (answerOfRun outcome) (itemsOf bytes (e .items)) slice ≡ afterReplayed (answerOfRun outcome) (itemsAfter outcome) slice
+  writes (refused14 k) left slice = refl
+  writes (cutOff k items) left slice = ap (λ (xs : List ℕ). writtenOver xs slice) left
+  writes (violated k s) left slice = ap (λ (x : State). writtenOver (x .items) slice) left
+  writes (clean s) left slice = ap (λ (x : State). writtenOver (x .items) slice) left
 
-    abbrev Ends : List ℕ → List ℕ → Type 0
-    Ends slice after =
-        (e .reply ≡ answerOfRun (run (caseOf bytes) lengths (givenBy givens)))
-        × (after ≡ afterReplayed (e .reply) (itemsAfter (run (caseOf bytes) lengths (givenBy givens))) slice)
+  ends : (slice after : List ℕ) (r : Replayed) → e .reply ≡ r → after ≡ afterReplayed r (itemsOf bytes (e .items)) slice → Ran bytes lengths givens slice (e .reply) after
+  ends slice after r er is = record {
+    answer = replies .reply;
+    written = rw (replies .reply) (is ∙ ap (λ (x : Replayed). afterReplayed x (itemsOf bytes (e .items)) slice) (sym er ∙ replies .reply)
+        ∙ writes (outcomeIn bytes lengths givens) (replies .left) slice);
+  }
 
-    ends : (slice after : List ℕ) → after ≡ afterReplayed (e .reply) (itemsOf bytes (e .items)) slice → Ends slice after
-    ends slice after is = (
-      replies .reply ∙ ap answerOfRun same-outcome,
-      is ∙ replies .items slice ∙ ap (λ (x : Outcome). afterReplayed (e .reply) (itemsAfter x) slice) same-outcome,
-    )
+  pub ends-refused : (slice : List ℕ) (number place : ℕ) → e .reply ≡ Refused number place → Ran bytes lengths givens slice (e .reply) slice
+  ends-refused slice number place r = ends slice slice (Refused number place) r refl
 
-    pub ends-refused : (slice : List ℕ) (number place : ℕ) → e .reply ≡ Refused number place → Ends slice slice
-    ends-refused slice number place r = ends slice slice (sym (ap (λ (x : Replayed). afterReplayed x (itemsOf bytes (e .items)) slice) r))
+  -- the replies with which the items are written
+  abbrev pub Writes : Replayed → Type 0
+  Writes (Violated k) = Unit {0}
+  Writes Clean = Unit {0}
+  Writes (CutOff k) = Unit {0}
+  Writes (Refused number place) = ⊥
 
-    -- the replies with which the items are written
-    abbrev pub Writes : Replayed → Type 0
-    Writes (Violated k) = Unit {0}
-    Writes Clean = Unit {0}
-    Writes (CutOff k) = Unit {0}
-    Writes (Refused number place) = ⊥
-
-    pub ends-written : (slice after : List ℕ) (globals mutexes : ℕ) (r : Replayed) → globals ≡ globalCount bytes → mutexes ≡ mutexCount bytes
-        → e .reply ≡ r → Writes r → after ≡ writtenOver (take (globals + mutexes) (e .items)) slice → Ends slice after
-    ends-written slice after globals mutexes r eg em er w is =
-        ends slice after (rw (eg, em) at is ∙ sym (go r w) ∙ sym (ap (λ (x : Replayed). afterReplayed x (itemsOf bytes (e .items)) slice) er))
-      where
-        go : (x : Replayed) → Writes x → afterReplayed x (itemsOf bytes (e .items)) slice ≡ writtenOver (itemsOf bytes (e .items)) slice
-        go (Violated k) u = refl
-        go Clean u = refl
-        go (CutOff k) u = refl
-        go (Refused number place) u = absurd u
+  pub ends-written : (slice after : List ℕ) (count : ℕ) (r : Replayed) → count ≡ itemCount (caseOf bytes) → e .reply ≡ r → Writes r
+      → after ≡ writtenOver (take count (e .items)) slice → Ran bytes lengths givens slice (e .reply) after
+  ends-written slice after count r ec er w is = ends slice after r er (rw ec at is ∙ sym (go r w))
+    where
+      go : (x : Replayed) → Writes x → afterReplayed x (itemsOf bytes (e .items)) slice ≡ writtenOver (itemsOf bytes (e .items)) slice
+      go (Violated k) u = refl
+      go Clean u = refl
+      go (CutOff k) u = refl
+      go (Refused number place) u = absurd u
 
 -- The answer, and the slice after the call.
 module _ (bytes schedule slice : List ℕ) where
@@ -93,20 +91,20 @@ module _ (bytes schedule slice : List ℕ) where
   unfolding replayed onCase
   answers-refused number place e = answers (Refused number place) slice (rw e) refl
 
-  module _ (ok : Accepted bytes) (accepted : verdict bytes ≡ verdicts.Accepted) (switches globals mutexes : ℕ)
-      (is-switches : switches ≡ switchCount bytes) (is-globals : globals ≡ globalCount bytes) (is-mutexes : mutexes ≡ mutexCount bytes)
+  module _ (ok : Accepted bytes) (accepted : verdict bytes ≡ verdicts.Accepted) (switches count : ℕ)
+      (is-switches : switches ≡ switchCount bytes) (is-count : count ≡ itemCount (caseOf bytes))
     where
-      pub answers-10 : length slice < globals + mutexes → Answers (Refused 10 0) slice
+      pub answers-10 : length slice < count → Answers (Refused 10 0) slice
       unfolding replayed onCase
       answers-10 short =
           answers (Refused 10 0) slice
-          (rw (accepted, lt-leb (itemCount (caseOf bytes)) (length slice) (omega (arith, short, is-globals, is-mutexes)))) refl
+          (rw (accepted, lt-leb (itemCount (caseOf bytes)) (length slice) (omega (arith, short, is-count)))) refl
 
-      module _ (room : globals + mutexes ≤ length slice) (f : Inputs)
+      module _ (room : count ≤ length slice) (f : Inputs)
           (is-spread : f ≡ putThreads schedule (caseOf bytes .threads) (noInputs (switches + 1)))
         where
           enough : itemCount (caseOf bytes) ≤ length slice
-          enough = omega (arith, room, is-globals, is-mutexes)
+          enough = omega (arith, room, is-count)
 
           size-is : f .used ≡ scheduleSize (caseOf bytes)
           size-is = ap (λ (x : Inputs). x .used) is-spread ∙ used-is bytes schedule (switches + 1)
@@ -150,12 +148,9 @@ module _ (bytes schedule slice : List ℕ) where
                 ∙ value-is bytes schedule (switches + 1) ok (whole ∙ ap (λ (x : Inputs). x .used) is-spread ∙ used-is bytes schedule (switches + 1)) k
                 ∙ ap (λ (x : ℕ). valueGiven (allInputLines (caseOf bytes .threads)) (drop x schedule) k) blocks))
 
-            pub answers-run : (r : Replayed) (after : List ℕ) → sums ≡ true
-                → r ≡ answerOfRun (run (caseOf bytes) (take (switches + 1) schedule) (givenBy (f .given)))
-                → after ≡ afterReplayed r (itemsAfter (run (caseOf bytes) (take (switches + 1) schedule) (givenBy (f .given)))) slice
-                → Answers r after
+            pub answers-run : (r : Replayed) (after : List ℕ) → sums ≡ true → Ran bytes (take (switches + 1) schedule) (f .given) slice r after → Answers r after
             unfolding replayed onCase
-            answers-run r after pass er is =
+            answers-run r after pass ran =
                 answers r after
                 (rw (
                   accepted,
@@ -164,5 +159,5 @@ module _ (bytes schedule slice : List ℕ) where
                   ← sums-are,
                   pass,
                 )
-                (er ∙ ap answerOfRun same-run))
-                (is ∙ ap (λ (x : Outcome). afterReplayed r (itemsAfter x) slice) same-run)
+                (ran .answer ∙ ap answerOfRun same-run))
+                (ran .written ∙ ap (λ (x : Outcome). afterReplayed r (itemsAfter x) slice) same-run)

@@ -7,16 +7,15 @@ use mathlib.Core.List.{List, [], _∷_}
 use native.Mathlib.Omega.{arith}
 use lib.ListN.{length, getD, set, replicate, length-set}
 use lib.Seq.{getD-set-same, getD-set-other}
-use Rattle.model.specs.CaseFile.{Line, records, threadCount, firstRecord, nextRecord, lineOf, kindOf, chains, caseOf, linesOf}
+use Rattle.model.specs.Limits.{mostThreads, mostLines}
+use Rattle.model.specs.CaseFile.{Line, records, threadCount, firstRecord, nextRecord, recordField, lineOf, kindOf, chains, caseOf, linesOf}
 use Rattle.model.specs.Line.{isInput}
-use Rattle.laws.specs.Accepted.{Accepted, linesFrom}
+use Rattle.laws.specs.Accepted.{Accepted, threadLines, linesFrom}
 use Rattle.laws.proofs.Chains.{threads-are, linesFrom-end}
 use Rattle.laws.proofs.Views.{EqView, same, diff, eq-view}
 use Rattle.laws.proofs.Lines.{few-lines-from}
-use Rattle.case_file.specs.declared.Record.{Record}
-use Rattle.case_file.specs.Records.{recordOf}
 use Rattle.line.proofs.KindNumbers.{input-other}
-use Rattle.replayer.specs.InputValues.{Inputs, putNext, putLines, putThreads}
+use Rattle.replayer.specs.InputValues.{Inputs, putNext, putLines, putThreads, ThreadPut, AllPut}
 
 module _ (schedule : List ℕ) (kind k : ℕ) (f f' : Inputs) where
   pub next-is-input : (v : ℕ) → kind ≡ 4 → v ≡ getD schedule (f .used) 0 → f' .given ≡ set (f .given) k v → f' .used ≡ f .used + 1
@@ -45,9 +44,9 @@ lines-used schedule (l ∷ ls) f =
 -- Within thread t, at record k.
 pub record Putting (bytes schedule : List ℕ) (t : ℕ) (f₀ : Inputs) (k : ℕ) (f : Inputs) (lines : ℕ) : Type 0 where
   pub inside : k ≤ records bytes
-  pub does : putLines schedule (linesFrom bytes t k) f ≡ putLines schedule (linesFrom bytes t (firstRecord bytes t)) f₀
-  pub fits : f .used + length (linesFrom bytes t k) ≤ f₀ .used + 64
-  pub counted : lines + length (linesFrom bytes t k) ≡ length (linesFrom bytes t (firstRecord bytes t))
+  pub does : putLines schedule (linesFrom bytes t k) f ≡ putLines schedule (threadLines bytes t) f₀
+  pub fits : f .used + length (linesFrom bytes t k) ≤ f₀ .used + mostLines
+  pub counted : lines + length (linesFrom bytes t k) ≡ length (threadLines bytes t)
 
 module _ (bytes schedule : List ℕ) (t : ℕ) (f₀ : Inputs) (ok : Accepted bytes) (thread : t < threadCount bytes) where
   pub putting-start : (first : ℕ) → first ≡ firstRecord bytes t → Putting bytes schedule t f₀ first f₀ 0
@@ -59,83 +58,79 @@ module _ (bytes schedule : List ℕ) (t : ℕ) (f₀ : Inputs) (ok : Accepted by
   })
 
   module _ (k : ℕ) (f : Inputs) (lines : ℕ) (p : Putting bytes schedule t f₀ k f lines) where
-    pub putting-end : k ≡ 0 → f ≡ putLines schedule (linesFrom bytes t (firstRecord bytes t)) f₀
+    pub putting-end : k ≡ 0 → ThreadPut bytes schedule t f₀ f lines
     unfolding putLines
-    putting-end e = sym (ap (λ (ls : List Line). putLines schedule ls f) (ap (linesFrom bytes t) e ∙ linesFrom-end bytes t)) ∙ p .does
+    putting-end e =
+        let none : linesFrom bytes t k ≡ [] = ap (linesFrom bytes t) e ∙ linesFrom-end bytes t in
+        record { values = sym (ap (λ (ls : List Line). putLines schedule ls f) none) ∙ p .does; counted = omega (arith, p .counted, ap length none) }
 
-    pub lines-end : k ≡ 0 → lines ≡ length (linesFrom bytes t (firstRecord bytes t))
-    lines-end e = omega (arith, p .counted, ap length (ap (linesFrom bytes t) e ∙ linesFrom-end bytes t))
-
-    module _ (some : k ≡ 0 → ⊥) (l : Record) (is-record : l ≡ recordOf bytes k) where
+    module _ (some : k ≡ 0 → ⊥) (next : ℕ) (is-next : next ≡ nextRecord bytes k) where
       lines-are : linesFrom bytes t k ≡ lineOf bytes t k ∷ linesFrom bytes t (nextRecord bytes k)
       lines-are = ok .lines-go-on t k (omega arith) (p .inside)
 
-      next-is : l .next ≡ nextRecord bytes k
-      next-is = ap (λ (x : Record). x .next) is-record
+      pub fewer-lines : length (linesFrom bytes t next) < length (linesFrom bytes t k)
+      fewer-lines = rw is-next (omega (arith, ap length lines-are))
 
-      put-is : (f' : Inputs) → f' ≡ putNext schedule (isInput (kindOf (l .kind))) k f
-          → f' ≡ putNext schedule (isInput (lineOf bytes t k .kind)) k f
-      put-is f' is-next = is-next ∙ ap (λ (x : Record). putNext schedule (isInput (kindOf (x .kind))) k f) is-record
-
-      pub fewer-lines : length (linesFrom bytes t (l .next)) < length (linesFrom bytes t k)
-      fewer-lines = rw next-is (omega (arith, ap length lines-are))
-
-      pub putting-more : (f' : Inputs) → f' ≡ putNext schedule (isInput (kindOf (l .kind))) k f → Putting bytes schedule t f₀ (l .next) f' (lines + 1)
+      pub putting-more : (kind : ℕ) (f' : Inputs) → kind ≡ recordField bytes k 1 → f' ≡ putNext schedule (isInput (kindOf kind)) k f
+          → Putting bytes schedule t f₀ next f' (lines + 1)
       unfolding putLines
-      putting-more f' is-next = rw next-is (record {
-        inside = ok .nexts k (omega arith) (p .inside);
-        does = ap (putLines schedule (linesFrom bytes t (nextRecord bytes k))) (put-is f' is-next)
-            ∙ sym (ap (λ (ls : List Line). putLines schedule ls f) lines-are) ∙ p .does;
-        fits = omega (arith, p .fits, ap length lines-are, ap (λ (x : Inputs). x .used) (put-is f' is-next), next-used schedule (isInput (lineOf bytes t k .kind)) k f);
-        counted = omega (arith, p .counted, ap length lines-are);
-      })
+      putting-more kind f' is-kind is-f' =
+          let is : f' ≡ putNext schedule (isInput (lineOf bytes t k .kind)) k f = rw is-kind at is-f' in
+          rw is-next (record {
+            inside = ok .nexts k (omega arith) (p .inside);
+            does = ap (putLines schedule (linesFrom bytes t (nextRecord bytes k))) is
+                ∙ sym (ap (λ (ls : List Line). putLines schedule ls f) lines-are) ∙ p .does;
+            fits = omega (arith, p .fits, ap length lines-are, ap (λ (x : Inputs). x .used) is, next-used schedule (isInput (lineOf bytes t k .kind)) k f);
+            counted = omega (arith, p .counted, ap length lines-are);
+          })
 
 -- At thread t, with so many threads left.
 pub record Spreading (bytes schedule : List ℕ) (f₀ : Inputs) (t : ℕ) (f : Inputs) (lines : List ℕ) : Type 0 where
   pub does : putThreads schedule (chains bytes t (threadCount bytes - t)) f ≡ putThreads schedule (caseOf bytes .threads) f₀
-  pub fits : f .used ≤ f₀ .used + 64 * t
-  pub four : length lines ≡ 4
+  pub fits : f .used ≤ f₀ .used + mostLines * t
+  pub has-all : length lines ≡ mostThreads
   pub counted : (u : ℕ) → u < t → getD lines u 0 ≡ length (linesOf (caseOf bytes) u)
 
 module _ (bytes schedule : List ℕ) (f₀ : Inputs) (ok : Accepted bytes) where
-  pub spreading-start : Spreading bytes schedule f₀ 0 f₀ (replicate 4 0)
+  pub spreading-start : Spreading bytes schedule f₀ 0 f₀ (replicate mostThreads 0)
   spreading-start =
       let all : threadCount bytes - 0 ≡ threadCount bytes = omega arith in
       record {
         does = ap (λ (x : ℕ). putThreads schedule (chains bytes 0 x) f₀) all;
         fits = omega arith;
-        four = refl;
+        has-all = refl;
         counted = λ u h. absurd (omega arith);
       }
 
   module _ (t : ℕ) (f : Inputs) (lines : List ℕ) (s : Spreading bytes schedule f₀ t f lines) where
-    pub spreading-end : threadCount bytes ≤ t → f ≡ putThreads schedule (caseOf bytes .threads) f₀
+    pub spreading-end : threadCount bytes ≤ t → AllPut bytes schedule f₀ f lines
     unfolding putThreads chains
-    spreading-end over = let none : threadCount bytes - t ≡ 0 = omega arith in
-        sym (ap (λ (x : ℕ). putThreads schedule (chains bytes t x) f) none) ∙ s .does
+    spreading-end over =
+        let none : threadCount bytes - t ≡ 0 = omega arith in
+        record { values = sym (ap (λ (x : ℕ). putThreads schedule (chains bytes t x) f) none) ∙ s .does; counted = λ u h. s .counted u (omega arith) }
 
-    pub spreading-more : (f' : Inputs) (many : ℕ) → t < threadCount bytes → f' ≡ putLines schedule (linesFrom bytes t (firstRecord bytes t)) f
-        → many ≡ length (linesFrom bytes t (firstRecord bytes t)) → Spreading bytes schedule f₀ (t + 1) f' (set lines t many)
+    pub spreading-more : (f' : Inputs) (many : ℕ) → t < threadCount bytes → ThreadPut bytes schedule t f f' many
+        → Spreading bytes schedule f₀ (t + 1) f' (set lines t many)
     unfolding putThreads chains
-    spreading-more f' many more is are =
+    spreading-more f' many more put =
         let less : threadCount bytes - t ≡ suc (threadCount bytes - suc t) = omega arith in
         let next : t + 1 ≡ suc t = omega arith in
         record {
-          does = rw next (ap (putThreads schedule (chains bytes (suc t) (threadCount bytes - suc t))) is
+          does = rw next (ap (putThreads schedule (chains bytes (suc t) (threadCount bytes - suc t))) (put .values)
               ∙ sym (ap (λ (x : ℕ). putThreads schedule (chains bytes t x) f) less) ∙ s .does);
           fits = omega (
             arith,
             s .fits,
-            ap (λ (x : Inputs). x .used) is,
-            lines-used schedule (linesFrom bytes t (firstRecord bytes t)) f,
+            ap (λ (x : Inputs). x .used) (put .values),
+            lines-used schedule (threadLines bytes t) f,
             few-lines-from bytes ok t (firstRecord bytes t) (ok .firsts t more),
           );
-          four = length-set lines t many ∙ s .four;
+          has-all = length-set lines t many ∙ s .has-all;
           counted = λ u h. count u h (eq-view u t);
         }
       where
         count : (u : ℕ) → u < t + 1 → EqView u t → getD (set lines t many) u 0 ≡ length (linesOf (caseOf bytes) u)
         count u h (same e q) =
-            ap (λ (x : ℕ). getD (set lines t many) x 0) e ∙ getD-set-same lines t many 0 (omega (arith, s .four, ok .few-threads))
-            ∙ are ∙ sym (ap length (threads-are bytes t more)) ∙ ap (λ (x : ℕ). length (linesOf (caseOf bytes) x)) (sym e)
+            ap (λ (x : ℕ). getD (set lines t many) x 0) e ∙ getD-set-same lines t many 0 (omega (arith, s .has-all, ok .few-threads))
+            ∙ put .counted ∙ sym (ap length (threads-are bytes t more)) ∙ ap (λ (x : ℕ). length (linesOf (caseOf bytes) x)) (sym e)
         count u h (diff e q) = getD-set-other lines t u many 0 e ∙ s .counted u (omega arith)

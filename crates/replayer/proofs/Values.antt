@@ -9,6 +9,7 @@ use lib.Dec.{eqb}
 use lib.ListN.{getD, set, length, drop, replicate, length-set, length-replicate, getD-replicate, List·getD-eq-default}
 use lib.Seq.{getD-set-same, getD-set-other, drop-cons}
 use borrow.Author.Tests.{eq-eqb}
+use Rattle.model.specs.Limits.{recordPlaces}
 use Rattle.model.specs.CaseFile.{Line, records, caseOf, sumOfLines, sumOfThreads, hasNumber}
 use Rattle.model.specs.Line.{isInput}
 use Rattle.model.specs.Schedule.{inputLines, allInputLines, valueGiven}
@@ -81,9 +82,9 @@ value-of-none (l ∷ ls) (x ∷ values) k other h = go (eq-view (l .number) k) (
 -- every record number has a place
 abbrev AllSmall : List Line → Type 0
 AllSmall [] = Unit
-AllSmall (l ∷ ls) = (l .number < 257) × AllSmall ls
+AllSmall (l ∷ ls) = (l .number < recordPlaces) × AllSmall ls
 
-puts-value : (schedule : List ℕ) (ls : List Line) (f : Inputs) (k : ℕ) → length (f .given) ≡ 257 → f .used + length ls ≤ length schedule
+puts-value : (schedule : List ℕ) (ls : List Line) (f : Inputs) (k : ℕ) → length (f .given) ≡ recordPlaces → f .used + length ls ≤ length schedule
     → AllSmall ls → sumOfLines (hasNumber k) ls ≤ 1
     → getD (puts schedule ls f .given) k 0 ≡ valueOr ls (drop (f .used) schedule) k (getD (f .given) k 0)
 puts-value schedule [] f k places enough small once = refl
@@ -128,17 +129,17 @@ all-inputs-among weight [] = omega arith
 all-inputs-among weight (ls ∷ threads) =
     omega (arith, sum-append weight (inputLines ls) (allInputLines threads), inputs-among weight ls, all-inputs-among weight threads)
 
-small-numbers : (ls : List Line) → ((k : ℕ) → 0 < sumOfLines (hasNumber k) ls → k < 257) → AllSmall ls
+small-numbers : (ls : List Line) → ((k : ℕ) → 0 < sumOfLines (hasNumber k) ls → k < recordPlaces) → AllSmall ls
 small-numbers [] h = tt
 small-numbers (l ∷ ls) h =
     (h (l .number) (rw (eq-eqb (l .number) (l .number) refl) (omega arith)), small-numbers ls (λ k found. h k (omega (arith, found))))
 
-no-value : (k : ℕ) → getD {A = ℕ} (replicate 257 0) k 0 ≡ 0
-no-value k = go (lt-view k 257)
+no-value : (k : ℕ) → getD {A = ℕ} (replicate recordPlaces 0) k 0 ≡ 0
+no-value k = go (lt-view k recordPlaces)
   where
-    go : LtView k 257 → getD {A = ℕ} (replicate 257 0) k 0 ≡ 0
-    go (below h q) = getD-replicate 257 k 0 0 h
-    go (above h q) = List·getD-eq-default (replicate 257 0) 0 {n = k} (omega (arith, h, length-replicate {A = ℕ} 257 0))
+    go : LtView k recordPlaces → getD {A = ℕ} (replicate recordPlaces 0) k 0 ≡ 0
+    go (below h q) = getD-replicate recordPlaces k 0 0 h
+    go (above h q) = List·getD-eq-default (replicate recordPlaces 0) 0 {n = k} (omega (arith, h, length-replicate {A = ℕ} recordPlaces 0))
 
 module _ (bytes schedule : List ℕ) (lengths : ℕ) where
   abbrev lines : List Line
@@ -156,7 +157,7 @@ module _ (bytes schedule : List ℕ) (lengths : ℕ) where
       let among : (j : ℕ) → sumOfLines (hasNumber j) lines ≤ sumOfThreads (hasNumber j) (caseOf bytes .threads) =
       λ j. all-inputs-among (hasNumber j) (caseOf bytes .threads) in
       ap (λ (x : Inputs). getD (x .given) k 0) (threads-put schedule (caseOf bytes .threads) (noInputs lengths))
-      ∙ puts-value schedule lines (noInputs lengths) k (length-replicate {A = ℕ} 257 0) (omega arith)
+      ∙ puts-value schedule lines (noInputs lengths) k (length-replicate {A = ℕ} recordPlaces 0) (omega arith)
       (small-numbers lines (λ j found. omega (arith, ok .few-records, numbers-within bytes ok j (omega (arith, found, among j)) .1)))
       (omega (arith, numbers-once bytes ok k, among k))
       ∙ ap (valueOr lines (drop lengths schedule) k) (no-value k)
@@ -169,10 +170,10 @@ lengths-fit bytes schedule lengths f is whole = omega (arith, whole, ap (λ (x :
 
 -- Every record number has a place among the values.
 pub places : (bytes schedule : List ℕ) (lengths : ℕ) (f : Inputs) → f ≡ putThreads schedule (caseOf bytes .threads) (noInputs lengths)
-    → length (f .given) ≡ 257
+    → length (f .given) ≡ recordPlaces
 places bytes schedule lengths f is =
     ap (λ (x : Inputs). length (x .given)) (is ∙ threads-put schedule (caseOf bytes .threads) (noInputs lengths))
-    ∙ puts-places schedule (allInputLines (caseOf bytes .threads)) (noInputs lengths) ∙ length-replicate {A = ℕ} 257 0
+    ∙ puts-places schedule (allInputLines (caseOf bytes .threads)) (noInputs lengths) ∙ length-replicate {A = ℕ} recordPlaces 0
 
 pub records-have-places : (bytes schedule : List ℕ) (lengths : ℕ) (f : Inputs) → Accepted bytes
     → f ≡ putThreads schedule (caseOf bytes .threads) (noInputs lengths) → records bytes < length (f .given)

@@ -1,20 +1,20 @@
 -- `replayer::inputs_of` meets its contract. The invariant: the threads that are left decide. Assumes nothing.
 use Prim.Native.Nat.{_-_}
 use native.Mathlib.Omega.{arith}
-use borrow.Author.Needs.{needs}
+use Rattle.replayer.specs.InputValues.{inputs}
 use Rattle.replayer.proofs.Spreads.{Spreading, spreading-start, spreading-more, spreading-end}
+use borrow.Author.Needs.{needs}
 use Rattle.replayer.proofs.inputs_of.Statement.{statement}
 use Rattle.replayer.proofs.inputs_of.Tie as tie
 
 abbrev Inv-loop : tie.InvT-loop
-Inv-loop case schedule lengths given₀ threads lines₀ used₀ t₀ given lines used t =
-    Spreading case schedule (record { given = given₀; used = lengths }) t (record { given = given; used = used }) lines
+Inv-loop case schedule lengths given₀ threads lines₀ used₀ t₀ given lines used t = Spreading case schedule (inputs given₀ lengths) t (inputs given used) lines
 
 abbrev μ-loop : tie.MeasureT-loop
 μ-loop case schedule lengths given₀ threads lines₀ used₀ t₀ given lines used t = threads - t
 
-field-at-requires : tie.Need-field-at-requires Inv-loop μ-loop
-field-at-requires c κs = search needs
+threads-requires : tie.Need-threads-requires Inv-loop μ-loop
+threads-requires c κs = search needs
 
 cast-threads : tie.Need-cast-threads Inv-loop μ-loop
 cast-threads c = search needs
@@ -23,13 +23,13 @@ loop-holds : tie.Need-loop-holds Inv-loop μ-loop
 loop-holds c = spreading-start _ _ _ (c .before .before .before .pre .0)
 
 put-thread-requires : tie.Need-put-thread-requires Inv-loop μ-loop
-put-thread-requires c κs = (c .before .before .before .before .before .before .pre .0, (omega (arith, c .before .before .before .field-at .ensures), omega (arith, c .before .before .before .field-at .ensures, c .before .before .loop .inv .fits, c .before .before .before .before .before .before .pre .1, c .before .before .before .before .before .before .pre .0 .few-threads)))
+put-thread-requires c κs = (c .before .before .before .before .before .before .pre .0, (omega (arith, c .before .before .before .threads .ensures), omega (arith, c .before .before .before .threads .ensures, c .before .before .loop .inv .fits, c .before .before .before .before .before .before .pre .1, c .before .before .before .before .before .before .pre .0 .few-threads)))
 
 mul-lines : tie.Need-mul-lines Inv-loop μ-loop
-mul-lines c = omega (arith, c .before .before .before .before .field-at .ensures, c .before .before .before .before .before .before .before .pre .0 .few-threads)
+mul-lines c = omega (arith, c .before .before .before .before .threads .ensures, c .before .before .before .before .before .before .before .pre .0 .few-threads)
 
 array-write-lines : tie.Need-array-write-lines Inv-loop μ-loop
-array-write-lines c = omega (arith, c .before .before .before .before .field-at .ensures, c .before .before .before .before .before .before .before .pre .0 .few-threads)
+array-write-lines c = omega (arith, c .before .before .before .before .threads .ensures, c .before .before .before .before .before .before .before .pre .0 .few-threads)
 
 add-t : tie.Need-add-t Inv-loop μ-loop
 add-t c = search needs
@@ -38,11 +38,10 @@ loop-less : tie.Need-loop-less Inv-loop μ-loop
 loop-less c = search needs
 
 loop-again : tie.Need-loop-again Inv-loop μ-loop
-loop-again c = spreading-more _ _ _ (c .before .before .before .before .before .before .before .pre .0) _ _ _ (c .before .before .before .loop .inv) _ _ (omega (arith, c .before .before .before .before .field-at .ensures)) (c .put-thread .ensures .0) (c .put-thread .ensures .1)
+loop-again c = spreading-more _ _ _ (c .before .before .before .before .before .before .before .pre .0) _ _ _ (c .before .before .before .loop .inv) _ _ (omega (arith, c .before .before .before .before .threads .ensures)) (c .put-thread .ensures)
 
 returns : tie.Need-returns Inv-loop μ-loop
-returns c =
-    (spreading-end _ _ _ (c .before .before .before .before .before .pre .0) _ _ _ (c .before .loop .inv) (omega (arith, c .before .before .field-at .ensures)), λ t h. c .before .loop .inv .counted t (omega (arith, h, c .before .before .field-at .ensures)))
+returns c = spreading-end _ _ _ (c .before .before .before .before .before .pre .0) _ _ _ (c .before .loop .inv) (omega (arith, c .before .before .threads .ensures))
 
 pub inputs-of-spec : {M : Type 1} → statement M
 inputs-of-spec =
@@ -50,7 +49,7 @@ inputs-of-spec =
     (tie.spec
     Inv-loop
     μ-loop
-    field-at-requires
+    threads-requires
     cast-threads
     loop-holds
     put-thread-requires

@@ -1,17 +1,17 @@
 -- `replayer::put_thread` meets its contract. The invariant: the lines that are left decide. Assumes nothing.
 use mathlib.Core.Logic.{⊎-elim}
 use native.Mathlib.Omega.{arith}
-use borrow.Author.Needs.{needs}
 use lib.ListN.{length}
 use Rattle.laws.specs.Accepted.{linesFrom}
 use Rattle.laws.proofs.Lines.{few-lines-from}
-use Rattle.replayer.proofs.Spreads.{Putting, putting-start, putting-more, putting-end, lines-end, fewer-lines, next-is-input, next-is-other}
+use Rattle.replayer.specs.InputValues.{inputs}
+use Rattle.replayer.proofs.Spreads.{Putting, putting-start, putting-more, putting-end, fewer-lines, next-is-input, next-is-other}
+use borrow.Author.Needs.{needs}
 use Rattle.replayer.proofs.put_thread.Statement.{statement}
 use Rattle.replayer.proofs.put_thread.Tie as tie
 
 abbrev Inv-loop : tie.InvT-loop
-Inv-loop case schedule t start given₀ k₀ used₀ lines₀ given k used lines =
-    Putting case schedule t (record { given = given₀; used = start }) k (record { given = given; used = used }) lines
+Inv-loop case schedule t start given₀ k₀ used₀ lines₀ given k used lines = Putting case schedule t (inputs given₀ start) k (inputs given used) lines
 
 abbrev μ-loop : tie.MeasureT-loop
 μ-loop case schedule t start given₀ k₀ used₀ lines₀ given k used lines = length (linesFrom case t k)
@@ -22,38 +22,35 @@ first-of-requires c κs = search needs
 loop-holds : tie.Need-loop-holds Inv-loop μ-loop
 loop-holds c = putting-start _ _ _ _ (c .before .before .before .pre .0) (c .before .before .before .pre .1 .0) _ (c .first-of .ensures)
 
-record-at-requires : tie.Need-record-at-requires Inv-loop μ-loop
-record-at-requires c κs = (omega arith, omega (arith, c .before .loop .inv .inside, c .before .before .before .before .before .pre .0 .size))
+kind-of-requires : tie.Need-kind-of-requires Inv-loop μ-loop
+kind-of-requires c κs = (omega arith, omega (arith, c .before .loop .inv .inside, c .before .before .before .before .before .pre .0 .size))
 
 at-requires : tie.Need-at-requires Inv-loop μ-loop
 at-requires c κs = search needs
 
 mul-given : tie.Need-mul-given Inv-loop μ-loop
-mul-given c = omega (arith, c .before .before .before .before .before .loop .inv .inside, c .before .before .before .before .before .before .before .before .before .pre .0 .few-records)
+mul-given c = omega (arith, c .before .before .before .before .loop .inv .inside, c .before .before .before .before .before .before .before .before .pre .0 .few-records)
 
 element-write-given : tie.Need-element-write-given Inv-loop μ-loop
-element-write-given c = omega (arith, c .before .before .before .before .before .loop .inv .inside, c .before .before .before .before .before .before .before .before .before .pre .0 .few-records)
+element-write-given c = omega (arith, c .before .before .before .before .loop .inv .inside, c .before .before .before .before .before .before .before .before .pre .0 .few-records)
 
 add-used : tie.Need-add-used Inv-loop μ-loop
-add-used c = omega (arith, c .before .before .before .before .before .loop .inv .fits, c .before .before .before .before .before .before .before .before .before .pre .1 .1)
+add-used c = omega (arith, c .before .before .before .before .loop .inv .fits, c .before .before .before .before .before .before .before .before .pre .1 .1)
 
 add-lines : tie.Need-add-lines Inv-loop μ-loop
-add-lines c = omega (arith, c .before .before .before .before .loop .inv .counted, few-lines-from _ (c .before .before .before .before .before .before .before .before .pre .0) (c .before .before .before .before .before .before .before .before .args .t) _ (c .before .before .before .before .before .before .before .before .pre .0 .firsts _ (c .before .before .before .before .before .before .before .before .pre .1 .0)))
+add-lines c = omega (arith, c .before .before .before .loop .inv .counted, few-lines-from _ (c .before .before .before .before .before .before .before .pre .0) (c .before .before .before .before .before .before .before .args .t) _ (c .before .before .before .before .before .before .before .pre .0 .firsts _ (c .before .before .before .before .before .before .before .pre .1 .0)))
 
-cast-k : tie.Need-cast-k Inv-loop μ-loop
-cast-k c = search needs
+next-of-requires : tie.Need-next-of-requires Inv-loop μ-loop
+next-of-requires c κs = (omega arith, omega (arith, c .before .before .before .loop .inv .inside, c .before .before .before .before .before .before .before .pre .0 .size))
 
 loop-less : tie.Need-loop-less Inv-loop μ-loop
-loop-less c = fewer-lines _ _ _ _ (c .before .before .before .before .before .before .before .before .before .pre .0) (c .before .before .before .before .before .before .before .before .before .pre .1 .0) _ _ _ (c .before .before .before .before .before .loop .inv) (c .before .before .before .before .loop-test .taken) _ (c .before .before .before .record-at .ensures)
+loop-less c = fewer-lines _ _ _ _ (c .before .before .before .before .before .before .before .before .pre .0) (c .before .before .before .before .before .before .before .before .pre .1 .0) _ _ _ (c .before .before .before .before .loop .inv) (c .before .before .before .loop-test .taken) _ (c .next-of .ensures)
 
 loop-again : tie.Need-loop-again Inv-loop μ-loop
-loop-again c =
-    putting-more _ _ _ _ (c .before .before .before .before .before .before .before .before .before .pre .0) (c .before .before .before .before .before .before .before .before .before .pre .1 .0) _ _ _ (c .before .before .before .before .before .loop .inv) (c .before .before .before .before .loop-test .taken) _ (c .before .before .before .record-at .ensures) _
-    (⊎-elim (λ w. next-is-input _ _ _ _ _ _ (w .0 .taken) (w .1 .ensures) (w .2) (w .3)) (λ w. next-is-other _ _ _ _ _ (w .0 .left) (w .1) (w .2)) (c .before .if1 .came))
+loop-again c = putting-more _ _ _ _ (c .before .before .before .before .before .before .before .before .pre .0) (c .before .before .before .before .before .before .before .before .pre .1 .0) _ _ _ (c .before .before .before .before .loop .inv) (c .before .before .before .loop-test .taken) _ (c .next-of .ensures) _ _ (c .before .before .kind-of .ensures) (⊎-elim (λ w. next-is-input _ _ _ _ _ _ (w .0 .keys1) (w .1 .ensures) (w .2) (w .3)) (λ w. next-is-other _ _ _ _ _ (w .0 .rest .1) (w .1) (w .2)) (c .before .match .came))
 
 returns : tie.Need-returns Inv-loop μ-loop
-returns c =
-    (putting-end _ _ _ _ (c .before .before .before .before .before .pre .0) (c .before .before .before .before .before .pre .1 .0) _ _ _ (c .before .loop .inv) (c .loop-test .left), lines-end _ _ _ _ (c .before .before .before .before .before .pre .0) (c .before .before .before .before .before .pre .1 .0) _ _ _ (c .before .loop .inv) (c .loop-test .left))
+returns c = putting-end _ _ _ _ (c .before .before .before .before .before .pre .0) (c .before .before .before .before .before .pre .1 .0) _ _ _ (c .before .loop .inv) (c .loop-test .left)
 
 pub put-thread-spec : {M : Type 1} → statement M
 put-thread-spec =
@@ -63,13 +60,13 @@ put-thread-spec =
     μ-loop
     first-of-requires
     loop-holds
-    record-at-requires
+    kind-of-requires
     at-requires
     mul-given
     element-write-given
     add-used
     add-lines
-    cast-k
+    next-of-requires
     loop-less
     loop-again
     returns)

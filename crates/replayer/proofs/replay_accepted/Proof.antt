@@ -10,77 +10,68 @@ use borrow.Author.Needs.{needs}
 use Rattle.replayer.proofs.replay_accepted.Statement.{statement}
 use Rattle.replayer.proofs.replay_accepted.Tie as tie
 
-field-at-requires : tie.Need-field-at-requires
-field-at-requires c κs = search needs
+switches-requires : tie.Need-switches-requires
+switches-requires c κs = search needs
 
-cast-switches : tie.Need-cast-switches
-cast-switches c = search needs
-
-field-at-requires-2 : tie.Need-field-at-requires-2
-field-at-requires-2 c κs = search needs
-
-cast-globals : tie.Need-cast-globals
-cast-globals c = search needs
-
-field-at-requires-3 : tie.Need-field-at-requires-3
-field-at-requires-3 c κs = search needs
-
-cast-mutexes : tie.Need-cast-mutexes
-cast-mutexes c = search needs
-
-add-if1 : tie.Need-add-if1
-add-if1 c = search needs
-
-returns : tie.Need-returns
-returns c = answers-10 (c .before .before .before .before .before .before .before .args .case .now) (c .before .before .before .before .before .before .before .args .schedule .now) (c .before .before .before .before .before .before .before .args .items .now) (c .before .before .before .before .before .before .before .pre .0) (c .before .before .before .before .before .before .before .pre .1) _ _ _ (c .before .before .before .field-at .ensures) (c .before .before .field-at2 .ensures) (c .before .field-at3 .ensures) (c .if1 .taken)
+cast-blocks : tie.Need-cast-blocks
+cast-blocks c = search needs
 
 add-blocks : tie.Need-add-blocks
 add-blocks c = search needs
+
+items-requires : tie.Need-items-requires
+items-requires c κs = search needs
+
+returns : tie.Need-returns
+returns c = answers-10 (c .before .before .before .before .before .before .args .case .now) (c .before .before .before .before .before .before .args .schedule .now) (c .before .before .before .before .before .before .args .items .now) (c .before .before .before .before .before .before .pre .0) (c .before .before .before .before .before .before .pre .1) _ _ (c .before .before .switches .ensures) (c .before .items .ensures .0) (c .if1 .taken)
 
 inputs-of-requires : tie.Need-inputs-of-requires
 inputs-of-requires c κs = search needs
 
 returns-2 : tie.Need-returns-2
-returns-2 c = answers-12 (c .before .before .before .before .before .before .before .before .before .before .before .args .case .now) (c .before .before .before .before .before .before .before .before .before .before .before .args .schedule .now) (c .before .before .before .before .before .before .before .before .before .before .before .args .items .now) (c .before .before .before .before .before .before .before .before .before .before .before .pre .0) (c .before .before .before .before .before .before .before .before .before .before .before .pre .1) _ _ _ (c .before .before .before .before .before .before .before .field-at .ensures) (c .before .before .before .before .before .before .field-at2 .ensures) (c .before .before .before .before .before .field-at3 .ensures) (c .before .before .before .before .if1 .left) _ (c .before .before .inputs-of .ensures .0) (c .if2 .taken)
+returns-2 c =
+    let entry = c .before .before .before .before .before .before .before .before .before .before in
+    answers-12 (entry .args .case .now) (entry .args .schedule .now) (entry .args .items .now) (entry .pre .0) (entry .pre .1) _ _ (c .before .before .before .before .before .before .switches .ensures) (c .before .before .before .before .before .items .ensures .0) (c .before .before .before .before .if1 .left) _ (c .before .before .inputs-of .ensures .values) (c .if2 .taken)
 
 slice-aggregate-lengths : tie.Need-slice-aggregate-lengths
-slice-aggregate-lengths c = sym (length-take-le _ _ (lengths-fit _ _ _ _ (c .before .before .before .inputs-of .ensures .0) (c .before .if2 .left)))
+slice-aggregate-lengths c = sym (length-take-le _ _ (lengths-fit _ _ _ _ (c .before .before .before .inputs-of .ensures .values) (c .before .if2 .left)))
 
 lengths-add-up-requires : tie.Need-lengths-add-up-requires
 lengths-add-up-requires c κs =
-    ((c .before .before .before .before .before .before .before .before .before .before .before .before .pre .0, omega (arith, length-take-le (c .before .before .before .before .before .before .before .before .field-at .result + 1) (c .before .before .before .before .before .before .before .before .before .before .before .before .args .schedule .now) (lengths-fit _ _ _ _ (c .before .before .before .inputs-of .ensures .0) (c .before .if2 .left)), c .before .before .before .before .before .before .before .before .field-at .ensures, c .before .before .before .before .before .before .before .before .before .before .before .before .pre .0 .few-switches)), c .before .before .before .inputs-of .ensures .1)
+    let entry = c .before .before .before .before .before .before .before .before .before .before .before in
+    ((entry .pre .0, omega (arith, length-take-le (c .before .before .before .before .before .before .before .switches .result + 1) (entry .args .schedule .now) (lengths-fit _ _ _ _ (c .before .before .before .inputs-of .ensures .values) (c .before .if2 .left)), c .before .before .before .before .before .before .before .switches .ensures, entry .pre .0 .few-switches)), c .before .before .before .inputs-of .ensures .counted)
 
 returns-3 : tie.Need-returns-3
-returns-3 c = answers-13 (c .before .before .before .before .before .before .before .before .before .before .before .before .before .before .args .case .now) (c .before .before .before .before .before .before .before .before .before .before .before .before .before .before .args .schedule .now) (c .before .before .before .before .before .before .before .before .before .before .before .before .before .before .args .items .now) (c .before .before .before .before .before .before .before .before .before .before .before .before .before .before .pre .0) (c .before .before .before .before .before .before .before .before .before .before .before .before .before .before .pre .1) _ _ _ (c .before .before .before .before .before .before .before .before .before .before .field-at .ensures) (c .before .before .before .before .before .before .before .before .before .field-at2 .ensures) (c .before .before .before .before .before .before .before .before .field-at3 .ensures) (c .before .before .before .before .before .before .before .if1 .left) _ (c .before .before .before .before .before .inputs-of .ensures .0) (c .before .before .before .if2 .left) _ (c .before .lengths-add-up .ensures) (not-true _ (c .if3 .taken))
+returns-3 c =
+    let entry = c .before .before .before .before .before .before .before .before .before .before .before .before .before in
+    answers-13 (entry .args .case .now) (entry .args .schedule .now) (entry .args .items .now) (entry .pre .0) (entry .pre .1) _ _ (c .before .before .before .before .before .before .before .before .before .switches .ensures) (c .before .before .before .before .before .before .before .before .items .ensures .0) (c .before .before .before .before .before .before .before .if1 .left) _ (c .before .before .before .before .before .inputs-of .ensures .values) (c .before .before .before .if2 .left) _ (c .before .lengths-add-up .ensures) (not-true _ (c .if3 .taken))
 
 slice-aggregate-replay-blocks : tie.Need-slice-aggregate-replay-blocks
-slice-aggregate-replay-blocks c = sym (places _ _ _ _ (c .before .before .before .before .before .before .inputs-of .ensures .0))
+slice-aggregate-replay-blocks c = sym (places _ _ _ _ (c .before .before .before .before .before .before .inputs-of .ensures .values))
 
 replay-blocks-requires : tie.Need-replay-blocks-requires
 replay-blocks-requires c κs =
-    (c .before .before .before .before .before .before .before .before .before .before .before .before .before .before .before .before .pre .0, (records-have-places _ _ _ _ (c .before .before .before .before .before .before .before .before .before .before .before .before .before .before .before .before .pre .0) (c .before .before .before .before .before .before .before .inputs-of .ensures .0), omega (arith, c .before .before .before .before .before .before .before .before .before .if1 .left, c .before .before .before .before .before .before .before .before .before .before .before .field-at2 .ensures, c .before .before .before .before .before .before .before .before .before .before .field-at3 .ensures)))
+    (c .before .before .before .before .before .before .before .before .before .before .before .before .before .before .before .pre .0, (records-have-places _ _ _ _ (c .before .before .before .before .before .before .before .before .before .before .before .before .before .before .before .pre .0) (c .before .before .before .before .before .before .before .inputs-of .ensures .values), omega (arith, c .before .before .before .before .before .before .before .before .before .if1 .left, c .before .before .before .before .before .before .before .before .before .before .items .ensures .0)))
 
 same-length : tie.Need-same-length
 same-length c = search needs
 
 returns-4 : tie.Need-returns-4
 returns-4 c =
-    answers-run (c .before .before .before .before .before .before .before .before .before .before .before .before .before .before .before .before .before .before .before .args .case .now) (c .before .before .before .before .before .before .before .before .before .before .before .before .before .before .before .before .before .before .before .args .schedule .now) (c .before .before .before .before .before .before .before .before .before .before .before .before .before .before .before .before .before .before .before .args .items .now) (c .before .before .before .before .before .before .before .before .before .before .before .before .before .before .before .before .before .before .before .pre .0) (c .before .before .before .before .before .before .before .before .before .before .before .before .before .before .before .before .before .before .before .pre .1) _ _ _ (c .before .before .before .before .before .before .before .before .before .before .before .before .before .before .before .field-at .ensures) (c .before .before .before .before .before .before .before .before .before .before .before .before .before .before .field-at2 .ensures) (c .before .before .before .before .before .before .before .before .before .before .before .before .before .field-at3 .ensures) (c .before .before .before .before .before .before .before .before .before .before .before .before .if1 .left) _ (c .before .before .before .before .before .before .before .before .before .before .inputs-of .ensures .0) (c .before .before .before .before .before .before .before .before .if2 .left) _ (c .before .before .before .before .before .before .lengths-add-up .ensures) _ _ (not-false _ (c .before .before .before .before .before .if3 .left))
-    (c .before .before .replay-blocks .ensures .0) (c .before .before .replay-blocks .ensures .1)
+    let at-if3 = c .before .before .before .before .before in
+    let at-if1 = at-if3 .before .before .before .before .before .before .before in
+    let entry = at-if1 .before .before .before .before .before .before in
+    answers-run (entry .args .case .now) (entry .args .schedule .now) (entry .args .items .now) (entry .pre .0) (entry .pre .1) _ _ (at-if1 .before .before .switches .ensures) (at-if1 .before .items .ensures .0) (at-if1 .if1 .left) _ (at-if3 .before .before .before .before .before .inputs-of .ensures .values) (at-if3 .before .before .before .if2 .left) _ (at-if3 .before .lengths-add-up .ensures) _ _ (not-false _ (at-if3 .if3 .left)) (c .before .before .replay-blocks .ensures)
 
 pub replay-accepted-spec : {M : Type 1} → statement M
 replay-accepted-spec =
     tie.close
     (tie.spec
-    field-at-requires
-    cast-switches
-    field-at-requires-2
-    cast-globals
-    field-at-requires-3
-    cast-mutexes
-    add-if1
-    returns
+    switches-requires
+    cast-blocks
     add-blocks
+    items-requires
+    returns
     inputs-of-requires
     returns-2
     slice-aggregate-lengths

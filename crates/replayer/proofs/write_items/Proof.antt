@@ -3,9 +3,10 @@ use mathlib.Core.Path.{_≡_, refl}
 use mathlib.Core.List.{_++_}
 use Prim.Native.Nat.{_-_, _≤_}
 use native.Mathlib.Omega.{arith}
-use borrow.Author.Needs.{needs}
 use lib.ListN.{length, take, drop, length-set}
+use Rattle.model.specs.Limits.{mostItems}
 use Rattle.replayer.proofs.Calls.{write-more, write-end}
+use borrow.Author.Needs.{needs}
 use Rattle.replayer.proofs.write_items.Statement.{statement}
 use Rattle.replayer.proofs.write_items.Tie as tie
 
@@ -43,9 +44,7 @@ same-length : tie.Need-same-length Inv-loop μ-loop
 same-length c = c .before .loop .inv .1 .0
 
 returns : tie.Need-returns Inv-loop μ-loop
-returns c =
-    let all : length (c .before .before .args .t1) ≡ 12 = search needs in
-    write-end (c .before .before .args .t1) (c .before .before .args .items .now) _ (c .before .before .args .count) (c .before .loop .g) (omega arith) (omega arith) (c .before .loop .inv .1 .1)
+returns c = let all : length (c .before .before .args .t1) ≡ mostItems = search needs in write-end (c .before .before .args .t1) (c .before .before .args .items .now) _ (c .before .before .args .count) (c .before .loop .g) (omega arith) (omega arith) (c .before .loop .inv .1 .1)
 
 pub write-items-spec : {M : Type 1} → statement M
 write-items-spec =
