@@ -8,7 +8,7 @@ ghost use Rattle.laws.specs.Accepted.{Accepted};
 ghost use Rattle.search.specs.Search.{Searched};
 ghost use Rattle.value_check.specs.Breaking.{firstBreaking};
 ghost use Rattle.checker.specs.Answer.{checkedAccepted};
-use case_file::accept;
+use accept::accept;
 use model::Checked;
 use model::NAMES;
 use model::RECORD_PLACES;

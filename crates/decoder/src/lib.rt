@@ -5,7 +5,7 @@ ghost use Rattle.model.specs.Accept.{verdict};
 ghost use Rattle.model.specs.Answers.{decoded, decodedInto};
 ghost use Rattle.model.specs.declared.Verdict.the-variants as verdicts;
 ghost use Rattle.decoder.specs.Decoding.{Answered, refusalOf};
-use case_file::accept;
+use accept::accept;
 use checker::check_accepted;
 use model::Checked;
 use model::Decoded;

@@ -14,7 +14,7 @@ ghost use Rattle.laws.specs.Accepted.{Accepted};
 ghost use Rattle.laws.specs.Written.{numbersAt};
 ghost use Rattle.copies.specs.Held.{Held};
 ghost use Rattle.encoder.specs.Parts.{orderNumbers, ordersNumbers, valueNumbers, valuesNumbers, itemNumbers, blockNumbers, runNumbers, tableNumbers};
-use case_file::accept;
+use accept::accept;
 use case_file::block_values;
 use case_file::first_of;
 use case_file::globals;

@@ -18,8 +18,8 @@ use Rattle.laws.proofs.Sizes.{sizes, largest-sizes, never-too-short}
 use Rattle.correspondence.specs.Demand3.{ForEveryAcceptedCase}
 use Rattle.correspondence.proofs.Demand3.{demand-3}
 use Rattle.listing_text.proofs.Bridge.{never-refused}
-use Rattle.case_file.proofs.accept.Statement as accept-statement
-use Rattle.case_file.proofs.accept.Met as accept-met
+use Rattle.accept.proofs.accept.Statement as accept-statement
+use Rattle.accept.proofs.accept.Met as accept-met
 use Rattle.encoder.proofs.encode.Statement as encode-statement
 use Rattle.encoder.proofs.encode.Met as encode-met
 use Rattle.checker.proofs.check.Statement as check-statement

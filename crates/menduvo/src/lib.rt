@@ -20,7 +20,7 @@ use model::Numbers;
 pub extern "C" fn menduvo_accept(case: &[u8]) -> Numbers
     ensures { λ r. ⌜ r ≡ verdictNumbers (verdict (now (case .entry))) ⌝ }
 {
-    verdict_numbers(case_file::accept(case))
+    verdict_numbers(accept::accept(case))
 }
 
 // The table of constraints of the case, six numbers a row, from the start of the slice.

@@ -205,7 +205,7 @@ pub fn replay(case: &[u8], schedule: &[u16], items: &mut [u16]) -> Replayed
     ensures { λ r. ⌜ r ≡ replayed (now (case .entry)) (now (schedule .entry)) (length (now (items .entry))) ⌝ }
     ensures { λ r. ⌜ now (items .exit) ≡ replayedInto (now (case .entry)) (now (schedule .entry)) (now (items .entry)) ⌝ }
 {
-    match case_file::accept(case) {
+    match accept::accept(case) {
         Verdict::Refused { number, place } => Replayed::Refused { number, place },
         Verdict::Accepted => replay_accepted(case, schedule, items),
     }
