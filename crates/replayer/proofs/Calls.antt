@@ -40,6 +40,16 @@ module _ (values slice : List ℕ) where
   unfolding writtenOver
   write-end items count g fits e is = rw (length-take-le count values fits, ← e) is
 
+-- The replies with which the items are written.
+abbrev pub Writes : Replayed → Type 0
+Writes (Violated k) = Unit {0}
+Writes Clean = Unit {0}
+Writes (CutOff k) = Unit {0}
+Writes (Refused number place) = ⊥
+
+pub writes-by : (r r' : Replayed) → r ≡ r' → Writes r' → Writes r
+writes-by r r' e w = rw e w
+
 -- The run, to what is written.
 module _ (bytes lengths givens : List ℕ) (e : Ended) (replies : Replies bytes (outcomeIn bytes lengths givens) e) where
   -- what is left of the run is what is written of it
@@ -50,26 +60,14 @@ module _ (bytes lengths givens : List ℕ) (e : Ended) (replies : Replies bytes 
   writes (violated k s) left slice = ap (λ (x : State). writtenOver (x .items) slice) left
   writes (clean s) left slice = ap (λ (x : State). writtenOver (x .items) slice) left
 
-  ends : (slice after : List ℕ) (r : Replayed) → e .reply ≡ r → after ≡ afterReplayed r (itemsOf bytes (e .items)) slice → Ran bytes lengths givens slice (e .reply) after
-  ends slice after r er is = record {
-    answer = replies .reply;
-    written = rw (replies .reply) (is ∙ ap (λ (x : Replayed). afterReplayed x (itemsOf bytes (e .items)) slice) (sym er ∙ replies .reply)
-        ∙ writes (outcomeIn bytes lengths givens) (replies .left) slice);
-  }
-
-  pub ends-refused : (slice : List ℕ) (number place : ℕ) → e .reply ≡ Refused number place → Ran bytes lengths givens slice (e .reply) slice
-  ends-refused slice number place r = ends slice slice (Refused number place) r refl
-
-  -- the replies with which the items are written
-  abbrev pub Writes : Replayed → Type 0
-  Writes (Violated k) = Unit {0}
-  Writes Clean = Unit {0}
-  Writes (CutOff k) = Unit {0}
-  Writes (Refused number place) = ⊥
-
-  pub ends-written : (slice after : List ℕ) (count : ℕ) (r : Replayed) → count ≡ itemCount (caseOf bytes) → e .reply ≡ r → Writes r
+  pub ends-written : (slice after : List ℕ) (count : ℕ) → count ≡ itemCount (caseOf bytes) → Writes (e .reply)
       → after ≡ writtenOver (take count (e .items)) slice → Ran bytes lengths givens slice (e .reply) after
-  ends-written slice after count r ec er w is = ends slice after r er (rw ec at is ∙ sym (go r w))
+  ends-written slice after count ec w is = record {
+    answer = replies .reply;
+    written = (rw ec at is) ∙ sym (go (e .reply) w) ∙ ap (λ (x : Replayed). afterReplayed x (itemsOf bytes (e .items)) slice) (replies .reply)
+        ∙ writes (outcomeIn bytes lengths givens) (replies .left) slice
+        ∙ sym (ap (λ (x : Replayed). afterReplayed x (itemsAfter (outcomeIn bytes lengths givens)) slice) (replies .reply));
+  }
     where
       go : (x : Replayed) → Writes x → afterReplayed x (itemsOf bytes (e .items)) slice ≡ writtenOver (itemsOf bytes (e .items)) slice
       go (Violated k) u = refl

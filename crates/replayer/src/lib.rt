@@ -151,19 +151,12 @@ fn replay_blocks(case: &[u8], lengths: &[u16], given: &[u16], items: &mut [u16])
         } => {
             return reply;
         }
-        Replayed::CutOff(_) => {
-            write_items(values, count, items);
-            return reply;
-        }
-        Replayed::Violated(_) => {
-            write_items(values, count, items);
-            return reply;
-        }
-        Replayed::Clean => {
-            write_items(values, count, items);
-            return reply;
-        }
+        Replayed::CutOff(_) => {}
+        Replayed::Violated(_) => {}
+        Replayed::Clean => {}
     }
+    write_items(values, count, items);
+    reply
 }
 
 fn replay_accepted(case: &[u8], schedule: &[u16], items: &mut [u16]) -> Replayed
