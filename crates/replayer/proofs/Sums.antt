@@ -1,7 +1,7 @@
 -- The loops that add up block lengths and compare them with the threads' lines: what is left decides.
 -- Assumes nothing.
 use mathlib.Core.Path.{_≡_, refl, sym, ap, _∙_}
-use Prim.Native.Nat.{ℕ, zero, suc, _+_, _-_, _*_, _%_, _≤_, _<_}
+use Prim.Native.Nat.{ℕ, suc, _+_, _-_, _*_, _%_, _≤_, _<_}
 use mathlib.Core.Bool.{Bool, true, false, cond}
 use mathlib.Core.List.{List}
 use native.Mathlib.Omega.{arith}
@@ -11,6 +11,7 @@ use lib.Dec.{eqb}
 use lib.ListN.{getD, set, length, drop, replicate, length-set, length-replicate, getD-replicate, drop-of-length-le, List·getD-eq-default}
 use lib.Seq.{drop-cons, getD-set-same, getD-set-other}
 use borrow.Author.Tests.{eq-eqb, ne-eqb}
+use Rattle.model.specs.Word.{wordSize}
 use Rattle.model.specs.Limits.{mostThreads}
 use Rattle.model.specs.Lists.{allFrom}
 use Rattle.model.specs.CaseFile.{threadCount, caseOf, linesOf}
@@ -37,7 +38,7 @@ belongs bytes ok i threads all = omega (arith, mod-lt i {m = threads} (omega (ar
 pub record Adding (bytes lengths : List ℕ) (i : ℕ) (sums : List ℕ) : Type 0 where
   pub inside : i ≤ length lengths
   pub has-all : length sums ≡ mostThreads
-  pub small : (u : ℕ) → getD sums u 0 ≤ 65535 * i
+  pub small : (u : ℕ) → getD sums u 0 ≤ wordSize * i
   pub does : (u : ℕ) → u < mostThreads → getD sums u 0 + stepsOf (caseOf bytes) u i (drop i lengths) ≡ stepsOf (caseOf bytes) u 0 lengths
 
 module _ (bytes lengths : List ℕ) where
@@ -61,7 +62,7 @@ module _ (bytes lengths : List ℕ) where
     adding-end over u h = omega (arith, a .does u h, steps-end bytes lengths u i over)
 
     pub adding-more : (threads t steps : ℕ) → i < length lengths → threads ≡ threadCount bytes → t ≡ i % threads → t < mostThreads
-        → steps ≡ getD lengths i 0 → steps ≤ 65535 → Adding bytes lengths (i + 1) (set sums t (getD sums t 0 + steps))
+        → steps ≡ getD lengths i 0 → steps ≤ wordSize → Adding bytes lengths (i + 1) (set sums t (getD sums t 0 + steps))
     adding-more threads t steps more all is low are few = record {
       inside = omega arith;
       has-all = length-set sums t (getD sums t 0 + steps) ∙ a .has-all;
@@ -79,7 +80,7 @@ module _ (bytes lengths : List ℕ) where
         there : (u : ℕ) → (u ≡ t → ⊥) → after u ≡ getD sums u 0
         there u e = getD-set-other sums t u (getD sums t 0 + steps) 0 e
 
-        small : (u : ℕ) → EqView u t → after u ≤ 65535 * (i + 1)
+        small : (u : ℕ) → EqView u t → after u ≤ wordSize * (i + 1)
         small u (same e q) = omega (arith, here u e, a .small u)
         small u (diff e q) = omega (arith, there u e, a .small u)
 

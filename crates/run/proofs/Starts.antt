@@ -10,7 +10,7 @@ use lib.ListN.{length, set, take, replicate}
 use lib.Seq.{take-append-add, set-at}
 use Rattle.model.specs.Limits.{mostThreads, mostGlobals, mostItems, localCount}
 use Rattle.model.specs.Lists.{numbersFrom}
-use Rattle.model.specs.CaseFile.{Line, records, threadCount, globalCount, mutexCount, firstRecord, initialValue, chains, caseOf}
+use Rattle.model.specs.CaseFile.{Line, records, threadCount, globalCount, mutexCount, initialValue, chains, caseOf}
 use Rattle.model.specs.Machine.{State, start, Outcome, run, runBlocks}
 use Rattle.laws.specs.Accepted.{Accepted, threadLines, linesFrom}
 use Rattle.laws.proofs.Ranges.{length-numbersFrom}

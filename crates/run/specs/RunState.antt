@@ -1,12 +1,11 @@
 -- The threads of a run as the code holds them, and the state of the machine that they stand for.
 -- Assumes nothing.
-use mathlib.Core.Path.{_≡_}
-use Prim.Native.Nat.{ℕ, zero, suc, _-_, _≤_, _<_}
+use Prim.Native.Nat.{ℕ, zero, suc, _-_}
 use mathlib.Core.List.{List, [], _∷_, _++_}
-use lib.ListN.{getD, length, replicate}
-use Rattle.model.specs.Limits.{mostThreads, mostItems, localCount}
+use lib.ListN.{getD, replicate}
+use Rattle.model.specs.Limits.{mostItems, localCount}
 use Rattle.model.specs.Lists.{numbersFrom}
-use Rattle.model.specs.CaseFile.{Line, records, threadCount, globalCount, firstRecord, initialValue}
+use Rattle.model.specs.CaseFile.{Line, threadCount, globalCount, firstRecord, initialValue}
 use Rattle.model.specs.Machine.{State}
 use Rattle.laws.specs.Accepted.{linesFrom}
 use Rattle.turn.specs.declared.Stand.the-variants.{Running}

@@ -3,13 +3,13 @@
 use mathlib.Core.Path.{_≡_, refl, sym, ap, ap₂, _∙_}
 use Prim.Native.Nat.{ℕ}
 use mathlib.Core.Bool.{true, false, cond}
-use mathlib.Core.List.{List, _∷_}
+use mathlib.Core.List.{List}
 use native.Mathlib.Omega.{arith}
 use lib.Dec.{eqb}
 use lib.ListN.{take}
 use Rattle.model.specs.CaseFile.{Line, globalCount, nextRecord, lineOf, caseOf, itemCount}
 use Rattle.model.specs.Line.{Reads, targetName, stops, strayInput}
-use Rattle.model.specs.Machine.{Memory, putLocal, putItem, readsIn, stepped, notedAt, runBlock}
+use Rattle.model.specs.Machine.{putLocal, putItem, readsIn, stepped, notedAt, runBlock}
 use Rattle.case_file.specs.declared.Record.{Record}
 use Rattle.case_file.specs.Records.{recordOf, asLine}
 use Rattle.line.specs.LineReads.{readsAt}

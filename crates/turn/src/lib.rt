@@ -147,7 +147,6 @@ impl Turn {
     {
         let at = self.next;
         let k = at as u16;
-        let note = self.note;
         let l = case_file::record_at(case, t, at);
         let x = given[at];
         self.next = case_file::next_of(case, at);
@@ -158,7 +157,7 @@ impl Turn {
         if e.stops {
             return self.ended(Stand::Stopped(k));
         }
-        self.note = noted(note, k, e.breaks);
+        self.note = noted(self.note, k, e.breaks);
         if !e.writes {
             return self;
         }

@@ -1,5 +1,4 @@
 -- `replayer::lengths_add_up` meets its contract. The invariant: the threads that are left decide. Assumes nothing.
-use mathlib.Core.Path.{_∙_, sym}
 use Prim.Native.Nat.{_-_}
 use native.Mathlib.Omega.{arith}
 use Rattle.replayer.proofs.Sums.{Comparing, comparing-start, comparing-more, comparing-fails, comparing-end}

@@ -64,7 +64,7 @@ use Rattle.run.proofs.block_of.Symbol as block-of-def
 use Rattle.run.proofs.block_of.Symbol.{name as #run·block-of}
 use Rattle.run.proofs.block_of.Met as block-of-thm
 use Rattle.run.specs.RunState.{none, threadAt}
-use Rattle.run.specs.Promises.{RunReady, BlockReady, MovedBy, BlockAt}
+use Rattle.run.specs.Promises.{RunReady, MovedBy}
 use Rattle.run.proofs.Runs.{stored}
 use Rattle.run.proofs.Starts.{thread-below}
 use Rattle.run.proofs.Seen.{valOf, threadVal, sharedVal, Seen, seen-twice}
