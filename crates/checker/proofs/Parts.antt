@@ -3,26 +3,26 @@
 use mathlib.Core.Path.{_≡_, refl, sym, ap, _∙_}
 use mathlib.Core.Logic.{_≢_}
 use Prim.Native.Nat.{ℕ, _+_, _≤_, _<_}
-use mathlib.Core.Bool.{true, false, not}
-use mathlib.Core.List.{List, [], _∷_, _++_, append-assoc}
+use mathlib.Core.Bool.{not}
+use mathlib.Core.List.{List, [], _∷_, _++_}
 use native.Mathlib.Omega.{arith}
 use borrow.Author.Tests.{eq-eqb, ne-eqb}
 use lib.ListN.{length, length-append}
 use Rattle.model.specs.Word.{nonzero}
 use Rattle.model.specs.Limits.{mostConstraints}
-use Rattle.model.specs.CaseFile.{switchCount, caseOf}
+use Rattle.model.specs.CaseFile.{caseOf}
 use Rattle.model.specs.Assignment.{assignmentOf}
-use Rattle.model.specs.Table.{Row, allOrderRows, allValueRows, blockRows, runRows, goalRow, table}
+use Rattle.model.specs.Table.{Row, runRows, goalRow, table}
 use Rattle.model.specs.Holds.{holds}
 use Rattle.model.specs.Answers.{failedIn}
 use Rattle.laws.specs.Accepted.{Accepted}
 use Rattle.laws.proofs.AllHold.{none-fails}
 use Rattle.laws.proofs.Sizes.{run-rows}
-use Rattle.order_check.specs.Rows as order
-use Rattle.value_check.specs.Rows as value
+use Rattle.order_check.specs.Rows.{allOrders}
+use Rattle.value_check.specs.Rows.{allValues, AllOrdered}
 use Rattle.value_check.specs.Breaking.{firstBreaking}
 use Rattle.value_check.proofs.Breaking.{first-breaking}
-use Rattle.walk_back.specs.Blocks as block
+use Rattle.walk_back.specs.Blocks.{allSixes}
 use Rattle.search.specs.Search.{Searched}
 use Rattle.search.proofs.Search.{Searching, searching-start, searching-found, searching-more, searching-last, one-holds, one-fails}
 
@@ -30,46 +30,46 @@ module _ {bytes : List ℕ} (ok : Accepted bytes) (xs : List ℕ) where
   abbrev run : List Row
   run = runRows (caseOf bytes)
 
-  run-split : run ≡ order.allRows bytes ++ (value.allRows bytes ++ block.allRows bytes)
+  run-split : run ≡ allOrders bytes ++ (allValues bytes ++ allSixes bytes)
   unfolding runRows
   run-split = refl
 
-  run-room : 1 + (length (order.allRows bytes) + (length (value.allRows bytes) + length (block.allRows bytes))) ≤ mostConstraints
+  run-room : 1 + (length (allOrders bytes) + (length (allValues bytes) + length (allSixes bytes))) ≤ mostConstraints
   run-room =
       omega (
         arith,
         run-rows bytes ok,
         ap length run-split,
-        length-append (order.allRows bytes) (value.allRows bytes ++ block.allRows bytes),
-        length-append (value.allRows bytes) (block.allRows bytes),
+        length-append (allOrders bytes) (allValues bytes ++ allSixes bytes),
+        length-append (allValues bytes) (allSixes bytes),
       )
 
   start : Searching bytes xs 1 run 1 run
   start = searching-start bytes xs 1 run run (omega arith) refl
 
-  module _ {f n : ℕ} (orders : Searched bytes xs 1 (order.allRows bytes) f n) where
+  module _ {f n : ℕ} (orders : Searched bytes xs 1 (allOrders bytes) f n) where
     pub order-fails : f ≢ 0 → Searched bytes xs 1 run f n
     order-fails some = searching-found start orders _ run-split some n
 
     module _ (none : f ≡ 0) where
-      pub values-start : (0 < n) × (n + length (value.allRows bytes) ≤ mostConstraints)
+      pub values-start : (0 < n) × (n + length (allValues bytes) ≤ mostConstraints)
       values-start = (omega (arith, orders .after none), omega (arith, orders .after none, run-room))
 
-      pub all-ordered : value.AllOrdered bytes xs
-      all-ordered = none-fails (caseOf bytes) (assignmentOf (caseOf bytes) xs) 1 (order.allRows bytes) (sym (orders .first) ∙ none) (omega arith)
+      pub all-ordered : AllOrdered bytes xs
+      all-ordered = none-fails (caseOf bytes) (assignmentOf (caseOf bytes) xs) 1 (allOrders bytes) (sym (orders .first) ∙ none) (omega arith)
 
-      after-orders : Searching bytes xs 1 run n (value.allRows bytes ++ block.allRows bytes)
+      after-orders : Searching bytes xs 1 run n (allValues bytes ++ allSixes bytes)
       after-orders = searching-more start orders run-split none
 
-      module _ {f' n' : ℕ} (values : Searched bytes xs n (value.allRows bytes) f' n') where
+      module _ {f' n' : ℕ} (values : Searched bytes xs n (allValues bytes) f' n') where
         pub values-fail : f' ≢ 0 → Searched bytes xs 1 run f' n'
-        values-fail some = searching-found after-orders values (block.allRows bytes) refl some n'
+        values-fail some = searching-found after-orders values (allSixes bytes) refl some n'
 
         module _ (none' : f' ≡ 0) where
-          pub blocks-start : (0 < n') × (n' + length (block.allRows bytes) ≤ mostConstraints)
+          pub blocks-start : (0 < n') × (n' + length (allSixes bytes) ≤ mostConstraints)
           blocks-start = (omega (arith, orders .after none, values .after none'), omega (arith, orders .after none, values .after none', run-room))
 
-          pub blocks-end : {f'' n'' : ℕ} → Searched bytes xs n' (block.allRows bytes) f'' n'' → Searched bytes xs 1 run f'' n''
+          pub blocks-end : {f'' n'' : ℕ} → Searched bytes xs n' (allSixes bytes) f'' n'' → Searched bytes xs 1 run f'' n''
           blocks-end blocks = searching-last (searching-more after-orders values refl none') blocks
 
   -- The goal, after all others.

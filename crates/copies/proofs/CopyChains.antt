@@ -1,6 +1,6 @@
 -- The chains of copies as lines are taken: at first there is none, and a line that is taken has the copy of its target before it.
 -- Assumes nothing. Met again where the checker goes along a thread.
-use mathlib.Core.Path.{_≡_, refl, ap, _∙_, subst}
+use mathlib.Core.Path.{_≡_, refl, ap, _∙_}
 use mathlib.Core.Logic.{_≢_}
 use Prim.Native.Nat.{ℕ, zero, suc, _+_, _≤_, _<_}
 use mathlib.Core.List.{List, [], _∷_, reverse, reverseAux}

@@ -9,7 +9,7 @@ use native.Mathlib.Numerals.{add-one}
 use lib.ListN.{length}
 use Rattle.model.specs.Limits.{mostConstraints}
 use Rattle.model.specs.CaseFile.{Line, records, threadCount, firstRecord, nextRecord, lineOf, chains, caseOf}
-use Rattle.model.specs.Table.{Row, followRow, lineOrderRows, orderRows, allOrderRows}
+use Rattle.model.specs.Table.{followRow, lineOrderRows, orderRows, allOrderRows}
 use Rattle.laws.specs.Accepted.{Accepted, linesFrom}
 use Rattle.laws.specs.RowCounts.{orderRowCount}
 use Rattle.laws.proofs.Views.{EqView, same, diff, eq-view}
@@ -17,7 +17,7 @@ use Rattle.laws.proofs.Following.{lines-end, lines-more, next-low, chains-more,
 use Rattle.laws.proofs.Sizes.{line-order-length, order-rows}
 use Rattle.search.specs.Search.{failingIn, Searched}
 use Rattle.search.proofs.Search.{Searching, searching-start, searching-end, searching-room, searching-found, searching-more}
-use Rattle.order_check.specs.Rows.{neighbour, linkRows, threadRows, allRows}
+use Rattle.order_check.specs.Rows.{linkRows, threadOrders, allOrders}
 use Rattle.order_check.specs.declared.Link.{Link}
 
 -- ---- A thread, at record k
@@ -25,7 +25,7 @@ use Rattle.order_check.specs.declared.Link.{Link}
 pub record ThreadOrder (bytes xs : List ℕ) (t start at k : ℕ) : Type 0 where
   pub earlier : List Line
   pub low : k ≤ records bytes
-  pub seeks : Searching bytes xs start (threadRows bytes t) at (orderRows (caseOf bytes) t earlier (linesFrom bytes t k))
+  pub seeks : Searching bytes xs start (threadOrders bytes t) at (orderRows (caseOf bytes) t earlier (linesFrom bytes t k))
 
 module _ {bytes : List ℕ} (ok : Accepted bytes) (xs : List ℕ) (t start : ℕ) where
   pub thread-start : (k : ℕ) → t < threadCount bytes → 0 < start → k ≡ firstRecord bytes t → ThreadOrder bytes xs t start start k
@@ -36,7 +36,7 @@ module _ {bytes : List ℕ} (ok : Accepted bytes) (xs : List ℕ) (t start : ℕ
   }
 
   module _ {at k : ℕ} (v : ThreadOrder bytes xs t start at k) where
-    pub thread-end : k ≡ 0 → Searched bytes xs start (threadRows bytes t) 0 at
+    pub thread-end : k ≡ 0 → Searched bytes xs start (threadOrders bytes t) 0 at
     unfolding orderRows
     thread-end e = searching-end (v .seeks) (ap (orderRows (caseOf bytes) t (v .earlier)) (lines-end bytes t k e)) 0 refl
 
@@ -61,14 +61,14 @@ module _ {bytes : List ℕ} (ok : Accepted bytes) (xs : List ℕ) (t start : ℕ
       size : length (linkRows bytes t link) ≡ orderRowCount
       size = line-order-length (caseOf bytes) t _ _ _
 
-      pub thread-room : at + orderRowCount ≤ start + length (threadRows bytes t)
+      pub thread-room : at + orderRowCount ≤ start + length (threadOrders bytes t)
       thread-room = omega (arith, searching-room (v .seeks) (linkRows bytes t link) _ split, size)
 
       module _ (f : ℕ) (found : f ≡ failingIn bytes xs at (linkRows bytes t link)) where
         here : Searched bytes xs at (linkRows bytes t link) f (at + orderRowCount)
         here = record { first = found; after = λ _. ap (λ (x : ℕ). at + x) (sym size) }
 
-        pub thread-found : f ≢ 0 → (n : ℕ) → Searched bytes xs start (threadRows bytes t) f n
+        pub thread-found : f ≢ 0 → (n : ℕ) → Searched bytes xs start (threadOrders bytes t) f n
         thread-found h n = searching-found (v .seeks) here _ split h n
 
         pub thread-more : f ≡ 0 → ThreadOrder bytes xs t start (at + orderRowCount) next
@@ -82,7 +82,7 @@ module _ {bytes : List ℕ} (ok : Accepted bytes) (xs : List ℕ) (t start : ℕ
 
 pub record AllOrder (bytes xs : List ℕ) (to at t : ℕ) : Type 0 where
   pub upto : t ≤ to
-  pub seeks : Searching bytes xs 1 (allRows bytes) at (allOrderRows (caseOf bytes) t (chains bytes t (to - t)))
+  pub seeks : Searching bytes xs 1 (allOrders bytes) at (allOrderRows (caseOf bytes) t (chains bytes t (to - t)))
 
 module _ (bytes xs : List ℕ) (to : ℕ) (eT : to ≡ threadCount bytes) where
   pub all-start : AllOrder bytes xs to 1 0
@@ -91,20 +91,20 @@ module _ (bytes xs : List ℕ) (to : ℕ) (eT : to ≡ threadCount bytes) where
       record { upto = omega arith; seeks = searching-start bytes xs 1 _ _ (omega arith) (rw z) }
 
   module _ {at t : ℕ} (v : AllOrder bytes xs to at t) where
-    pub all-end : to ≤ t → (f : ℕ) → f ≡ 0 → Searched bytes xs 1 (allRows bytes) f at
+    pub all-end : to ≤ t → (f : ℕ) → f ≡ 0 → Searched bytes xs 1 (allOrders bytes) f at
     unfolding allOrderRows
     all-end h f z = searching-end (v .seeks) (ap (allOrderRows (caseOf bytes) t) (chains-end bytes t to h)) f z
 
     module _ (h : t < to) where
-      threads-split : allOrderRows (caseOf bytes) t (chains bytes t (to - t)) ≡ threadRows bytes t ++ allOrderRows (caseOf bytes) (t + 1) (chains bytes (t + 1) (to - (t + 1)))
+      threads-split : allOrderRows (caseOf bytes) t (chains bytes t (to - t)) ≡ threadOrders bytes t ++ allOrderRows (caseOf bytes) (t + 1) (chains bytes (t + 1) (to - (t + 1)))
       unfolding allOrderRows
       threads-split = rw (chains-more bytes t to h, add-one t)
 
-      pub all-room : Accepted bytes → at + length (threadRows bytes t) ≤ mostConstraints
-      all-room ok = omega (arith, searching-room (v .seeks) (threadRows bytes t) _ threads-split, order-rows bytes ok)
+      pub all-room : Accepted bytes → at + length (threadOrders bytes t) ≤ mostConstraints
+      all-room ok = omega (arith, searching-room (v .seeks) (threadOrders bytes t) _ threads-split, order-rows bytes ok)
 
-      module _ {f next : ℕ} (found : Searched bytes xs at (threadRows bytes t) f next) where
-        pub all-found : f ≢ 0 → Searched bytes xs 1 (allRows bytes) f next
+      module _ {f next : ℕ} (found : Searched bytes xs at (threadOrders bytes t) f next) where
+        pub all-found : f ≢ 0 → Searched bytes xs 1 (allOrders bytes) f next
         all-found some = searching-found (v .seeks) found _ threads-split some next
 
         pub all-more : f ≡ 0 → AllOrder bytes xs to next (t + 1)

@@ -18,8 +18,8 @@ abbrev pub linkRows : List ℕ → ℕ → Link → List Row
 linkRows bytes t link =
     lineOrderRows (caseOf bytes) t (neighbour bytes t (link .before)) (lineOf bytes t (link .line)) (neighbour bytes t (link .next))
 
-abbrev pub threadRows : List ℕ → ℕ → List Row
-threadRows bytes t = orderRows (caseOf bytes) t [] (threadLines bytes t)
+abbrev pub threadOrders : List ℕ → ℕ → List Row
+threadOrders bytes t = orderRows (caseOf bytes) t [] (threadLines bytes t)
 
-abbrev pub allRows : List ℕ → List Row
-allRows bytes = allOrderRows (caseOf bytes) 0 (caseOf bytes .threads)
+abbrev pub allOrders : List ℕ → List Row
+allOrders bytes = allOrderRows (caseOf bytes) 0 (caseOf bytes .threads)

@@ -9,7 +9,7 @@ ghost use Rattle.model.specs.CaseFile.{threadCount, switchCount};
 ghost use Rattle.laws.specs.Accepted.{Accepted};
 ghost use Rattle.assignment.specs.Numbers.{recordBlock};
 ghost use Rattle.search.specs.Search.{failingIn, Searched};
-ghost use Rattle.order_check.specs.Rows.{linkRows, threadRows, allRows};
+ghost use Rattle.order_check.specs.Rows.{linkRows, threadOrders, allOrders};
 use assignment::block_of;
 use case_file::first_of;
 use case_file::next_of;
@@ -54,8 +54,8 @@ fn line_order(case: &[u8], assignment: &[u16], t: u16, at: u16, link: Link) -> u
 // The order constraints of thread t, from number `start` on.
 fn thread_order(case: &[u8], assignment: &[u16], t: u16, start: u16) -> Found
     requires { ⌜ Accepted (now case) × (t < threadCount (now case)) ⌝ }
-    requires { ⌜ (0 < start) × (start + length (threadRows (now case) t) ≤ mostConstraints) ⌝ }
-    ensures { λ r. ⌜ Searched (now (case .entry)) (now (assignment .entry)) start (threadRows (now (case .entry)) t) (r .failed) (r .next) ⌝ }
+    requires { ⌜ (0 < start) × (start + length (threadOrders (now case) t) ≤ mostConstraints) ⌝ }
+    ensures { λ r. ⌜ Searched (now (case .entry)) (now (assignment .entry)) start (threadOrders (now (case .entry)) t) (r .failed) (r .next) ⌝ }
 {
     let mut at = start;
     let mut before: u16 = 0;
@@ -84,7 +84,7 @@ fn thread_order(case: &[u8], assignment: &[u16], t: u16, start: u16) -> Found
 // The order constraints of all threads, from number 1 on.
 pub fn order_failing(case: &[u8], assignment: &[u16]) -> Found
     requires { ⌜ Accepted (now case) ⌝ }
-    ensures { λ r. ⌜ Searched (now (case .entry)) (now (assignment .entry)) 1 (allRows (now (case .entry))) (r .failed) (r .next) ⌝ }
+    ensures { λ r. ⌜ Searched (now (case .entry)) (now (assignment .entry)) 1 (allOrders (now (case .entry))) (r .failed) (r .next) ⌝ }
 {
     let count = threads(case);
     let mut found = Found { failed: 0, next: 1 };

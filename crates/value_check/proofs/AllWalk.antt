@@ -1,6 +1,6 @@
 -- The walk over the 4s and 5s of all threads.
 -- Assumes nothing.
-use mathlib.Core.Path.{_≡_, refl, sym, ap, _∙_, subst}
+use mathlib.Core.Path.{_≡_, sym, ap, _∙_, subst}
 use mathlib.Core.Logic.{_≢_}
 use Prim.Native.Nat.{ℕ, _+_, _-_, _≤_, _<_}
 use mathlib.Core.List.{List, [], _++_}
@@ -8,7 +8,7 @@ use native.Mathlib.Omega.{arith}
 use native.Mathlib.Nat.{zero-add}
 use native.Mathlib.Numerals.{add-one}
 use lib.ListN.{length}
-use Rattle.model.specs.CaseFile.{Line, Case, threadCount, chains, caseOf, linesOf}
+use Rattle.model.specs.CaseFile.{Case, threadCount, chains, caseOf, linesOf}
 use Rattle.model.specs.Assignment.{Assignment, assignmentOf}
 use Rattle.model.specs.Table.{allValueRows}
 use Rattle.laws.specs.Order.{Ordered}
@@ -18,9 +18,9 @@ use Rattle.laws.proofs.Following.{chains-more, chains-end}
 use Rattle.copies.specs.CopyChains.{CopyChains}
 use Rattle.search.specs.Search.{Searched}
 use Rattle.search.proofs.Search.{Searching, searching-start, searching-end, searching-room, searching-found, searching-more}
-use Rattle.value_check.specs.Rows.{threadRows, allRows, ThreadOrdered, AllOrdered}
+use Rattle.value_check.specs.Rows.{threadValues, allValues, ThreadOrdered, AllOrdered}
 use Rattle.value_check.specs.Breaking.{breakingIn, firstBreaking}
-use Rattle.value_check.specs.Walked.{Noted, AllNoted}
+use Rattle.value_check.specs.Walked.{ThreadWalked, AllWalked}
 
 -- Where all order constraints hold, each thread's block numbers are in order.
 pub thread-ordered : (bytes xs : List ℕ) → AllOrdered bytes xs → (t : ℕ) → t < threadCount bytes → ThreadOrdered bytes xs t
@@ -32,7 +32,7 @@ thread-ordered bytes xs hold t h =
 -- Before thread t.
 pub record AllWalk (bytes xs : List ℕ) (start to : ℕ) (latest : List (List ℕ)) (previous : List ℕ) (broken at t : ℕ) : Type 0 where
   pub upto : t ≤ to
-  pub seeks : Searching bytes xs start (allRows bytes) at (allValueRows (caseOf bytes) (chains bytes t (to - t)))
+  pub seeks : Searching bytes xs start (allValues bytes) at (allValueRows (caseOf bytes) (chains bytes t (to - t)))
   pub copies : CopyChains (caseOf bytes) latest previous t []
   pub breaking : breakingIn (caseOf bytes) (assignmentOf (caseOf bytes) xs) broken (chains bytes t (to - t)) ≡ firstBreaking bytes xs
 
@@ -51,11 +51,11 @@ module _ (bytes xs : List ℕ) (to : ℕ) (eT : to ≡ threadCount bytes) where
 
   module _ {start : ℕ} {latest : List (List ℕ)} {previous : List ℕ} {broken at t : ℕ} (v : AllWalk bytes xs start to latest previous broken at t) where
     module _ (h : to ≤ t) where
-      pub all-end : (f : ℕ) → f ≡ 0 → Searched bytes xs start (allRows bytes) f at
+      pub all-end : (f : ℕ) → f ≡ 0 → Searched bytes xs start (allValues bytes) f at
       unfolding allValueRows
       all-end f z = searching-end (v .seeks) (ap (allValueRows case) (chains-end bytes t to h)) f z
 
-      pub all-notes : AllNoted bytes xs latest previous broken
+      pub all-notes : AllWalked bytes xs latest previous broken
       unfolding breakingIn
       all-notes =
           let e : t ≡ threadCount bytes = omega (arith, v .upto) in
@@ -65,18 +65,18 @@ module _ (bytes xs : List ℕ) (to : ℕ) (eT : to ≡ threadCount bytes) where
           }
 
     module _ (h : t < to) where
-      split : allValueRows case (chains bytes t (to - t)) ≡ threadRows bytes t ++ allValueRows case (chains bytes (t + 1) (to - (t + 1)))
+      split : allValueRows case (chains bytes t (to - t)) ≡ threadValues bytes t ++ allValueRows case (chains bytes (t + 1) (to - (t + 1)))
       unfolding allValueRows
       split = ap (allValueRows case) (chains-more bytes t to h)
 
-      pub all-room : at + length (threadRows bytes t) ≤ start + length (allRows bytes)
-      all-room = searching-room (v .seeks) (threadRows bytes t) _ split
+      pub all-room : at + length (threadValues bytes t) ≤ start + length (allValues bytes)
+      all-room = searching-room (v .seeks) (threadValues bytes t) _ split
 
-      module _ {f next : ℕ} (found : Searched bytes xs at (threadRows bytes t) f next) where
-        pub all-found : f ≢ 0 → Searched bytes xs start (allRows bytes) f next
+      module _ {f next : ℕ} (found : Searched bytes xs at (threadValues bytes t) f next) where
+        pub all-found : f ≢ 0 → Searched bytes xs start (allValues bytes) f next
         all-found some = searching-found (v .seeks) found _ split some next
 
-        pub all-more : f ≡ 0 → {latest' : List (List ℕ)} {previous' : List ℕ} {broken' : ℕ} → Noted bytes xs t broken latest' previous' broken'
+        pub all-more : f ≡ 0 → {latest' : List (List ℕ)} {previous' : List ℕ} {broken' : ℕ} → ThreadWalked bytes xs t broken latest' previous' broken'
             → AllWalk bytes xs start to latest' previous' broken' next (t + 1)
         unfolding breakingIn
         all-more none noted = record {

@@ -1,6 +1,6 @@
 -- A line is found that breaks an assertion just when some line does: constraint 7.
 -- Assumes nothing. Met again where the checker asks the 7.
-use mathlib.Core.Path.{_≡_, refl, sym, ap, _∙_}
+use mathlib.Core.Path.{_≡_, refl, ap, _∙_}
 use Prim.Native.Nat.{ℕ, _<_}
 use mathlib.Core.Bool.{Bool, true, false, _||_}
 use mathlib.Core.List.{List, [], _∷_}

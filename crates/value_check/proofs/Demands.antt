@@ -16,7 +16,7 @@ use Rattle.case_file.specs.declared.Record.{Record}
 use Rattle.case_file.specs.Records.{asLine}
 use Rattle.line.specs.LineReads.{memory}
 use Rattle.line.proofs.KindNumbers.{KindView, is6, is7, kind-view, kind-7, Not2}
-use Rattle.value_check.specs.LineFailing.{readsIn, demandIn, lineFailing}
+use Rattle.value_check.specs.LineFailing.{readsBy, demandIn, lineFailing}
 use Rattle.value_check.specs.declared.Counts.{Counts}
 
 module _ (kind : ℕ) (l : Line) (reads : Reads) (value : ℕ) where
@@ -44,8 +44,8 @@ module _ (kind : ℕ) (l : Line) (reads : Reads) (value : ℕ) where
 
 -- A lock reads its mutex: it is free, or the guard is false.
 module _ (counts : Counts) (locals items : List ℕ) (l : Record) (value k : ℕ) (seven : l .kind ≡ 7) (guarded : Bool)
-    (eg : guarded ≡ guardTrue (asLine l k) (readsIn counts locals items l value k)) where
-  mutex : look (memory locals items (counts .items)) (itemName (counts .globals + l .target)) ≡ readsIn counts locals items l value k .target
+    (eg : guarded ≡ guardTrue (asLine l k) (readsBy counts locals items l value k)) where
+  mutex : look (memory locals items (counts .items)) (itemName (counts .globals + l .target)) ≡ readsBy counts locals items l value k .target
   unfolding nameOfTarget
   mutex = ap (λ (x : Kind). look (memory locals items (counts .items)) (nameOfTarget (counts .globals) x (l .target))) (sym (kind-7 (l .kind) seven))
 
@@ -53,7 +53,7 @@ module _ (counts : Counts) (locals items : List ℕ) (l : Record) (value k : ℕ
       → not (guarded && nonzero x) ≡ demandIn counts locals items l value k
   lock-demand x ex =
       ap₂ (λ (g : Bool) (y : ℕ). not (g && nonzero y)) eg (ex ∙ mutex)
-      ∙ demand-of-lock (l .kind) (asLine l k) (readsIn counts locals items l value k) value seven
+      ∙ demand-of-lock (l .kind) (asLine l k) (readsBy counts locals items l value k) value seven
 
   pub free-when-guarded-in : guarded ≡ true → (x : ℕ) → x ≡ look (memory locals items (counts .items)) (itemName (counts .globals + l .target))
       → eqb x 0 ≡ demandIn counts locals items l value k

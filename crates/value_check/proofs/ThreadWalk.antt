@@ -2,15 +2,15 @@
 -- Assumes nothing.
 use mathlib.Core.Path.{_≡_, refl, sym, ap, ap₂, _∙_, subst}
 use mathlib.Core.Logic.{_≢_}
-use Prim.Native.Nat.{ℕ, suc, _+_, _≤_, _<_}
+use Prim.Native.Nat.{ℕ, _+_, _≤_, _<_}
 use mathlib.Core.Bool.{Bool, true, cond}
 use mathlib.Core.List.{List, [], _∷_, _++_, reverse, reverseAux}
 use native.Mathlib.Omega.{arith}
 use lib.Dec.{eqb}
 use lib.ListN.{length, set, take, replicate}
-use Rattle.model.specs.Limits.{localCount, mostThreads, mostSwitches, mostItems}
+use Rattle.model.specs.Limits.{localCount, mostSwitches}
 use Rattle.model.specs.CaseFile.{kindOf, Line, Case, records, threadCount, globalCount, firstRecord, nextRecord, lineOf, caseOf, linesOf, itemCount, lineAt}
-use Rattle.model.specs.Line.{targetName, Reads, breaks}
+use Rattle.model.specs.Line.{targetName, breaks}
 use Rattle.model.specs.Machine.{putLocal, putItem}
 use Rattle.model.specs.Assignment.{Assignment, assignmentOf}
 use Rattle.model.specs.Copies.{readsAfter}
@@ -31,13 +31,13 @@ use Rattle.copies.specs.Held.{copyIn, withCopy}
 use Rattle.copies.specs.CopyChains.{CopyChains}
 use Rattle.copies.proofs.CopyChains.{chains-next, chains-more}
 use Rattle.assignment.specs.Numbers.{recordBlock, recordValue, StartOf}
-use Rattle.search.specs.Search.{failingIn, Searched}
+use Rattle.search.specs.Search.{Searched}
 use Rattle.search.proofs.Search.{Searching, searching-start, searching-end, searching-room, searching-found, searching-more}
 use Rattle.value_check.specs.declared.Counts.{Counts}
-use Rattle.value_check.specs.Rows.{threadRows, ThreadOrdered}
+use Rattle.value_check.specs.Rows.{threadValues, ThreadOrdered}
 use Rattle.value_check.specs.LineFailing.{lineFailing, lineFailingIn}
 use Rattle.value_check.specs.Breaking.{breakingAfter}
-use Rattle.value_check.specs.Walked.{Entered, Noted}
+use Rattle.value_check.specs.Walked.{Entered, ThreadWalked}
 use Rattle.value_check.proofs.LineRows.{line-fails}
 use Rattle.value_check.proofs.Reading.{Reading, reading-start, reading-later, reading-reads, reading-more}
 
@@ -48,7 +48,7 @@ pub record ThreadWalk (bytes xs : List ℕ) (t start was : ℕ) (latest : List (
   pub found : AllLines (λ l. lineAt (caseOf bytes) (l .number) ≡ l) (linesFrom bytes t k)
   pub ordered : Ordered (caseOf bytes) (assignmentOf (caseOf bytes) xs .block) t block (linesFrom bytes t k)
   pub reading : Reading (caseOf bytes) (assignmentOf (caseOf bytes) xs) earlier block (memory locals items (itemCount (caseOf bytes)))
-  pub seeks : Searching bytes xs start (threadRows bytes t) at (valueRows (caseOf bytes) earlier (linesFrom bytes t k))
+  pub seeks : Searching bytes xs start (threadValues bytes t) at (valueRows (caseOf bytes) earlier (linesFrom bytes t k))
   pub chains : CopyChains (caseOf bytes) latest previous t earlier
   pub breaking : breakingAfter (caseOf bytes) (assignmentOf (caseOf bytes) xs) broken earlier (linesFrom bytes t k)
       ≡ breakingAfter (caseOf bytes) (assignmentOf (caseOf bytes) xs) was [] (threadLines bytes t)
@@ -81,11 +81,11 @@ module _ {bytes : List ℕ} (ok : Accepted bytes) (xs : List ℕ) (t : ℕ) (few
       done : linesFrom bytes t k ≡ []
       done = lines-end bytes t k e
 
-      pub walk-end : Searched bytes xs start (threadRows bytes t) 0 at
+      pub walk-end : Searched bytes xs start (threadValues bytes t) 0 at
       unfolding valueRows
       walk-end = searching-end (v .seeks) (ap (valueRows case (v .earlier)) done) 0 refl
 
-      pub walk-notes : Noted bytes xs t was latest previous broken
+      pub walk-notes : ThreadWalked bytes xs t was latest previous broken
       unfolding breakingAfter
       walk-notes = record {
         chains = chains-next (v .chains) (sym (ap (λ (ls : List Line). reverseAux ls (v .earlier)) done) ∙ v .whole);
@@ -116,7 +116,7 @@ module _ {bytes : List ℕ} (ok : Accepted bytes) (xs : List ℕ) (t : ℕ) (few
       unfolding valueRows
       split = ap (valueRows case (v .earlier)) more
 
-      pub walk-room : at + 1 ≤ start + length (threadRows bytes t)
+      pub walk-room : at + 1 ≤ start + length (threadValues bytes t)
       walk-room = omega (arith, searching-room (v .seeks) rows _ split)
 
       module _ (i : ℕ) (ei : i ≡ recordBlock xs k) where
@@ -141,10 +141,10 @@ module _ {bytes : List ℕ} (ok : Accepted bytes) (xs : List ℕ) (t : ℕ) (few
           unfolding assignmentOf
           own-value = ev
 
-          pub walk-place : (c : ℕ) → c ≡ valueRowCount (kindOf (l .kind)) → c ≡ length rows
+          walk-place : (c : ℕ) → c ≡ valueRowCount (kindOf (l .kind)) → c ≡ length rows
           walk-place c ec = ec ∙ ap (λ (r : Record). valueRowCount (kindOf (r .kind))) el ∙ sym (line-value-length (line .kind) case (v .earlier) line)
 
-          pub walk-room-after : (c : ℕ) → c ≡ valueRowCount (kindOf (l .kind)) → at + c ≤ start + length (threadRows bytes t)
+          pub walk-room-after : (c : ℕ) → c ≡ valueRowCount (kindOf (l .kind)) → at + c ≤ start + length (threadValues bytes t)
           walk-room-after c ec = omega (arith, searching-room (v .seeks) rows _ split, walk-place c ec)
 
           reads-are : readsAt (counts .globals) (counts .items) value locals items' (asLine l k) ≡ readsAfter case α (v .earlier) line
@@ -159,7 +159,7 @@ module _ {bytes : List ℕ} (ok : Accepted bytes) (xs : List ℕ) (t : ℕ) (few
               after = λ _. refl;
             }
 
-            pub walk-found : f ≢ 0 → (n : ℕ) → Searched bytes xs start (threadRows bytes t) f n
+            pub walk-found : f ≢ 0 → (n : ℕ) → Searched bytes xs start (threadValues bytes t) f n
             walk-found h n = searching-found (v .seeks) here _ split h n
 
             -- The next record, with everything that is kept.

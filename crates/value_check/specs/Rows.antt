@@ -9,11 +9,11 @@ use Rattle.laws.specs.Accepted.{threadLines}
 use Rattle.laws.specs.Order.{Ordered}
 use Rattle.laws.specs.AllHold.{AllHold}
 
-abbrev pub threadRows : List ℕ → ℕ → List Row
-threadRows bytes t = valueRows (caseOf bytes) [] (threadLines bytes t)
+abbrev pub threadValues : List ℕ → ℕ → List Row
+threadValues bytes t = valueRows (caseOf bytes) [] (threadLines bytes t)
 
-abbrev pub allRows : List ℕ → List Row
-allRows bytes = allValueRows (caseOf bytes) (caseOf bytes .threads)
+abbrev pub allValues : List ℕ → List Row
+allValues bytes = allValueRows (caseOf bytes) (caseOf bytes .threads)
 
 -- What is kept along a thread is what its lines read only where block numbers are in order.
 abbrev pub ThreadOrdered : List ℕ → List ℕ → ℕ → Type 0

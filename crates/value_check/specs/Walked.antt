@@ -17,11 +17,11 @@ pub record Entered (bytes xs : List ℕ) (block i : ℕ) (items items' : List �
   pub enters : i ≢ block → StartOf bytes xs i items'
 
 -- After thread t's lines, of which all 4s and 5s hold.
-pub record Noted (bytes xs : List ℕ) (t was : ℕ) (latest : List (List ℕ)) (previous : List ℕ) (broken : ℕ) : Type 0 where
+pub record ThreadWalked (bytes xs : List ℕ) (t was : ℕ) (latest : List (List ℕ)) (previous : List ℕ) (broken : ℕ) : Type 0 where
   pub chains : CopyChains (caseOf bytes) latest previous (suc t) []
   pub breaking : broken ≡ breakingAfter (caseOf bytes) (assignmentOf (caseOf bytes) xs) was [] (threadLines bytes t)
 
 -- After all threads' lines.
-pub record AllNoted (bytes xs : List ℕ) (latest : List (List ℕ)) (previous : List ℕ) (broken : ℕ) : Type 0 where
+pub record AllWalked (bytes xs : List ℕ) (latest : List (List ℕ)) (previous : List ℕ) (broken : ℕ) : Type 0 where
   pub chains : CopyChains (caseOf bytes) latest previous (threadCount bytes) []
   pub breaking : broken ≡ firstBreaking bytes xs

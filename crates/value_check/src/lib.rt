@@ -12,9 +12,9 @@ ghost use Rattle.laws.specs.Accepted.{Accepted};
 ghost use Rattle.copies.specs.Held.{copyIn, withCopy};
 ghost use Rattle.copies.specs.CopyChains.{CopyChains};
 ghost use Rattle.search.specs.Search.{Searched};
-ghost use Rattle.value_check.specs.Rows.{threadRows, allRows, ThreadOrdered, AllOrdered};
+ghost use Rattle.value_check.specs.Rows.{threadValues, allValues, ThreadOrdered, AllOrdered};
 ghost use Rattle.value_check.specs.LineFailing.{demandIn, lineFailingIn};
-ghost use Rattle.value_check.specs.Walked.{Entered, Noted, AllNoted};
+ghost use Rattle.value_check.specs.Walked.{Entered, ThreadWalked, AllWalked};
 use assignment::block_of;
 use assignment::start_of_block;
 use assignment::value_of;
@@ -156,11 +156,11 @@ fn thread_values(
     from: Walk,
 ) -> Walk
     requires { ⌜ Accepted (now case) × (t < threadCount (now case)) ⌝ }
-    requires { ⌜ (0 < from .next) × (from .next + length (threadRows (now case) t) ≤ mostConstraints) ⌝ }
+    requires { ⌜ (0 < from .next) × (from .next + length (threadValues (now case) t) ≤ mostConstraints) ⌝ }
     requires { ⌜ CopyChains (caseOf (now case)) (now latest) (now previous) t [] ⌝ }
     requires { ⌜ ThreadOrdered (now case) (now assignment) t ⌝ }
-    ensures { λ r. ⌜ Searched (now (case .entry)) (now (assignment .entry)) (from .next) (threadRows (now (case .entry)) t) (r .failed) (r .next) ⌝ }
-    ensures { λ r. ⌜ (r .failed ≡ 0 → Noted (now (case .entry)) (now (assignment .entry)) t (from .broken) (now (latest .exit)) (now (previous .exit)) (r .broken)) ⌝ }
+    ensures { λ r. ⌜ Searched (now (case .entry)) (now (assignment .entry)) (from .next) (threadValues (now (case .entry)) t) (r .failed) (r .next) ⌝ }
+    ensures { λ r. ⌜ (r .failed ≡ 0 → ThreadWalked (now (case .entry)) (now (assignment .entry)) t (from .broken) (now (latest .exit)) (now (previous .exit)) (r .broken)) ⌝ }
 {
     let counts = Counts {
         globals: globals(case) as usize,
@@ -211,11 +211,11 @@ pub fn values_failing(
     start: u16,
 ) -> Walk
     requires { ⌜ Accepted (now case) ⌝ }
-    requires { ⌜ (0 < start) × (start + length (allRows (now case)) ≤ mostConstraints) ⌝ }
+    requires { ⌜ (0 < start) × (start + length (allValues (now case)) ≤ mostConstraints) ⌝ }
     requires { ⌜ CopyChains (caseOf (now case)) (now latest) (now previous) 0 [] ⌝ }
     requires { ⌜ AllOrdered (now case) (now assignment) ⌝ }
-    ensures { λ r. ⌜ Searched (now (case .entry)) (now (assignment .entry)) start (allRows (now (case .entry))) (r .failed) (r .next) ⌝ }
-    ensures { λ r. ⌜ (r .failed ≡ 0 → AllNoted (now (case .entry)) (now (assignment .entry)) (now (latest .exit)) (now (previous .exit)) (r .broken)) ⌝ }
+    ensures { λ r. ⌜ Searched (now (case .entry)) (now (assignment .entry)) start (allValues (now (case .entry))) (r .failed) (r .next) ⌝ }
+    ensures { λ r. ⌜ (r .failed ≡ 0 → AllWalked (now (case .entry)) (now (assignment .entry)) (now (latest .exit)) (now (previous .exit)) (r .broken)) ⌝ }
 {
     let count = threads(case);
     let mut walk = Walk {

@@ -1,15 +1,15 @@
 // Constraint 6: the value of each item at the end of each block, walking back over the copies of the block's thread.
 ghost use mathlib.Core.Path.{_≡_};
 ghost use mathlib.Core.List.{[]};
-ghost use Prim.Native.Nat.{ℕ, _+_, _<_, _≤_};
+ghost use Prim.Native.Nat.{_+_, _<_, _≤_};
 ghost use lib.ListN.{length};
-ghost use Rattle.model.specs.Limits.{mostLines, mostSwitches, mostConstraints};
+ghost use Rattle.model.specs.Limits.{mostLines, mostConstraints};
 ghost use Rattle.model.specs.CaseFile.{threadCount, caseOf};
 ghost use Rattle.laws.specs.Accepted.{Accepted};
 ghost use Rattle.copies.specs.CopyChains.{CopyChains};
 ghost use Rattle.search.specs.Search.{Searched};
 ghost use Rattle.walk_back.specs.Deciding.{deciding, decidedValue};
-ghost use Rattle.walk_back.specs.Blocks.{blockRowsOf, allRows, Spanned};
+ghost use Rattle.walk_back.specs.Blocks.{sixesOf, allSixes, Spanned};
 use assignment::block_of;
 use assignment::start_of_block;
 use assignment::value_of;
@@ -77,8 +77,8 @@ fn block_failing(
 ) -> Found
     requires { ⌜ Accepted (now case) × Spanned (now case) (now assignment) span ⌝ }
     requires { ⌜ CopyChains (caseOf (now case)) (now latest) (now previous) (threadCount (now case)) [] ⌝ }
-    requires { ⌜ (0 < span .start) × (span .start + length (blockRowsOf (now case) (span .block)) ≤ mostConstraints) ⌝ }
-    ensures { λ r. ⌜ Searched (now (case .entry)) (now (assignment .entry)) (span .start) (blockRowsOf (now (case .entry)) (span .block)) (r .failed) (r .next) ⌝ }
+    requires { ⌜ (0 < span .start) × (span .start + length (sixesOf (now case) (span .block)) ≤ mostConstraints) ⌝ }
+    ensures { λ r. ⌜ Searched (now (case .entry)) (now (assignment .entry)) (span .start) (sixesOf (now (case .entry)) (span .block)) (r .failed) (r .next) ⌝ }
 {
     let count = items(case);
     let t = (span.block % threads(case)) as usize;
@@ -112,8 +112,8 @@ pub fn blocks_failing(
 ) -> Found
     requires { ⌜ Accepted (now case) ⌝ }
     requires { ⌜ CopyChains (caseOf (now case)) (now latest) (now previous) (threadCount (now case)) [] ⌝ }
-    requires { ⌜ (0 < start) × (start + length (allRows (now case)) ≤ mostConstraints) ⌝ }
-    ensures { λ r. ⌜ Searched (now (case .entry)) (now (assignment .entry)) start (allRows (now (case .entry))) (r .failed) (r .next) ⌝ }
+    requires { ⌜ (0 < start) × (start + length (allSixes (now case)) ≤ mostConstraints) ⌝ }
+    ensures { λ r. ⌜ Searched (now (case .entry)) (now (assignment .entry)) start (allSixes (now (case .entry))) (r .failed) (r .next) ⌝ }
 {
     let last = switches(case);
     let mut found = Found {

@@ -1,6 +1,6 @@
 -- `assignment::items_at` meets its contract. Assumes nothing.
 use Prim.Native.Nat.{_-_, _≤_}
-use mathlib.Core.Path.{_≡_, refl}
+use mathlib.Core.Path.{refl}
 use Rattle.assignment.specs.Numbers.{Filled, numberFrom}
 use Rattle.assignment.proofs.BlockValues.{filled-start, filled-more, filled-all}
 use borrow.Author.Needs.{needs}

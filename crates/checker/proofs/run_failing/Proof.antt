@@ -13,7 +13,14 @@ returns : tie.Need-returns
 returns c = (order-fails (c .before .before .before .before .before .pre) _ (c .before .before .order-failing .ensures) (c .if1 .taken), λ z. absurd (c .if1 .taken z))
 
 values-failing-requires : tie.Need-values-failing-requires
-values-failing-requires c κs = (c .before .before .before .before .before .before .before .pre, (values-start (c .before .before .before .before .before .before .before .pre) _ (c .before .before .before .before .order-failing .ensures) (c .before .before .if1 .left), (chains-start _ _ _ refl refl, all-ordered (c .before .before .before .before .before .before .before .pre) _ (c .before .before .before .before .order-failing .ensures) (c .before .before .if1 .left))))
+values-failing-requires c κs =
+    let start = c .before .before .before .before .before .before .before in (
+      start .pre,
+      (
+        values-start (start .pre) _ (c .before .before .before .before .order-failing .ensures) (c .before .before .if1 .left),
+        (chains-start _ _ _ refl refl, all-ordered (start .pre) _ (c .before .before .before .before .order-failing .ensures) (c .before .before .if1 .left)),
+      ),
+    )
 
 returns-2 : tie.Need-returns-2
 returns-2 c = (values-fail (c .before .before .before .before .before .before .before .before .before .before .pre) _ (c .before .before .before .before .before .before .before .order-failing .ensures) (c .before .before .before .before .before .if1 .left) (c .before .before .values-failing .ensures .0) (c .if2 .taken), λ z. absurd (c .if2 .taken z))
@@ -22,10 +29,23 @@ slice-aggregate-blocks-failing : tie.Need-slice-aggregate-blocks-failing
 slice-aggregate-blocks-failing c = sym (c .before .before .before .values-failing .ensures .1 (c .before .if2 .left) .chains .places)
 
 blocks-failing-requires : tie.Need-blocks-failing-requires
-blocks-failing-requires c κs = (c .before .before .before .before .before .before .before .before .before .before .before .before .pre, (c .before .before .before .before .values-failing .ensures .1 (c .before .before .if2 .left) .chains, blocks-start (c .before .before .before .before .before .before .before .before .before .before .before .before .pre) _ (c .before .before .before .before .before .before .before .before .before .order-failing .ensures) (c .before .before .before .before .before .before .before .if1 .left) (c .before .before .before .before .values-failing .ensures .0) (c .before .before .if2 .left)))
+blocks-failing-requires c κs =
+    let start = c .before .before .before .before .before .before .before .before .before .before .before .before in (
+      start .pre,
+      (
+        c .before .before .before .before .values-failing .ensures .1 (c .before .before .if2 .left) .chains,
+        blocks-start (start .pre) _ (c .before .before .before .before .before .before .before .before .before .order-failing .ensures) (c .before .before .before .before .before .before .before .if1 .left)
+            (c .before .before .before .before .values-failing .ensures .0) (c .before .before .if2 .left),
+      ),
+    )
 
 returns-3 : tie.Need-returns-3
-returns-3 c = (blocks-end (c .before .before .before .before .before .before .before .before .before .before .before .before .before .pre) _ (c .before .before .before .before .before .before .before .before .before .before .order-failing .ensures) (c .before .before .before .before .before .before .before .before .if1 .left) (c .before .before .before .before .before .values-failing .ensures .0) (c .before .before .before .if2 .left) (c .blocks-failing .ensures), λ _. c .before .before .before .before .before .values-failing .ensures .1 (c .before .before .before .if2 .left) .breaking)
+returns-3 c =
+    let start = c .before .before .before .before .before .before .before .before .before .before .before .before .before in (
+      blocks-end (start .pre) _ (c .before .before .before .before .before .before .before .before .before .before .order-failing .ensures) (c .before .before .before .before .before .before .before .before .if1 .left)
+          (c .before .before .before .before .before .values-failing .ensures .0) (c .before .before .before .if2 .left) (c .blocks-failing .ensures),
+      λ _. c .before .before .before .before .before .values-failing .ensures .1 (c .before .before .before .if2 .left) .breaking,
+    )
 
 pub run-failing-spec : {M : Type 1} → statement M
 run-failing-spec =

@@ -1,5 +1,4 @@
 -- `value_check::items_in` meets its contract. Assumes nothing.
-use mathlib.Core.Path.{refl}
 use borrow.Author.Needs.{needs}
 use Rattle.value_check.proofs.items_in.Statement.{statement}
 use Rattle.value_check.proofs.items_in.Tie as tie

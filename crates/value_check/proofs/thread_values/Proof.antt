@@ -53,14 +53,29 @@ value-of-requires : tie.Need-value-of-requires Inv-loop μ-loop
 value-of-requires c κs = search needs
 
 items-in-requires : tie.Need-items-in-requires Inv-loop μ-loop
-items-in-requires c κs = (c .before .before .before .before .before .before .before .before .before .before .before .pre .0 .0, walk-block (c .before .before .before .before .before .before .before .before .before .before .before .pre .0 .0) _ _ (c .before .before .before .before .before .before .before .before .before .before .before .pre .0 .1) (c .before .before .before .before .loop .inv) (c .before .before .before .loop-test .taken) _ (c .before .block-of .ensures))
+items-in-requires c κs =
+    let line = c .before .before .before in
+    let start = line .before .before .before .before .before .before .before .before in
+    (start .pre .0 .0, walk-block (start .pre .0 .0) _ _ (start .pre .0 .1) (line .before .loop .inv) (line .loop-test .taken) _ (c .before .block-of .ensures))
 
 line-failing-requires : tie.Need-line-failing-requires Inv-loop μ-loop
-line-failing-requires c κs = (omega (arith, c .before .before .before .before .before .before .before .before .before .before .before .globals .ensures, c .before .before .before .before .before .before .before .before .before .before .before .before .before .before .pre .0 .0 .few-globals), c .before .before .before .before .before .before .before .before .before .before .items .ensures .1, omega (arith, walk-room (c .before .before .before .before .before .before .before .before .before .before .before .before .before .before .pre .0 .0) _ _ (c .before .before .before .before .before .before .before .before .before .before .before .before .before .before .pre .0 .1) (c .before .before .before .before .before .before .before .loop .inv) (c .before .before .before .before .before .before .loop-test .taken), c .before .before .before .before .before .before .before .before .before .before .before .before .before .before .pre .1 .0 .1))
+line-failing-requires c κs =
+    let line = c .before .before .before .before .before .before in
+    let start = line .before .before .before .before .before .before .before .before in (
+      omega (arith, line .before .before .before .before .before .globals .ensures, start .pre .0 .0 .few-globals),
+      line .before .before .before .before .items .ensures .1,
+      omega (arith, walk-room (start .pre .0 .0) _ _ (start .pre .0 .1) (line .before .loop .inv) (line .loop-test .taken), start .pre .1 .0 .1),
+    )
 
 returns : tie.Need-returns Inv-loop μ-loop
 returns c =
-    (walk-found (c .before .before .before .before .before .before .before .before .before .before .before .before .before .before .before .before .pre .0 .0) _ _ (c .before .before .before .before .before .before .before .before .before .before .before .before .before .before .before .before .pre .0 .1) (c .before .before .before .before .before .before .before .before .before .loop .inv) (c .before .before .before .before .before .before .before .before .loop-test .taken) _ (c .before .before .before .before .before .before .block-of .ensures) _ (c .before .before .before .before .before .before .before .record-at .ensures) _ (c .before .before .before .before .before .value-of .ensures) _ (c .before .before .before .before .items-in .ensures) _ (c .before .before .before .before .before .before .before .before .before .before .before .before .before .globals .ensures) (c .before .before .before .before .before .before .before .before .before .before .before .before .items .ensures .0) _ (c .before .line-failing .ensures) (c .if1 .taken) _, λ z. absurd (c .if1 .taken z))
+    let read = c .before .before .before .before in
+    let line = read .before .before .before .before in
+    let start = line .before .before .before .before .before .before .before .before in (
+      walk-found (start .pre .0 .0) _ _ (start .pre .0 .1) (line .before .loop .inv) (line .loop-test .taken) _ (read .before .before .block-of .ensures) _ (read .before .before .before .record-at .ensures) _ (read .before .value-of .ensures) _
+          (read .items-in .ensures) _ (line .before .before .before .before .before .globals .ensures) (line .before .before .before .before .items .ensures .0) _ (c .before .line-failing .ensures) (c .if1 .taken) _,
+      λ z. absurd (c .if1 .taken z),
+    )
 
 breaks-requires : tie.Need-breaks-requires Inv-loop μ-loop
 breaks-requires c κs = search needs
@@ -75,13 +90,25 @@ cast-at : tie.Need-cast-at Inv-loop μ-loop
 cast-at c = record { fits = omega (arith, value-count-at-most (kindOf (c .before .before .before .before .before .before .before .before .before .before .before .before .record-at .result .kind)), c .value-rows .ensures) }
 
 add-at : tie.Need-add-at Inv-loop μ-loop
-add-at c = omega (arith, walk-room-after (c .before .before .before .before .before .before .before .before .before .before .before .before .before .before .before .before .before .before .before .before .before .pre .0 .0) _ _ (c .before .before .before .before .before .before .before .before .before .before .before .before .before .before .before .before .before .before .before .before .before .pre .0 .1) (c .before .before .before .before .before .before .before .before .before .before .before .before .before .before .loop .inv) (c .before .before .before .before .before .before .before .before .before .before .before .before .before .loop-test .taken) _ (c .before .before .before .before .before .before .before .before .before .before .before .block-of .ensures) _ (c .before .before .before .before .before .before .before .before .before .before .before .before .record-at .ensures) _ (c .before .before .before .before .before .before .before .before .before .before .value-of .ensures) _ (c .before .before .before .before .before .before .before .before .before .items-in .ensures) _ (c .before .before .before .before .before .before .before .before .before .before .before .before .before .before .before .before .before .before .globals .ensures) (c .before .before .before .before .before .before .before .before .before .before .before .before .before .before .before .before .before .items .ensures .0) _ (c .value-rows .ensures), c .before .before .before .before .before .before .before .before .before .before .before .before .before .before .before .before .before .before .before .before .before .pre .1 .0 .1)
+add-at c =
+    let read = c .before .before .before .before .before .before .before .before .before in
+    let line = read .before .before .before .before in
+    let start = line .before .before .before .before .before .before .before .before in
+    omega (
+      arith,
+      walk-room-after (start .pre .0 .0) _ _ (start .pre .0 .1) (line .before .loop .inv) (line .loop-test .taken) _ (read .before .before .block-of .ensures) _ (read .before .before .before .record-at .ensures) _ (read .before .value-of .ensures) _
+          (read .items-in .ensures) _ (line .before .before .before .before .before .globals .ensures) (line .before .before .before .before .items .ensures .0) _ (c .value-rows .ensures),
+      start .pre .1 .0 .1,
+    )
 
 target-name-requires : tie.Need-target-name-requires Inv-loop μ-loop
 target-name-requires c κs = omega (arith, c .before .before .before .before .before .before .before .before .before .before .before .before .before .before .before .before .before .before .globals .ensures, c .before .before .before .before .before .before .before .before .before .before .before .before .before .before .before .before .before .before .before .before .before .pre .0 .0 .few-globals)
 
 note-copy-requires : tie.Need-note-copy-requires Inv-loop μ-loop
-note-copy-requires c κs = (omega (arith, c .before .before .before .before .before .before .before .before .before .before .before .before .before .before .before .before .before .before .before .before .before .before .before .before .pre .0 .1, c .before .before .before .before .before .before .before .before .before .before .before .before .before .before .before .before .before .before .before .before .before .before .before .before .pre .0 .0 .few-threads), omega (arith, c .before .before .before .before .before .before .before .before .before .before .before .before .before .before .before .before .before .loop .inv .low, c .before .before .before .before .before .before .before .before .before .before .before .before .before .before .before .before .before .before .before .before .before .before .before .before .pre .0 .0 .few-records))
+note-copy-requires c κs =
+    let line = c .before .before .before .before .before .before .before .before .before .before .before .before .before .before .before .before in
+    let start = line .before .before .before .before .before .before .before .before in
+    (omega (arith, start .pre .0 .1, start .pre .0 .0 .few-threads), omega (arith, line .before .loop .inv .low, start .pre .0 .0 .few-records))
 
 put-local-requires : tie.Need-put-local-requires Inv-loop μ-loop
 put-local-requires c κs = search needs
@@ -90,23 +117,46 @@ put-item-requires : tie.Need-put-item-requires Inv-loop μ-loop
 put-item-requires c κs = c .before .before .before .before .before .before .before .before .before .before .before .before .before .before .before .before .before .before .before .before .before .before .before .before .items .ensures .1
 
 cast-next-of : tie.Need-cast-next-of Inv-loop μ-loop
-cast-next-of c = record { fits = omega (arith, c .before .before .before .before .before .before .before .before .before .before .before .before .before .before .before .before .before .before .before .before .before .before .loop .inv .low, c .before .before .before .before .before .before .before .before .before .before .before .before .before .before .before .before .before .before .before .before .before .before .before .before .before .before .before .before .before .pre .0 .0 .few-records) }
+cast-next-of c =
+    let line = c .before .before .before .before .before .before .before .before .before .before .before .before .before .before .before .before .before .before .before .before .before in
+    let start = line .before .before .before .before .before .before .before .before in
+    record { fits = omega (arith, line .before .loop .inv .low, start .pre .0 .0 .few-records) }
 
 next-of-requires : tie.Need-next-of-requires Inv-loop μ-loop
-next-of-requires c κs = (omega (arith, c .before .before .before .before .before .before .before .before .before .before .before .before .before .before .before .before .before .before .before .before .before .loop-test .taken), omega (arith, c .before .before .before .before .before .before .before .before .before .before .before .before .before .before .before .before .before .before .before .before .before .before .loop .inv .low, c .before .before .before .before .before .before .before .before .before .before .before .before .before .before .before .before .before .before .before .before .before .before .before .before .before .before .before .before .before .pre .0 .0 .size))
+next-of-requires c κs =
+    let line = c .before .before .before .before .before .before .before .before .before .before .before .before .before .before .before .before .before .before .before .before .before in
+    let start = line .before .before .before .before .before .before .before .before in
+    (omega (arith, line .loop-test .taken), omega (arith, line .before .loop .inv .low, start .pre .0 .0 .size))
 
 cast-k-3 : tie.Need-cast-k-3 Inv-loop μ-loop
-cast-k-3 c = record { fits = omega (arith, c .next-of .ensures, next-low _ (c .before .before .before .before .before .before .before .before .before .before .before .before .before .before .before .before .before .before .before .before .before .before .before .before .before .before .before .before .before .before .pre .0 .0) (c .before .before .before .before .before .before .before .before .before .before .before .before .before .before .before .before .before .before .before .before .before .before .before .before .before .before .before .before .before .before .args .t) _ (c .before .before .before .before .before .before .before .before .before .before .before .before .before .before .before .before .before .before .before .before .before .before .loop-test .taken) (c .before .before .before .before .before .before .before .before .before .before .before .before .before .before .before .before .before .before .before .before .before .before .before .loop .inv .low), c .before .before .before .before .before .before .before .before .before .before .before .before .before .before .before .before .before .before .before .before .before .before .before .before .before .before .before .before .before .before .pre .0 .0 .few-records) }
+cast-k-3 c =
+    let line = c .before .before .before .before .before .before .before .before .before .before .before .before .before .before .before .before .before .before .before .before .before .before in
+    let start = line .before .before .before .before .before .before .before .before in
+    record { fits = omega (arith, c .next-of .ensures, next-low _ (start .pre .0 .0) (start .args .t) _ (line .loop-test .taken) (line .before .loop .inv .low), start .pre .0 .0 .few-records) }
 
 loop-less : tie.Need-loop-less Inv-loop μ-loop
-loop-less c = lines-less _ (c .before .before .before .before .before .before .before .before .before .before .before .before .before .before .before .before .before .before .before .before .before .before .before .before .before .before .before .before .before .before .pre .0 .0) _ _ (c .before .before .before .before .before .before .before .before .before .before .before .before .before .before .before .before .before .before .before .before .before .before .loop-test .taken) (c .before .before .before .before .before .before .before .before .before .before .before .before .before .before .before .before .before .before .before .before .before .before .before .loop .inv .low) _ (c .next-of .ensures)
+loop-less c =
+    let line = c .before .before .before .before .before .before .before .before .before .before .before .before .before .before .before .before .before .before .before .before .before .before in
+    let start = line .before .before .before .before .before .before .before .before in
+    lines-less _ (start .pre .0 .0) _ _ (line .loop-test .taken) (line .before .loop .inv .low) _ (c .next-of .ensures)
 
 loop-again : tie.Need-loop-again Inv-loop μ-loop
 loop-again c =
-    walk-more (c .before .before .before .before .before .before .before .before .before .before .before .before .before .before .before .before .before .before .before .before .before .before .before .before .before .before .before .before .before .before .pre .0 .0) _ _ (c .before .before .before .before .before .before .before .before .before .before .before .before .before .before .before .before .before .before .before .before .before .before .before .before .before .before .before .before .before .before .pre .0 .1) (c .before .before .before .before .before .before .before .before .before .before .before .before .before .before .before .before .before .before .before .before .before .before .before .loop .inv) (c .before .before .before .before .before .before .before .before .before .before .before .before .before .before .before .before .before .before .before .before .before .before .loop-test .taken) _ (c .before .before .before .before .before .before .before .before .before .before .before .before .before .before .before .before .before .before .before .before .block-of .ensures) _ (c .before .before .before .before .before .before .before .before .before .before .before .before .before .before .before .before .before .before .before .before .before .record-at .ensures) _ (c .before .before .before .before .before .before .before .before .before .before .before .before .before .before .before .before .before .before .before .value-of .ensures) _ (c .before .before .before .before .before .before .before .before .before .before .before .before .before .before .before .before .before .before .items-in .ensures) _ (c .before .before .before .before .before .before .before .before .before .before .before .before .before .before .before .before .before .before .before .before .before .before .before .before .before .before .before .globals .ensures) (c .before .before .before .before .before .before .before .before .before .before .before .before .before .before .before .before .before .before .before .before .before .before .before .before .before .before .items .ensures .0) _ (c .before .before .before .before .before .before .before .before .before .before .before .before .before .before .before .line-failing .ensures) (c .before .before .before .before .before .before .before .before .before .before .before .before .before .before .if1 .left) _ (c .before .before .before .before .before .before .before .before .before .value-rows .ensures) _ (c .before .before .before .before .before .before .before .before .before .before .before .breaks .ensures) _ (c .before .before .before .before .before .before .before .before .before .before .noted .ensures) _ (c .before .before .before .before .before .before .before .before .target-name .ensures) _ _ (c .before .before .before .before .before .note-copy .ensures .0) (c .before .before .before .before .before .note-copy .ensures .1) _ _ (c .before .before .before .put-local .ensures) (c .before .put-item .ensures) _ (c .next-of .ensures)
+    let read = c .before .before .before .before .before .before .before .before .before .before .before .before .before .before .before .before .before .before in
+    let line = read .before .before .before .before in
+    let start = line .before .before .before .before .before .before .before .before in
+    walk-more (start .pre .0 .0) _ _ (start .pre .0 .1) (line .before .loop .inv) (line .loop-test .taken) _ (read .before .before .block-of .ensures) _ (read .before .before .before .record-at .ensures) _ (read .before .value-of .ensures) _
+    (read .items-in .ensures) _ (line .before .before .before .before .before .globals .ensures) (line .before .before .before .before .items .ensures .0) _
+    (c .before .before .before .before .before .before .before .before .before .before .before .before .before .before .before .line-failing .ensures)
+    (c .before .before .before .before .before .before .before .before .before .before .before .before .before .before .if1 .left) _ (c .before .before .before .before .before .before .before .before .before .value-rows .ensures) _
+    (c .before .before .before .before .before .before .before .before .before .before .before .breaks .ensures) _ (c .before .before .before .before .before .before .before .before .before .before .noted .ensures) _
+    (c .before .before .before .before .before .before .before .before .target-name .ensures) _ _ (c .before .before .before .before .before .note-copy .ensures .0) (c .before .before .before .before .before .note-copy .ensures .1) _ _
+    (c .before .before .before .put-local .ensures) (c .before .put-item .ensures) _ (c .next-of .ensures)
 
 returns-2 : tie.Need-returns-2 Inv-loop μ-loop
-returns-2 c = (walk-end (c .before .before .before .before .before .before .before .before .pre .0 .0) _ _ (c .before .before .before .before .before .before .before .before .pre .0 .1) (c .before .loop .inv) (c .loop-test .left), λ _. walk-notes (c .before .before .before .before .before .before .before .before .pre .0 .0) _ _ (c .before .before .before .before .before .before .before .before .pre .0 .1) (c .before .loop .inv) (c .loop-test .left))
+returns-2 c =
+    let start = c .before .before .before .before .before .before .before .before in
+    (walk-end (start .pre .0 .0) _ _ (start .pre .0 .1) (c .before .loop .inv) (c .loop-test .left), λ _. walk-notes (start .pre .0 .0) _ _ (start .pre .0 .1) (c .before .loop .inv) (c .loop-test .left))
 
 pub thread-values-spec : {M : Type 1} → statement M
 thread-values-spec =

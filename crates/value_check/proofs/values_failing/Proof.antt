@@ -22,8 +22,9 @@ loop-holds c = (refl, all-start _ _ _ (c .threads .ensures) _ _ _ (c .before .be
 
 thread-values-requires : tie.Need-thread-values-requires Inv-loop μ-loop
 thread-values-requires c κs =
-    let few : c .before .before .before .loop .t < threadCount (c .before .before .before .before .before .before .before .args .case .now) = omega (arith, c .before .before .loop-test .taken, c .before .before .before .before .threads .ensures) in
-    ((c .before .before .before .before .before .before .before .pre .0, few), ((c .before .before .before .loop .inv .1 .seeks .some, omega (arith, all-room _ _ _ (c .before .before .before .before .threads .ensures) (c .before .before .before .loop .inv .1) (c .before .before .loop-test .taken), c .before .before .before .before .before .before .before .pre .1 .0 .1)), (c .before .before .before .loop .inv .1 .copies, thread-ordered _ _ (c .before .before .before .before .before .before .before .pre .1 .1 .1) _ few)))
+    let start = c .before .before .before .before .before .before .before in
+    let few : c .before .before .before .loop .t < threadCount (start .args .case .now) = omega (arith, c .before .before .loop-test .taken, c .before .before .before .before .threads .ensures) in
+    ((start .pre .0, few), ((c .before .before .before .loop .inv .1 .seeks .some, omega (arith, all-room _ _ _ (c .before .before .before .before .threads .ensures) (c .before .before .before .loop .inv .1) (c .before .before .loop-test .taken), start .pre .1 .0 .1)), (c .before .before .before .loop .inv .1 .copies, thread-ordered _ _ (start .pre .1 .1 .1) _ few)))
 
 returns : tie.Need-returns Inv-loop μ-loop
 returns c = (all-found _ _ _ (c .before .before .before .before .before .before .before .threads .ensures) (c .before .before .before .before .before .before .loop .inv .1) (c .before .before .before .before .before .loop-test .taken) (c .before .before .thread-values .ensures .0) (c .if1 .taken), λ z. absurd (c .if1 .taken z))

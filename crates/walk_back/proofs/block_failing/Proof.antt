@@ -50,7 +50,11 @@ element-copy-out-if1 : tie.Need-element-copy-out-if1 Inv-loop μ-loop
 element-copy-out-if1 c = search needs
 
 returns : tie.Need-returns Inv-loop μ-loop
-returns c = block-found _ _ _ _ (c .before .before .before .before .before .before .before .before .items .ensures .0) (c .before .before .before .before .before .before .loop .inv) (c .before .before .before .before .before .loop-test .taken) (c .before .before .before .before .before .before .before .before .before .before .before .before .pre .0 .0) (c .before .before .before .before .before .before .before .before .before .before .before .before .pre .1 .0) _ (c .before .before .before .before .before .before .before .before .before .before .before .before .pre .0 .1) refl _ (c .before .before .before .before .before .before .before .threads .ensures) _ (c .before .before .before .before .copy-of .ensures) _ (c .before .before .decided-value .ensures) (c .if1 .taken) _
+returns c =
+    let line = c .before .before .before .before .before in
+    let start = line .before .before .before .before .before .before .before in
+    block-found _ _ _ _ (line .before .before .before .items .ensures .0) (line .before .loop .inv) (line .loop-test .taken) (start .pre .0 .0) (start .pre .1 .0) _ (start .pre .0 .1) refl _ (line .before .before .threads .ensures) _
+    (c .before .before .before .before .copy-of .ensures) _ (c .before .before .decided-value .ensures) (c .if1 .taken) _
 
 add-at : tie.Need-add-at Inv-loop μ-loop
 add-at c = omega (arith, block-room _ _ _ _ (c .before .before .before .before .before .before .before .before .items .ensures .0) (c .before .before .before .before .before .before .loop .inv) (c .before .before .before .before .before .loop-test .taken), c .before .before .before .before .before .before .before .before .before .before .before .before .pre .1 .1 .1)
@@ -62,7 +66,11 @@ loop-less : tie.Need-loop-less Inv-loop μ-loop
 loop-less c = search needs
 
 loop-again : tie.Need-loop-again Inv-loop μ-loop
-loop-again c = block-more _ _ _ _ (c .before .before .before .before .before .before .before .before .items .ensures .0) (c .before .before .before .before .before .before .loop .inv) (c .before .before .before .before .before .loop-test .taken) (c .before .before .before .before .before .before .before .before .before .before .before .before .pre .0 .0) (c .before .before .before .before .before .before .before .before .before .before .before .before .pre .1 .0) _ (c .before .before .before .before .before .before .before .before .before .before .before .before .pre .0 .1) refl _ (c .before .before .before .before .before .before .before .threads .ensures) _ (c .before .before .before .before .copy-of .ensures) _ (c .before .before .decided-value .ensures) (c .if1 .left)
+loop-again c =
+    let line = c .before .before .before .before .before in
+    let start = line .before .before .before .before .before .before .before in
+    block-more _ _ _ _ (line .before .before .before .items .ensures .0) (line .before .loop .inv) (line .loop-test .taken) (start .pre .0 .0) (start .pre .1 .0) _ (start .pre .0 .1) refl _ (line .before .before .threads .ensures) _
+    (c .before .before .before .before .copy-of .ensures) _ (c .before .before .decided-value .ensures) (c .if1 .left)
 
 returns-2 : tie.Need-returns-2 Inv-loop μ-loop
 returns-2 c = block-end _ _ _ _ (c .before .before .before .items .ensures .0) (c .before .loop .inv) (c .loop-test .left)

@@ -2,13 +2,13 @@
 use mathlib.Core.Path.{_≡_, refl}
 use Prim.Native.Nat.{ℕ, _-_}
 use native.Mathlib.Omega.{arith}
-use Rattle.walk_back.proofs.Blocks.{AllBlocks, blocks-start, blocks-end, blocks-room, blocks-found, blocks-more}
+use Rattle.walk_back.proofs.Blocks.{BlocksWalk, blocks-start, blocks-end, blocks-room, blocks-found, blocks-more}
 use borrow.Author.Needs.{needs}
 use Rattle.walk_back.proofs.blocks_failing.Statement.{statement}
 use Rattle.walk_back.proofs.blocks_failing.Tie as tie
 
 abbrev Inv-loop : tie.InvT-loop
-Inv-loop case assignment previous latest start last found₀ before₀ i₀ found before i = (_≡_ {A = ℕ} (found .failed) 0) × AllBlocks case assignment start last before (found .next) i
+Inv-loop case assignment previous latest start last found₀ before₀ i₀ found before i = (_≡_ {A = ℕ} (found .failed) 0) × BlocksWalk case assignment start last before (found .next) i
 
 abbrev μ-loop : tie.MeasureT-loop
 μ-loop case assignment previous latest start last found₀ before₀ i₀ found before i = last - i
