@@ -5,7 +5,7 @@ use Prim.Native.Nat.{ℕ, suc, _+_, _*_, _≤_, _<_}
 use mathlib.Core.List.{List, [], _∷_, _++_}
 use native.Mathlib.Omega.{arith}
 use lib.ListN.{length, length-append}
-use Rattle.model.specs.CaseFile.{kindOf, Line, Case, records, recordField, threadCount, switchCount, chains, caseOf, itemCount, sumOfLines, sumOfThreads}
+use Rattle.model.specs.CaseFile.{kindOf, Line, Case, records, recordField, switchCount, caseOf, itemCount, sumOfLines, sumOfThreads}
 use Rattle.model.specs.Table.{orderRows, allOrderRows, valueRows, allValueRows, blockRows, runRows, goalRow, table}
 use Rattle.laws.specs.Accepted.{Accepted}
 use Rattle.laws.specs.RowCounts.{orderRowCount, valueRowCount}

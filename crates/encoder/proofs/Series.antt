@@ -21,15 +21,15 @@ pub record Going (s : Series) (i : ℕ) (out : List ℕ) (at : ℕ) (x : List �
   pub upto : i ≤ s .to
   pub writes : Writing out at (s .from i) x end len
 
-pub going-start : (s : Series) (out : List ℕ) (at : ℕ) (numbers : List ℕ) → s .from 0 ≡ numbers → Going s 0 out at (numbersAt out at numbers) (at + length numbers) (length out)
-going-start s out at numbers e = record { upto = omega arith; writes = writing-start out at (s .from 0) numbers e }
+pub going-start : (s : Series) {out : List ℕ} {at : ℕ} (numbers : List ℕ) → s .from 0 ≡ numbers → Going s 0 out at (numbersAt out at numbers) (at + length numbers) (length out)
+going-start s {out} {at} numbers e = record { upto = omega arith; writes = writing-start out at (s .from 0) numbers e }
 
-module _ (s : Series) (i : ℕ) (out : List ℕ) (at : ℕ) (x : List ℕ) (end len : ℕ) (v : Going s i out at x end len) where
+module _ {s : Series} {i : ℕ} {out : List ℕ} {at : ℕ} {x : List ℕ} {end len : ℕ} (v : Going s i out at x end len) where
   pub going-fits : i < s .to → end ≤ len → at + length (s .here i) ≤ length out
   going-fits h fits = omega (arith, writing-room out at (s .from i) x end len (v .writes) (s .here i) (s .from (i + 1)) (s .more i h), v .writes .same)
 
-  pub going-more : i < s .to → (out' : List ℕ) (at' : ℕ) → out' ≡ numbersAt out at (s .here i) → at' ≡ at + length (s .here i) → Going s (i + 1) out' at' x end len
-  going-more h out' at' eo ea = record {
+  pub going-more : i < s .to → {out' : List ℕ} {at' : ℕ} → out' ≡ numbersAt out at (s .here i) → at' ≡ at + length (s .here i) → Going s (i + 1) out' at' x end len
+  going-more h {out'} {at'} eo ea = record {
     upto = omega arith;
     writes = writing-more out at (s .from i) x end len (v .writes) (s .here i) (s .from (i + 1)) out' at' (s .more i h) eo ea;
   }

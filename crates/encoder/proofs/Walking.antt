@@ -74,56 +74,61 @@ module _ (bytes : List ℕ) (t : ℕ) (rows : LineRows) where
     pub known : Known earlier
     pub writes : Writing out at (numbersOf (rows .all earlier (linesFrom bytes t k))) x end len
 
-  pub walking-start :
-      (Known : List Line → Type 0) (k : ℕ) (out : List ℕ) (at : ℕ) → Accepted bytes → t < threadCount bytes → k ≡ firstRecord bytes t → Known []
-      → Walking Known k out at (numbersAt out at (numbersOf (rows .all [] (threadLines bytes t)))) (at + length (numbersOf (rows .all [] (threadLines bytes t)))) (length out)
-  walking-start Known k out at ok few e known = record {
-    earlier = [];
-    low = omega (arith, ok .firsts t few);
-    whole = rw e;
-    known = known;
-    writes = writing-start out at _ _ (rw e);
-  }
+pub walking-start :
+    {bytes : List ℕ} {t : ℕ} {rows : LineRows} {Known : List Line → Type 0} {k : ℕ} {out : List ℕ} {at : ℕ}
+    → Accepted bytes → t < threadCount bytes → k ≡ firstRecord bytes t → Known [] → (numbers : List ℕ) → numbersOf (rows .all [] (threadLines bytes t)) ≡ numbers
+    → Walking bytes t rows Known k out at (numbersAt out at numbers) (at + length numbers) (length out)
+walking-start {t = t} {out = out} {at = at} ok few e known numbers all = record {
+  earlier = [];
+  low = omega (arith, ok .firsts t few);
+  whole = rw e;
+  known = known;
+  writes = writing-start out at _ numbers (rw e all);
+}
 
-  module _ (Known : List Line → Type 0) (k : ℕ) (out : List ℕ) (at : ℕ) (x : List ℕ) (end len : ℕ) (v : Walking Known k out at x end len) where
-    pub walking-end : k ≡ 0 → ((out ≡ x) × (at ≡ end)) × (v .earlier ≡ reverse (threadLines bytes t))
-    unfolding numbersOf
-    walking-end z =
-        let finished = lines-end bytes t k z in
-        let nothing = ap (rows .all (v .earlier)) finished ∙ rows .none (v .earlier) in
-        (writing-end out at _ x end len (v .writes) (ap numbersOf nothing), sym (ap (λ (ls : List Line). reverseAux ls (v .earlier)) finished) ∙ v .whole)
+module _ {bytes : List ℕ} {t : ℕ} {rows : LineRows} {Known : List Line → Type 0} {k : ℕ} {out : List ℕ} {at : ℕ} {x : List ℕ} {end len : ℕ}
+    (v : Walking bytes t rows Known k out at x end len) where
+  pub walking-end : k ≡ 0 → ((out ≡ x) × (at ≡ end)) × (v .earlier ≡ reverse (threadLines bytes t))
+  unfolding numbersOf
+  walking-end z =
+      let finished = lines-end bytes t k z in
+      let nothing = ap (rows .all (v .earlier)) finished ∙ rows .none (v .earlier) in
+      (writing-end out at _ x end len (v .writes) (ap numbersOf nothing), sym (ap (λ (ls : List Line). reverseAux ls (v .earlier)) finished) ∙ v .whole)
 
-    module _ (ok : Accepted bytes) (some : k ≢ 0) where
-      abbrev line : Line
-      line = lineOf bytes t k
+  module _ (ok : Accepted bytes) (some : k ≢ 0) where
+    abbrev line : Line
+    line = lineOf bytes t k
 
-      abbrev rest : List Line
-      rest = linesFrom bytes t (nextRecord bytes k)
+    abbrev rest : List Line
+    rest = linesFrom bytes t (nextRecord bytes k)
 
-      abbrev here : List ℕ
-      here = numbersOf (rows .here (v .earlier) line rest)
+    abbrev here : List ℕ
+    here = numbersOf (rows .here (v .earlier) line rest)
 
-      abbrev after : List ℕ
-      after = numbersOf (rows .all (line ∷ v .earlier) rest)
+    abbrev after : List ℕ
+    after = numbersOf (rows .all (line ∷ v .earlier) rest)
 
-      split : numbersOf (rows .all (v .earlier) (linesFrom bytes t k)) ≡ here ++ after
-      split =
-          ap (λ (ls : List Line). numbersOf (rows .all (v .earlier) ls)) (lines-more bytes ok t k some (v .low))
-          ∙ ap numbersOf (rows .more (v .earlier) line rest) ∙ numbers-of-append (rows .here (v .earlier) line rest) (rows .all (line ∷ v .earlier) rest)
+    goes-on : linesFrom bytes t k ≡ line ∷ rest
+    goes-on = lines-more bytes ok t k some (v .low)
 
-      width : length here ≡ 6 * rows .count line
-      width = omega (arith, six-a-row (rows .here (v .earlier) line rest), rows .size (v .earlier) line rest)
+    split : numbersOf (rows .all (v .earlier) (linesFrom bytes t k)) ≡ here ++ after
+    split =
+        ap (λ (ls : List Line). numbersOf (rows .all (v .earlier) ls)) goes-on
+        ∙ ap numbersOf (rows .more (v .earlier) line rest) ∙ numbers-of-append (rows .here (v .earlier) line rest) (rows .all (line ∷ v .earlier) rest)
 
-      pub walking-room : end ≤ len → at + 6 * rows .count line ≤ length out
-      walking-room h = omega (arith, writing-room out at _ x end len (v .writes) here after split, width, v .writes .same)
+    width : length here ≡ 6 * rows .count line
+    width = omega (arith, six-a-row (rows .here (v .earlier) line rest), rows .size (v .earlier) line rest)
 
-      pub walking-more :
-          (Known' : List Line → Type 0) (next : ℕ) (out' : List ℕ) (at' : ℕ) → next ≡ nextRecord bytes k → Known' (line ∷ v .earlier)
-          → out' ≡ numbersAt out at here → at' ≡ at + 6 * rows .count line → Walking Known' next out' at' x end len
-      walking-more Known' next out' at' e known eo ea = rw e (record {
-        earlier = line ∷ v .earlier;
-        low = next-low bytes ok t k some (v .low);
-        whole = sym (ap (λ (ls : List Line). reverseAux ls (v .earlier)) (lines-more bytes ok t k some (v .low))) ∙ v .whole;
-        known = known;
-        writes = writing-more out at _ x end len (v .writes) here after out' at' split eo (omega (arith, width));
-      })
+    pub walking-room : end ≤ len → at + 6 * rows .count line ≤ length out
+    walking-room h = omega (arith, writing-room out at _ x end len (v .writes) here after split, width, v .writes .same)
+
+    pub walking-more :
+        {Known' : List Line → Type 0} {next : ℕ} {out' : List ℕ} {at' : ℕ} → next ≡ nextRecord bytes k → Known' (line ∷ v .earlier)
+        → out' ≡ numbersAt out at here → at' ≡ at + 6 * rows .count line → Walking bytes t rows Known' next out' at' x end len
+    walking-more {Known'} {next} {out'} {at'} e known eo ea = rw e (record {
+      earlier = line ∷ v .earlier;
+      low = next-low bytes ok t k some (v .low);
+      whole = sym (ap (λ (ls : List Line). reverseAux ls (v .earlier)) goes-on) ∙ v .whole;
+      known = known;
+      writes = writing-more out at _ x end len (v .writes) here after out' at' split eo (omega (arith, width));
+    })

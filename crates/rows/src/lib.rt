@@ -1,8 +1,8 @@
 // The rows of the table: each is made by one function, and put into the slice by one. A line's rows are made from where it stands
 // in its chain and from the latest copies of its thread.
 ghost use mathlib.Core.Path.{_≡_};
-ghost use Prim.Native.Nat.{ℕ, _+_, _*_, _<_, _≤_};
-ghost use mathlib.Core.List.{List, [], _∷_};
+ghost use Prim.Native.Nat.{_+_, _*_, _<_, _≤_};
+ghost use mathlib.Core.List.{[], _∷_};
 ghost use lib.ListN.{length};
 ghost use Rattle.model.specs.Limits.{mostThreads, mostGlobals};
 ghost use Rattle.model.specs.CaseFile.{kindOf};

@@ -26,10 +26,10 @@ cast-threads : tie.Need-cast-threads Inv-loop μ-loop
 cast-threads c = search needs
 
 loop-holds : tie.Need-loop-holds Inv-loop μ-loop
-loop-holds c = (c .before .before .before .pre .1 .0, going-start _ _ _ _ (values-all _ _ (c .threads .ensures)))
+loop-holds c = (c .before .before .before .pre .1 .0, going-start _ _ (values-all _ _ (c .threads .ensures)))
 
 write-values-requires : tie.Need-write-values-requires Inv-loop μ-loop
-write-values-requires c κs = (c .before .before .before .before .before .before .before .pre .0, (search needs, (c .before .before .before .loop .inv .0, going-fits _ _ _ _ _ _ _ (c .before .before .before .loop .inv .1) (c .before .before .loop-test .taken) (c .before .before .before .before .before .before .before .pre .1 .1))))
+write-values-requires c κs = (c .before .before .before .before .before .before .before .pre .0, (search needs, (c .before .before .before .loop .inv .0, going-fits (c .before .before .before .loop .inv .1) (c .before .before .loop-test .taken) (c .before .before .before .before .before .before .before .pre .1 .1))))
 
 add-thread : tie.Need-add-thread Inv-loop μ-loop
 add-thread c = search needs
@@ -38,14 +38,14 @@ loop-less : tie.Need-loop-less Inv-loop μ-loop
 loop-less c = search needs
 
 loop-again : tie.Need-loop-again Inv-loop μ-loop
-loop-again c = (rw add-one (c .before .before .write-values .ensures .1 .0), going-more _ _ _ _ _ _ _ (c .before .before .before .before .before .before .loop .inv .1) (c .before .before .before .before .before .loop-test .taken) _ _ (c .before .before .write-values .ensures .0) (c .before .before .write-values .ensures .1 .1))
+loop-again c = (rw add-one (c .before .before .write-values .ensures .1 .0), going-more (c .before .before .before .before .before .before .loop .inv .1) (c .before .before .before .before .before .loop-test .taken) (c .before .before .write-values .ensures .0) (c .before .before .write-values .ensures .1 .1))
 
 same-length : tie.Need-same-length Inv-loop μ-loop
 same-length c = c .before .loop .inv .1 .writes .same
 
 returns : tie.Need-returns Inv-loop μ-loop
 returns c =
-    let done = going-end _ _ _ _ _ _ _ (c .before .loop .inv .1) (c .loop-test .left) in
+    let done = going-end (c .before .loop .inv .1) (c .loop-test .left) in
     (done .0, (all-taken _ _ _ _ (c .before .before .threads .ensures) (c .before .loop .inv .1 .upto) (c .loop-test .left) (c .before .loop .inv .0), done .1))
 
 pub write-all-values-spec : {M : Type 1} → statement M

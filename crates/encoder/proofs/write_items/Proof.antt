@@ -31,7 +31,7 @@ items-requires : tie.Need-items-requires Inv-loop μ-loop
 items-requires c κs = search needs
 
 loop-holds : tie.Need-loop-holds Inv-loop μ-loop
-loop-holds c = going-start _ _ _ _ (items-all _ _ _ (c .items .ensures .0))
+loop-holds c = going-start _ _ (items-all _ _ _ (c .items .ensures .0))
 
 add-copy-of : tie.Need-add-copy-of Inv-loop μ-loop
 add-copy-of c = search needs
@@ -47,11 +47,11 @@ item-row-requires c κs = search needs
 
 put-row-requires : tie.Need-put-row-requires Inv-loop μ-loop
 unfolding numbersOf
-put-row-requires c κs = going-fits _ _ _ _ _ _ _ (c .before .before .before .before .loop .inv) (c .before .before .before .loop-test .taken) (c .before .before .before .before .before .before .before .before .before .pre .1 .1)
+put-row-requires c κs = going-fits (c .before .before .before .before .loop .inv) (c .before .before .before .loop-test .taken) (c .before .before .before .before .before .before .before .before .before .pre .1 .1)
 
 add-at : tie.Need-add-at Inv-loop μ-loop
 unfolding numbersOf
-add-at c = let fits = going-fits _ _ _ _ _ _ _ (c .before .before .before .before .before .before .before .loop .inv) (c .before .before .before .before .before .before .loop-test .taken) (c .before .before .before .before .before .before .before .before .before .before .before .before .pre .1 .1) in omega arith
+add-at c = let fits = going-fits (c .before .before .before .before .before .before .before .loop .inv) (c .before .before .before .before .before .before .loop-test .taken) (c .before .before .before .before .before .before .before .before .before .before .before .before .pre .1 .1) in omega arith
 
 add-g : tie.Need-add-g Inv-loop μ-loop
 add-g c = search needs
@@ -62,14 +62,14 @@ loop-less c = search needs
 loop-again : tie.Need-loop-again Inv-loop μ-loop
 unfolding numbersOf
 loop-again c =
-    going-more _ _ _ _ _ _ _ (c .before .before .before .before .before .before .before .loop .inv) (c .before .before .before .before .before .before .loop-test .taken) _ _
-    (item-put _ (c .before .before .before .before .before .before .before .before .before .before .before .before .pre .0) _ (c .before .before .before .before .before .before .before .before .before .before .before .before .pre .1 .0) _ _ _ _ _ _ _ _ (search needs) (c .before .before .before .before .before .before .before .before .before .threads .ensures) (c .before .before .before .before .before .copy-of .ensures) (c .before .before .before .before .item-row .ensures) (c .before .before .put-row .ensures)) refl
+    let row = item-put _ (c .before .before .before .before .before .before .before .before .before .before .before .before .pre .0) _ (c .before .before .before .before .before .before .before .before .before .before .before .before .pre .1 .0) _ _ _ _ _ _ _ _ (search needs) (c .before .before .before .before .before .before .before .before .before .threads .ensures) (c .before .before .before .before .before .copy-of .ensures) (c .before .before .before .before .item-row .ensures) (c .before .before .put-row .ensures) in
+    going-more (c .before .before .before .before .before .before .before .loop .inv) (c .before .before .before .before .before .before .loop-test .taken) row refl
 
 same-length : tie.Need-same-length Inv-loop μ-loop
 same-length c = c .before .loop .inv .writes .same
 
 returns : tie.Need-returns Inv-loop μ-loop
-returns c = going-end _ _ _ _ _ _ _ (c .before .loop .inv) (c .loop-test .left)
+returns c = going-end (c .before .loop .inv) (c .loop-test .left)
 
 pub write-items-spec : {M : Type 1} → statement M
 write-items-spec =

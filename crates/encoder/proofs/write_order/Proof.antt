@@ -10,8 +10,8 @@ use Rattle.laws.specs.Written.{numbersAt}
 use Rattle.laws.proofs.Following.{lines-less, next-low}
 use Rattle.rows.specs.Rows.{Nearest}
 use Rattle.encoder.specs.Parts.{orderNumbers}
-use Rattle.encoder.proofs.Walking.{orders, Walking, walking-start, walking-room, walking-more, walking-end}
-use Rattle.encoder.proofs.Lines.{nearest-taken, order-put}
+use Rattle.encoder.proofs.Walking.{orders, Walking, walking-start, walking-room, walking-end}
+use Rattle.encoder.proofs.Lines.{order-step}
 use Rattle.encoder.proofs.write_order.Statement.{statement}
 use Rattle.encoder.proofs.write_order.Tie as tie
 
@@ -32,7 +32,7 @@ first-of-requires c κs = search needs
 
 loop-holds : tie.Need-loop-holds Inv-loop μ-loop
 unfolding orderNumbers Nearest
-loop-holds c = walking-start _ _ _ _ _ _ _ (c .before .before .before .before .before .pre .0) (c .before .before .before .before .before .pre .1 .0) (c .first-of .ensures) refl
+loop-holds c = walking-start (c .before .before .before .before .before .pre .0) (c .before .before .before .before .before .pre .1 .0) (c .first-of .ensures) refl _ refl
 
 next-of-requires : tie.Need-next-of-requires Inv-loop μ-loop
 next-of-requires c κs = search needs
@@ -47,28 +47,25 @@ cast-put-order-2 : tie.Need-cast-put-order-2 Inv-loop μ-loop
 cast-put-order-2 c = search needs
 
 put-order-requires : tie.Need-put-order-requires Inv-loop μ-loop
-put-order-requires c κs = walking-room _ _ _ _ _ _ _ _ _ _ (c .before .before .before .loop .inv) (c .before .before .before .before .before .before .before .before .before .pre .0) (c .before .before .loop-test .taken) (c .before .before .before .before .before .before .before .before .before .pre .1 .1)
+put-order-requires c κs = walking-room (c .before .before .before .loop .inv) (c .before .before .before .before .before .before .before .before .before .pre .0) (c .before .before .loop-test .taken) (c .before .before .before .before .before .before .before .before .before .pre .1 .1)
 
 mul-at : tie.Need-mul-at Inv-loop μ-loop
 mul-at c = search needs
 
 add-at : tie.Need-add-at Inv-loop μ-loop
-add-at c = omega (arith, walking-room _ _ _ _ _ _ _ _ _ _ (c .before .before .before .before .before .before .loop .inv) (c .before .before .before .before .before .before .before .before .before .before .before .before .pre .0) (c .before .before .before .before .before .loop-test .taken) (c .before .before .before .before .before .before .before .before .before .before .before .before .pre .1 .1))
+add-at c = let room = walking-room (c .before .before .before .before .before .before .loop .inv) (c .before .before .before .before .before .before .before .before .before .before .before .before .pre .0) (c .before .before .before .before .before .loop-test .taken) (c .before .before .before .before .before .before .before .before .before .before .before .before .pre .1 .1) in omega arith
 
 loop-less : tie.Need-loop-less Inv-loop μ-loop
 loop-less c = lines-less _ (c .before .before .before .before .before .before .before .before .before .before .before .before .pre .0) _ _ (c .before .before .before .before .before .loop-test .taken) (c .before .before .before .before .before .before .loop .inv .low) _ (c .before .before .before .before .next-of .ensures)
 
 loop-again : tie.Need-loop-again Inv-loop μ-loop
-loop-again c =
-    walking-more _ _ _ _ _ _ _ _ _ _ (c .before .before .before .before .before .before .loop .inv) (c .before .before .before .before .before .before .before .before .before .before .before .before .pre .0) (c .before .before .before .before .before .loop-test .taken) _ _ _ _ (c .before .before .before .before .next-of .ensures) (nearest-taken _ _ _ _ (c .before .before .before .before .before .loop-test .taken))
-    (order-put _ _ _ _ _ _ _ _ _ _ (c .before .before .before .before .before .before .before .before .before .before .before .before .pre .0) (c .before .before .before .before .before .loop-test .taken) (c .before .before .before .before .before .before .loop .inv .low) (c .before .before .put-order .ensures) (c .before .before .before .before .before .before .loop .inv .known) refl (c .before .before .before .before .next-of .ensures) (c .before .before .before .before .before .before .before .before .before .threads .ensures) (c .before .before .before .before .before .before .before .before .switches .ensures))
-    refl
+loop-again c = order-step (c .before .before .put-order .ensures) (c .before .before .before .before .before .before .loop .inv) (c .before .before .before .before .before .before .before .before .before .before .before .before .pre .0) (c .before .before .before .before .before .loop-test .taken) refl (c .before .before .before .before .next-of .ensures) (c .before .before .before .before .before .before .before .before .before .threads .ensures) (c .before .before .before .before .before .before .before .before .switches .ensures)
 
 same-length : tie.Need-same-length Inv-loop μ-loop
 same-length c = c .before .loop .inv .writes .same
 
 returns : tie.Need-returns Inv-loop μ-loop
-returns c = walking-end _ _ _ _ _ _ _ _ _ _ (c .before .loop .inv) (c .loop-test .left) .0
+returns c = walking-end (c .before .loop .inv) (c .loop-test .left) .0
 
 pub write-order-spec : {M : Type 1} → statement M
 write-order-spec =

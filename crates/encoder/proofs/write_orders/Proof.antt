@@ -23,10 +23,10 @@ cast-threads : tie.Need-cast-threads Inv-loop μ-loop
 cast-threads c = search needs
 
 loop-holds : tie.Need-loop-holds Inv-loop μ-loop
-loop-holds c = going-start _ _ _ _ (orders-all _ _ (c .threads .ensures))
+loop-holds c = going-start _ _ (orders-all _ _ (c .threads .ensures))
 
 write-order-requires : tie.Need-write-order-requires Inv-loop μ-loop
-write-order-requires c κs = (c .before .before .before .before .before .before .pre .0, (search needs, going-fits _ _ _ _ _ _ _ (c .before .before .loop .inv) (c .before .loop-test .taken) (omega (arith, c .before .before .before .before .before .before .pre .1))))
+write-order-requires c κs = (c .before .before .before .before .before .before .pre .0, (search needs, going-fits (c .before .before .loop .inv) (c .before .loop-test .taken) (omega (arith, c .before .before .before .before .before .before .pre .1))))
 
 add-t : tie.Need-add-t Inv-loop μ-loop
 add-t c = search needs
@@ -35,14 +35,14 @@ loop-less : tie.Need-loop-less Inv-loop μ-loop
 loop-less c = search needs
 
 loop-again : tie.Need-loop-again Inv-loop μ-loop
-loop-again c = going-more _ _ _ _ _ _ _ (c .before .before .before .before .before .loop .inv) (c .before .before .before .before .loop-test .taken) _ _ (c .before .before .write-order .ensures .0) (c .before .before .write-order .ensures .1)
+loop-again c = going-more (c .before .before .before .before .before .loop .inv) (c .before .before .before .before .loop-test .taken) (c .before .before .write-order .ensures .0) (c .before .before .write-order .ensures .1)
 
 same-length : tie.Need-same-length Inv-loop μ-loop
 same-length c = c .before .loop .inv .writes .same
 
 returns : tie.Need-returns Inv-loop μ-loop
 returns c =
-    let done = going-end _ _ _ _ _ _ _ (c .before .loop .inv) (c .loop-test .left) in
+    let done = going-end (c .before .loop .inv) (c .loop-test .left) in
     (done .0, omega arith)
 
 pub write-orders-spec : {M : Type 1} → statement M

@@ -14,13 +14,20 @@ write-all-values-requires : tie.Need-write-all-values-requires
 write-all-values-requires c κs = (c .before .before .before .before .before .before .before .before .pre .0, (held-start _ _ refl, omega (arith, run-size (c .before .before .before .before .before .before .before .before .args .case .now), c .before .before .before .before .before .before .before .before .pre .1, c .before .before .before .before .write-orders .ensures .1)))
 
 write-blocks-requires : tie.Need-write-blocks-requires
-write-blocks-requires c κs = (c .before .before .before .before .before .before .before .before .before .before .before .before .before .pre .0, (c .before .before .before .before .write-all-values .ensures .1 .0, omega (arith, run-size (c .before .before .before .before .before .before .before .before .before .before .before .before .before .args .case .now), c .before .before .before .before .before .before .before .before .before .before .before .before .before .pre .1, c .before .before .before .before .before .before .before .before .before .write-orders .ensures .1, c .before .before .before .before .write-all-values .ensures .1 .1)))
+write-blocks-requires c κs =
+    let size = run-size (c .before .before .before .before .before .before .before .before .before .before .before .before .before .args .case .now) in
+    let values = c .before .before .before .before .write-all-values .ensures in
+    (c .before .before .before .before .before .before .before .before .before .before .before .before .before .pre .0, (values .1 .0, omega (arith, c .before .before .before .before .before .before .before .before .before .before .before .before .before .pre .1, c .before .before .before .before .before .before .before .before .before .write-orders .ensures .1, values .1 .1)))
 
 same-length : tie.Need-same-length
 same-length c = search needs
 
 returns : tie.Need-returns
-returns c = run-written _ _ _ _ _ _ _ _ (c .before .before .before .before .before .before .before .before .before .before .before .before .write-orders .ensures .0) (c .before .before .before .before .before .before .before .before .before .before .before .before .write-orders .ensures .1) (c .before .before .before .before .before .before .before .write-all-values .ensures .0) (c .before .before .before .before .before .before .before .write-all-values .ensures .1 .1) (c .before .before .write-blocks .ensures .0) (c .before .before .write-blocks .ensures .1)
+returns c =
+    let orders = c .before .before .before .before .before .before .before .before .before .before .before .before .write-orders .ensures in
+    let values = c .before .before .before .before .before .before .before .write-all-values .ensures in
+    let blocks = c .before .before .write-blocks .ensures in
+    run-written _ _ _ _ _ _ _ _ (orders .0) (orders .1) (values .0) (values .1 .1) (blocks .0) (blocks .1)
 
 pub write-run-spec : {M : Type 1} → statement M
 write-run-spec =

@@ -1,6 +1,6 @@
 -- `write_values` writes a thread's 4s and 5s and takes each line as the latest copy of its target. Assumes nothing.
 use borrow.Author.Needs.{needs}
-use mathlib.Core.Path.{ap}
+use mathlib.Core.Path.{refl}
 use Prim.Native.Nat.{_+_}
 use native.Mathlib.Omega.{arith}
 use lib.ListN.{length}
@@ -9,11 +9,10 @@ use Rattle.laws.specs.Accepted.{linesFrom}
 use Rattle.laws.specs.Written.{numbersAt}
 use Rattle.laws.proofs.Following.{lines-less}
 use Rattle.laws.proofs.Sizes.{value-count-at-most}
-use Rattle.case_file.specs.declared.Record.{Record}
 use Rattle.copies.specs.Held.{Held}
 use Rattle.encoder.specs.Parts.{valueNumbers}
-use Rattle.encoder.proofs.Walking.{values, Walking, walking-start, walking-more, walking-end}
-use Rattle.encoder.proofs.Lines.{values-room, values-place, values-put, copy-taken, thread-taken}
+use Rattle.encoder.proofs.Walking.{values, Walking, walking-start, walking-end}
+use Rattle.encoder.proofs.Lines.{thread-low, value-room, value-step, thread-taken}
 use Rattle.encoder.proofs.write_values.Statement.{statement}
 use Rattle.encoder.proofs.write_values.Tie as tie
 
@@ -34,7 +33,7 @@ first-of-requires c κs = search needs
 
 loop-holds : tie.Need-loop-holds Inv-loop μ-loop
 unfolding valueNumbers
-loop-holds c = walking-start _ _ _ _ _ _ _ (c .before .before .before .before .pre .0) (c .before .before .before .before .pre .1 .0) (c .first-of .ensures) (c .before .before .before .before .pre .1 .1 .0)
+loop-holds c = walking-start (c .before .before .before .before .pre .0) (c .before .before .before .before .pre .1 .0) (c .first-of .ensures) (c .before .before .before .before .pre .1 .1 .0) _ refl
 
 cast-record-at : tie.Need-cast-record-at Inv-loop μ-loop
 cast-record-at c = search needs
@@ -46,7 +45,11 @@ cast-line : tie.Need-cast-line Inv-loop μ-loop
 cast-line c = search needs
 
 put-values-requires : tie.Need-put-values-requires Inv-loop μ-loop
-put-values-requires c κs = ((omega (arith, ap (λ (r : Record). r .thread) (c .before .before .record-at .ensures), c .before .before .before .before .before .before .before .before .before .pre .1 .0, c .before .before .before .before .before .before .before .before .before .pre .0 .few-threads), search needs), values-room _ _ _ _ _ _ _ _ _ (c .before .before .before .before .loop .inv) (c .before .before .before .before .before .before .before .before .before .pre .0) (c .before .before .before .loop-test .taken) (c .before .before .before .before .before .before .before .before .before .pre .1 .1 .1) _ (c .before .before .record-at .ensures))
+put-values-requires c κs =
+    let v = c .before .before .before .before .loop .inv in
+    let some = c .before .before .before .loop-test .taken in
+    let l = c .before .before .record-at .ensures in
+    ((thread-low v (c .before .before .before .before .before .before .before .before .before .pre .0) some l (c .before .before .before .before .before .before .before .before .before .pre .1 .0), search needs), value-room v (c .before .before .before .before .before .before .before .before .before .pre .0) some l refl (c .before .before .before .before .before .before .before .before .before .pre .1 .1 .1))
 
 target-name-requires : tie.Need-target-name-requires Inv-loop μ-loop
 target-name-requires c κs = search needs
@@ -61,7 +64,7 @@ mul-at : tie.Need-mul-at Inv-loop μ-loop
 mul-at c = omega (arith, value-count-at-most (kindOf (c .before .before .before .before .before .before .before .before .before .record-at .result .kind)), c .value-rows .ensures)
 
 add-at : tie.Need-add-at Inv-loop μ-loop
-add-at c = omega (arith, values-room _ _ _ _ _ _ _ _ _ (c .before .before .before .before .before .before .before .before .before .before .before .loop .inv) (c .before .before .before .before .before .before .before .before .before .before .before .before .before .before .before .before .pre .0) (c .before .before .before .before .before .before .before .before .before .before .loop-test .taken) (c .before .before .before .before .before .before .before .before .before .before .before .before .before .before .before .before .pre .1 .1 .1) _ (c .before .before .before .before .before .before .before .before .before .record-at .ensures), c .value-rows .ensures)
+add-at c = let room = value-room (c .before .before .before .before .before .before .before .before .before .before .before .loop .inv) (c .before .before .before .before .before .before .before .before .before .before .before .before .before .before .before .before .pre .0) (c .before .before .before .before .before .before .before .before .before .before .loop-test .taken) (c .before .before .before .before .before .before .before .before .before .record-at .ensures) (c .value-rows .ensures) (c .before .before .before .before .before .before .before .before .before .before .before .before .before .before .before .before .pre .1 .1 .1) in omega arith
 
 next-of-requires : tie.Need-next-of-requires Inv-loop μ-loop
 next-of-requires c κs = search needs
@@ -71,16 +74,16 @@ loop-less c = lines-less _ (c .before .before .before .before .before .before .b
 
 loop-again : tie.Need-loop-again Inv-loop μ-loop
 loop-again c =
-    walking-more _ _ _ _ _ _ _ _ _ _ (c .before .before .before .before .before .before .before .before .before .before .before .before .loop .inv) (c .before .before .before .before .before .before .before .before .before .before .before .before .before .before .before .before .before .pre .0) (c .before .before .before .before .before .before .before .before .before .before .before .loop-test .taken) _ _ _ _ (c .next-of .ensures)
-    (copy-taken _ _ _ _ _ (c .before .before .before .before .before .before .before .before .before .before .record-at .ensures) _ (c .before .before .before .before .before .before .before .before .before .before .before .before .before .before .globals .ensures) _ (c .before .before .before .before .before .before .before .before .before .before .before .before .loop .inv .known) _ _ (search needs) (c .before .before .before .before .target-name .ensures) (c .before .before .take-copy .ensures))
-    (values-put _ _ _ _ _ (c .before .before .before .before .before .before .before .before .before .before .record-at .ensures) _ (c .before .before .before .before .before .before .before .before .before .before .before .before .before .before .globals .ensures) _ (c .before .before .before .before .before .before .before .before .before .before .before .before .loop .inv .known) _ _ _ (c .before .before .before .before .before .before .before .put-values .ensures))
-    (values-place _ _ _ _ _ _ (c .before .before .before .before .before .before .before .before .before .before .record-at .ensures) (c .before .value-rows .ensures))
+    value-step (c .before .before .before .before .before .before .before .before .before .before .before .before .loop .inv) (c .before .before .before .before .before .before .before .before .before .before .before .before .before .before .before .before .before .pre .0) (c .before .before .before .before .before .before .before .before .before .before .before .loop-test .taken) (c .before .before .before .before .before .before .before .before .before .before .record-at .ensures) (c .before .before .before .before .before .before .before .before .before .before .before .before .before .before .globals .ensures) (c .before .before .before .before .before .before .before .put-values .ensures) (c .before .value-rows .ensures) (c .before .before .before .before .before .before .before .before .before .before .before .before .before .before .before .before .before .pre .1 .0)
+    (c .before .before .before .before .target-name .ensures) (c .before .before .take-copy .ensures) (c .next-of .ensures)
 
 same-length : tie.Need-same-length Inv-loop μ-loop
 same-length c = c .before .loop .inv .writes .same
 
 returns : tie.Need-returns Inv-loop μ-loop
-returns c = (walking-end _ _ _ _ _ _ _ _ _ _ (c .before .loop .inv) (c .loop-test .left) .0 .0, (thread-taken _ _ _ _ (c .before .before .before .before .before .before .pre .1 .0) (c .before .loop .inv .known) (walking-end _ _ _ _ _ _ _ _ _ _ (c .before .loop .inv) (c .loop-test .left) .1), walking-end _ _ _ _ _ _ _ _ _ _ (c .before .loop .inv) (c .loop-test .left) .0 .1))
+returns c =
+    let done = walking-end (c .before .loop .inv) (c .loop-test .left) in
+    (done .0 .0, (thread-taken _ _ _ _ (c .before .before .before .before .before .before .pre .1 .0) (c .before .loop .inv .known) (done .1), done .0 .1))
 
 pub write-values-spec : {M : Type 1} → statement M
 write-values-spec =

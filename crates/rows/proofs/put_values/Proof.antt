@@ -24,8 +24,9 @@ same-length c = search needs
 
 returns : tie.Need-returns
 returns c = λ case earlier h eG.
+    let l = asLine (c .before .before .before .before .before .before .before .before .before .before .args .l) (c .before .before .before .before .before .before .before .before .before .before .args .k) in
     let e = c .before .before .before .before .before .before .before .before .value-row .ensures case earlier h eG in
-    values-are case earlier (asLine (c .before .before .before .before .before .before .before .before .before .before .args .l) (c .before .before .before .before .before .before .before .before .before .before .args .k)) _ _ _ _ _ e (c .before .before .before .before .before .before .put-row .ensures) (c .before .before .put-demand .ensures case earlier (asLine (c .before .before .before .before .before .before .before .before .before .before .args .l) (c .before .before .before .before .before .before .before .before .before .before .args .k)) e)
+    values-are case earlier l _ _ _ _ _ e (c .before .before .before .before .before .before .put-row .ensures) (c .before .before .put-demand .ensures case earlier l e)
 
 pub put-values-spec : {M : Type 1} → statement M
 put-values-spec =
