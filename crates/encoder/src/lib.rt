@@ -200,9 +200,9 @@ fn write_values(
     let mut k = first_of(case, t);
     while k != 0 {
         let l = record_at(case, t as u16, k);
+        let target = target_name(globals, l);
         let line = k as u16;
         rows::put_values(table, at, line, l, globals, latest);
-        let target = target_name(globals, l);
         take_copy(latest, t, target, line);
         at += ROW * value_rows(l.kind);
         k = next_of(case, k);

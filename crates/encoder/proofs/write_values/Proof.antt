@@ -41,18 +41,18 @@ cast-record-at c = search needs
 record-at-requires : tie.Need-record-at-requires Inv-loop μ-loop
 record-at-requires c κs = search needs
 
+target-name-requires : tie.Need-target-name-requires Inv-loop μ-loop
+target-name-requires c κs = search needs
+
 cast-line : tie.Need-cast-line Inv-loop μ-loop
 cast-line c = search needs
 
 put-values-requires : tie.Need-put-values-requires Inv-loop μ-loop
 put-values-requires c κs =
-    let v = c .before .before .before .before .loop .inv in
-    let some = c .before .before .before .loop-test .taken in
-    let l = c .before .before .record-at .ensures in
-    ((thread-low v (c .before .before .before .before .before .before .before .before .before .pre .0) some l (c .before .before .before .before .before .before .before .before .before .pre .1 .0), search needs), value-room v (c .before .before .before .before .before .before .before .before .before .pre .0) some l refl (c .before .before .before .before .before .before .before .before .before .pre .1 .1 .1))
-
-target-name-requires : tie.Need-target-name-requires Inv-loop μ-loop
-target-name-requires c κs = search needs
+    let v = c .before .before .before .before .before .loop .inv in
+    let some = c .before .before .before .before .loop-test .taken in
+    let l = c .before .before .before .record-at .ensures in
+    ((thread-low v (c .before .before .before .before .before .before .before .before .before .before .pre .0) some l (c .before .before .before .before .before .before .before .before .before .before .pre .1 .0), search needs), value-room v (c .before .before .before .before .before .before .before .before .before .before .pre .0) some l refl (c .before .before .before .before .before .before .before .before .before .before .pre .1 .1 .1))
 
 take-copy-requires : tie.Need-take-copy-requires Inv-loop μ-loop
 take-copy-requires c κs = search needs
@@ -64,7 +64,10 @@ mul-at : tie.Need-mul-at Inv-loop μ-loop
 mul-at c = omega (arith, value-count-at-most (kindOf (c .before .before .before .before .before .before .before .before .before .record-at .result .kind)), c .value-rows .ensures)
 
 add-at : tie.Need-add-at Inv-loop μ-loop
-add-at c = let room = value-room (c .before .before .before .before .before .before .before .before .before .before .before .loop .inv) (c .before .before .before .before .before .before .before .before .before .before .before .before .before .before .before .before .pre .0) (c .before .before .before .before .before .before .before .before .before .before .loop-test .taken) (c .before .before .before .before .before .before .before .before .before .record-at .ensures) (c .value-rows .ensures) (c .before .before .before .before .before .before .before .before .before .before .before .before .before .before .before .before .pre .1 .1 .1) in omega arith
+add-at c =
+    let v = c .before .before .before .before .before .before .before .before .before .before .before .loop .inv in
+    let room = value-room v (c .before .before .before .before .before .before .before .before .before .before .before .before .before .before .before .before .pre .0) (c .before .before .before .before .before .before .before .before .before .before .loop-test .taken) (c .before .before .before .before .before .before .before .before .before .record-at .ensures) (c .value-rows .ensures) (c .before .before .before .before .before .before .before .before .before .before .before .before .before .before .before .before .pre .1 .1 .1) in
+    omega arith
 
 next-of-requires : tie.Need-next-of-requires Inv-loop μ-loop
 next-of-requires c κs = search needs
@@ -74,8 +77,11 @@ loop-less c = lines-less _ (c .before .before .before .before .before .before .b
 
 loop-again : tie.Need-loop-again Inv-loop μ-loop
 loop-again c =
-    value-step (c .before .before .before .before .before .before .before .before .before .before .before .before .loop .inv) (c .before .before .before .before .before .before .before .before .before .before .before .before .before .before .before .before .before .pre .0) (c .before .before .before .before .before .before .before .before .before .before .before .loop-test .taken) (c .before .before .before .before .before .before .before .before .before .before .record-at .ensures) (c .before .before .before .before .before .before .before .before .before .before .before .before .before .before .globals .ensures) (c .before .before .before .before .before .before .before .put-values .ensures) (c .before .value-rows .ensures) (c .before .before .before .before .before .before .before .before .before .before .before .before .before .before .before .before .before .pre .1 .0)
-    (c .before .before .before .before .target-name .ensures) (c .before .before .take-copy .ensures) (c .next-of .ensures)
+    let v = c .before .before .before .before .before .before .before .before .before .before .before .before .loop .inv in
+    let l = c .before .before .before .before .before .before .before .before .before .before .record-at .ensures in
+    let rows = c .before .before .before .before .before .before .put-values .ensures in
+    let target = c .before .before .before .before .before .before .before .before .before .target-name .ensures in
+    value-step v (c .before .before .before .before .before .before .before .before .before .before .before .before .before .before .before .before .before .pre .0) (c .before .before .before .before .before .before .before .before .before .before .before .loop-test .taken) l (c .before .before .before .before .before .before .before .before .before .before .before .before .before .before .globals .ensures) rows (c .before .value-rows .ensures) (c .before .before .before .before .before .before .before .before .before .before .before .before .before .before .before .before .before .pre .1 .0) target (c .before .before .take-copy .ensures) (c .next-of .ensures)
 
 same-length : tie.Need-same-length Inv-loop μ-loop
 same-length c = c .before .loop .inv .writes .same
@@ -97,9 +103,9 @@ write-values-spec =
     loop-holds
     cast-record-at
     record-at-requires
+    target-name-requires
     cast-line
     put-values-requires
-    target-name-requires
     take-copy-requires
     value-rows-requires
     mul-at
