@@ -21,15 +21,15 @@ use Rattle.laws.proofs.Writing.{numbers-append, numbers-from-start}
 use Rattle.copies.specs.Held.{copyIn, Held}
 use Rattle.copies.proofs.Held.{held-last}
 use Rattle.encoder.proofs.Series.{Series}
-use Rattle.encoder.specs.Parts.{orderNumbers, ordersNumbers, valueNumbers, valuesNumbers, itemNumbers, blockNumbers, runNumbers, tableNumbers}
+use Rattle.encoder.specs.Parts.{orderNumbers, allOrderNumbers, valueNumbers, allValueNumbers, itemNumbers, blockNumbers, runNumbers, tableNumbers}
 
 module _ (bytes : List ℕ) where
   -- The order rows of the threads from t on.
   unfoldable pub ordersFrom : ℕ → ℕ → List ℕ
   ordersFrom to t = numbersOf (allOrderRows (caseOf bytes) t (chains bytes t (to - t)))
 
-  pub orders-all : (to : ℕ) → to ≡ threadCount bytes → ordersFrom to 0 ≡ ordersNumbers bytes
-  unfolding ordersFrom ordersNumbers
+  pub orders-all : (to : ℕ) → to ≡ threadCount bytes → ordersFrom to 0 ≡ allOrderNumbers bytes
+  unfolding ordersFrom allOrderNumbers
   orders-all to e = let z : to - 0 ≡ threadCount bytes = omega arith in rw z
 
   pub orders-more : (to t : ℕ) → t < to → ordersFrom to t ≡ orderNumbers bytes t ++ ordersFrom to (t + 1)
@@ -49,8 +49,8 @@ module _ (bytes : List ℕ) where
   unfoldable pub valuesFrom : ℕ → ℕ → List ℕ
   valuesFrom to t = numbersOf (allValueRows (caseOf bytes) (chains bytes t (to - t)))
 
-  pub values-all : (to : ℕ) → to ≡ threadCount bytes → valuesFrom to 0 ≡ valuesNumbers bytes
-  unfolding valuesFrom valuesNumbers
+  pub values-all : (to : ℕ) → to ≡ threadCount bytes → valuesFrom to 0 ≡ allValueNumbers bytes
+  unfolding valuesFrom allValueNumbers
   values-all to e = let z : to - 0 ≡ threadCount bytes = omega arith in rw z
 
   pub values-more : (to t : ℕ) → t < to → valuesFrom to t ≡ valueNumbers bytes t ++ valuesFrom to (t + 1)
@@ -130,38 +130,38 @@ module _ (bytes : List ℕ) where
       rw (← last, ← eT, ← ec, ← ew) ea
 
   -- All rows but the goal.
-  pub run-parts : runNumbers bytes ≡ ordersNumbers bytes ++ (valuesNumbers bytes ++ blockNumbers bytes)
-  unfolding runNumbers ordersNumbers valuesNumbers blockNumbers runRows
+  pub run-parts : runNumbers bytes ≡ allOrderNumbers bytes ++ (allValueNumbers bytes ++ blockNumbers bytes)
+  unfolding runNumbers allOrderNumbers allValueNumbers blockNumbers runRows
   run-parts =
       numbers-of-append (allOrderRows (caseOf bytes) 0 (caseOf bytes .threads)) (allValueRows (caseOf bytes) (caseOf bytes .threads) ++ blockRows (caseOf bytes) 0 (switchCount bytes))
       ∙ ap (λ (xs : List ℕ). numbersOf (allOrderRows (caseOf bytes) 0 (caseOf bytes .threads)) ++ xs)
       (numbers-of-append (allValueRows (caseOf bytes) (caseOf bytes .threads)) (blockRows (caseOf bytes) 0 (switchCount bytes)))
 
-  pub run-size : length (runNumbers bytes) ≡ length (ordersNumbers bytes) + length (valuesNumbers bytes) + length (blockNumbers bytes)
+  pub run-size : length (runNumbers bytes) ≡ length (allOrderNumbers bytes) + length (allValueNumbers bytes) + length (blockNumbers bytes)
   run-size =
       omega (
         arith,
         ap length run-parts,
-        length-append (ordersNumbers bytes) (valuesNumbers bytes ++ blockNumbers bytes),
-        length-append (valuesNumbers bytes) (blockNumbers bytes),
+        length-append (allOrderNumbers bytes) (allValueNumbers bytes ++ blockNumbers bytes),
+        length-append (allValueNumbers bytes) (blockNumbers bytes),
       )
 
   pub run-written :
-      (d a b c : List ℕ) (p q r : ℕ) → a ≡ numbersAt d 0 (ordersNumbers bytes) → p ≡ length (ordersNumbers bytes)
-      → b ≡ numbersAt a p (valuesNumbers bytes) → q ≡ p + length (valuesNumbers bytes)
+      (d a b c : List ℕ) (p q r : ℕ) → a ≡ numbersAt d 0 (allOrderNumbers bytes) → p ≡ length (allOrderNumbers bytes)
+      → b ≡ numbersAt a p (allValueNumbers bytes) → q ≡ p + length (allValueNumbers bytes)
       → c ≡ numbersAt b q (blockNumbers bytes) → r ≡ q + length (blockNumbers bytes)
       → (c ≡ numbersAt d 0 (runNumbers bytes)) × (r ≡ length (runNumbers bytes))
   run-written d a b c p q r ea ep eb eq ec er = (
     rw (ec, eb, ea, run-parts, after, start)
-        (sym (numbers-append d 0 (ordersNumbers bytes) (valuesNumbers bytes ++ blockNumbers bytes)
-        ∙ numbers-append (numbersAt d 0 (ordersNumbers bytes)) (0 + length (ordersNumbers bytes)) (valuesNumbers bytes) (blockNumbers bytes))),
+        (sym (numbers-append d 0 (allOrderNumbers bytes) (allValueNumbers bytes ++ blockNumbers bytes)
+        ∙ numbers-append (numbersAt d 0 (allOrderNumbers bytes)) (0 + length (allOrderNumbers bytes)) (allValueNumbers bytes) (blockNumbers bytes))),
     omega (arith, run-size),
   )
     where
-      start : p ≡ 0 + length (ordersNumbers bytes)
+      start : p ≡ 0 + length (allOrderNumbers bytes)
       start = omega arith
 
-      after : q ≡ 0 + length (ordersNumbers bytes) + length (valuesNumbers bytes)
+      after : q ≡ 0 + length (allOrderNumbers bytes) + length (allValueNumbers bytes)
       after = omega arith
 
   -- The goal after them.

@@ -10,15 +10,15 @@ use Rattle.laws.specs.Accepted.{threadLines}
 unfoldable pub orderNumbers : List ℕ → ℕ → List ℕ
 orderNumbers bytes t = numbersOf (orderRows (caseOf bytes) t [] (threadLines bytes t))
 
-unfoldable pub ordersNumbers : List ℕ → List ℕ
-ordersNumbers bytes = numbersOf (allOrderRows (caseOf bytes) 0 (caseOf bytes .threads))
+unfoldable pub allOrderNumbers : List ℕ → List ℕ
+allOrderNumbers bytes = numbersOf (allOrderRows (caseOf bytes) 0 (caseOf bytes .threads))
 
 -- The 4s and 5s of thread t, and of all threads.
 unfoldable pub valueNumbers : List ℕ → ℕ → List ℕ
 valueNumbers bytes t = numbersOf (valueRows (caseOf bytes) [] (threadLines bytes t))
 
-unfoldable pub valuesNumbers : List ℕ → List ℕ
-valuesNumbers bytes = numbersOf (allValueRows (caseOf bytes) (caseOf bytes .threads))
+unfoldable pub allValueNumbers : List ℕ → List ℕ
+allValueNumbers bytes = numbersOf (allValueRows (caseOf bytes) (caseOf bytes .threads))
 
 -- The 6s of block i, and of all blocks but the last.
 unfoldable pub itemNumbers : List ℕ → ℕ → List ℕ

@@ -13,7 +13,7 @@ ghost use Rattle.model.specs.declared.Verdict.the-variants as verdicts;
 ghost use Rattle.laws.specs.Accepted.{Accepted};
 ghost use Rattle.laws.specs.Written.{numbersAt};
 ghost use Rattle.copies.specs.Held.{Held};
-ghost use Rattle.encoder.specs.Parts.{orderNumbers, ordersNumbers, valueNumbers, valuesNumbers, itemNumbers, blockNumbers, runNumbers, tableNumbers};
+ghost use Rattle.encoder.specs.Parts.{orderNumbers, allOrderNumbers, valueNumbers, allValueNumbers, itemNumbers, blockNumbers, runNumbers, tableNumbers};
 use accept::accept;
 use case_file::block_values;
 use case_file::first_of;
@@ -112,9 +112,9 @@ fn write_run(case: &[u8], table: &mut [u16]) -> usize
 // The 3s, 1s and 2s of all threads, from the slice's start; the place after them.
 fn write_orders(case: &[u8], table: &mut [u16]) -> usize
     requires { ⌜ Accepted (now case) ⌝ }
-    requires { ⌜ length (ordersNumbers (now case)) ≤ length (now table) ⌝ }
-    ensures { λ r. ⌜ now (table .exit) ≡ numbersAt (now (table .entry)) 0 (ordersNumbers (now (case .entry))) ⌝ }
-    ensures { λ r. ⌜ r ≡ length (ordersNumbers (now (case .entry))) ⌝ }
+    requires { ⌜ length (allOrderNumbers (now case)) ≤ length (now table) ⌝ }
+    ensures { λ r. ⌜ now (table .exit) ≡ numbersAt (now (table .entry)) 0 (allOrderNumbers (now (case .entry))) ⌝ }
+    ensures { λ r. ⌜ r ≡ length (allOrderNumbers (now (case .entry))) ⌝ }
 {
     let threads = threads(case) as usize;
     let mut at = 0;
@@ -164,10 +164,10 @@ fn write_all_values(
 ) -> usize
     requires { ⌜ Accepted (now case) ⌝ }
     requires { ⌜ Held (caseOf (now case)) (now latest) 0 [] ⌝ }
-    requires { ⌜ start + length (valuesNumbers (now case)) ≤ length (now table) ⌝ }
-    ensures { λ r. ⌜ now (table .exit) ≡ numbersAt (now (table .entry)) start (valuesNumbers (now (case .entry))) ⌝ }
+    requires { ⌜ start + length (allValueNumbers (now case)) ≤ length (now table) ⌝ }
+    ensures { λ r. ⌜ now (table .exit) ≡ numbersAt (now (table .entry)) start (allValueNumbers (now (case .entry))) ⌝ }
     ensures { λ r. ⌜ Held (caseOf (now (case .entry))) (now (latest .exit)) (threadCount (now (case .entry))) [] ⌝ }
-    ensures { λ r. ⌜ r ≡ start + length (valuesNumbers (now (case .entry))) ⌝ }
+    ensures { λ r. ⌜ r ≡ start + length (allValueNumbers (now (case .entry))) ⌝ }
 {
     let threads = threads(case) as usize;
     let mut at = start;

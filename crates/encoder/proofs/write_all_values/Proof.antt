@@ -7,14 +7,14 @@ use lib.ListN.{length}
 use Rattle.model.specs.CaseFile.{caseOf}
 use Rattle.laws.specs.Written.{numbersAt}
 use Rattle.copies.specs.Held.{Held}
-use Rattle.encoder.specs.Parts.{valuesNumbers}
+use Rattle.encoder.specs.Parts.{allValueNumbers}
 use Rattle.encoder.proofs.Series.{Going, going-start, going-fits, going-more, going-end}
 use Rattle.encoder.proofs.Parts.{values-all, valueSeries, all-taken}
 use Rattle.encoder.proofs.write_all_values.Statement.{statement}
 use Rattle.encoder.proofs.write_all_values.Tie as tie
 
 abbrev Inv-loop : tie.InvT-loop
-Inv-loop case table₀ start latest₀ threads at₀ thread₀ table latest at thread = Held (caseOf case) latest thread [] × Going (valueSeries case threads) thread table at (numbersAt table₀ start (valuesNumbers case)) (start + length (valuesNumbers case)) (length table₀)
+Inv-loop case table₀ start latest₀ threads at₀ thread₀ table latest at thread = Held (caseOf case) latest thread [] × Going (valueSeries case threads) thread table at (numbersAt table₀ start (allValueNumbers case)) (start + length (allValueNumbers case)) (length table₀)
 
 abbrev μ-loop : tie.MeasureT-loop
 μ-loop case table₀ start latest₀ threads at₀ thread₀ table latest at thread = threads - thread

@@ -4,14 +4,14 @@ use Prim.Native.Nat.{_+_, _-_}
 use native.Mathlib.Omega.{arith}
 use lib.ListN.{length}
 use Rattle.laws.specs.Written.{numbersAt}
-use Rattle.encoder.specs.Parts.{ordersNumbers}
+use Rattle.encoder.specs.Parts.{allOrderNumbers}
 use Rattle.encoder.proofs.Series.{Going, going-start, going-fits, going-more, going-end}
 use Rattle.encoder.proofs.Parts.{orders-all, orderSeries}
 use Rattle.encoder.proofs.write_orders.Statement.{statement}
 use Rattle.encoder.proofs.write_orders.Tie as tie
 
 abbrev Inv-loop : tie.InvT-loop
-Inv-loop case table₀ threads at₀ t₀ table at t = Going (orderSeries case threads) t table at (numbersAt table₀ 0 (ordersNumbers case)) (0 + length (ordersNumbers case)) (length table₀)
+Inv-loop case table₀ threads at₀ t₀ table at t = Going (orderSeries case threads) t table at (numbersAt table₀ 0 (allOrderNumbers case)) (0 + length (allOrderNumbers case)) (length table₀)
 
 abbrev μ-loop : tie.MeasureT-loop
 μ-loop case table₀ threads at₀ t₀ table at t = threads - t
