@@ -1,4 +1,4 @@
-pub mod Spreads
+pub mod InputLoops
 pub mod Values
 pub mod Sums
 pub mod Calls

@@ -1,5 +1,5 @@
 pub mod Runs
 pub mod Starts
 pub mod Ends
-pub mod Again
-pub mod Seen
+pub mod LentAgain
+pub mod WalkValues

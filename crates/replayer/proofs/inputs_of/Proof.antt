@@ -2,7 +2,7 @@
 use Prim.Native.Nat.{_-_}
 use native.Mathlib.Omega.{arith}
 use Rattle.replayer.specs.InputValues.{inputs}
-use Rattle.replayer.proofs.Spreads.{Spreading, spreading-start, spreading-more, spreading-end}
+use Rattle.replayer.proofs.InputLoops.{Spreading, spreading-start, spreading-more, spreading-end}
 use borrow.Author.Needs.{needs}
 use Rattle.replayer.proofs.inputs_of.Statement.{statement}
 use Rattle.replayer.proofs.inputs_of.Tie as tie

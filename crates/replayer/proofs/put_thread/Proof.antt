@@ -5,7 +5,7 @@ use lib.ListN.{length}
 use Rattle.laws.specs.Accepted.{linesFrom}
 use Rattle.laws.proofs.Lines.{few-lines-from}
 use Rattle.replayer.specs.InputValues.{inputs}
-use Rattle.replayer.proofs.Spreads.{Putting, putting-start, putting-more, putting-end, fewer-lines, next-is-input, next-is-other}
+use Rattle.replayer.proofs.InputLoops.{Putting, putting-start, putting-more, putting-end, fewer-lines, next-is-input, next-is-other}
 use borrow.Author.Needs.{needs}
 use Rattle.replayer.proofs.put_thread.Statement.{statement}
 use Rattle.replayer.proofs.put_thread.Tie as tie

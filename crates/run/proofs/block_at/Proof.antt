@@ -67,7 +67,7 @@ use Rattle.run.specs.RunState.{none, threadAt}
 use Rattle.run.specs.Promises.{RunReady, MovedBy}
 use Rattle.run.proofs.Runs.{stored}
 use Rattle.run.proofs.Starts.{thread-below}
-use Rattle.run.proofs.Seen.{valOf, threadVal, sharedVal, Seen, seen-twice}
+use Rattle.run.proofs.WalkValues.{valOf, threadVal, sharedVal, Seen, seen-twice}
 use Rattle.run.proofs.block_at.Key.{name as #run·block-at}
 use Rattle.run.proofs.block_at as block-at
 use Rattle.run.proofs.block_at.Statement as stated

@@ -1,4 +1,4 @@
--- `run::blocks_at` meets its contract: a walk of its MIR, by hand, with a loop. In each turn the slice is lent again to `block_at`, for a lifetime that is made for the call, and comes back at the list that `block_at` left (`Again.antt`).
+-- `run::blocks_at` meets its contract: a walk of its MIR, by hand, with a loop. In each turn the slice is lent again to `block_at`, for a lifetime that is made for the call, and comes back at the list that `block_at` left (`LentAgain.antt`).
 -- All that the proof knows of `block_at` is that it meets its contract. The invariant: the blocks that are left decide (`Runs.antt`).
 -- Assumes nothing.
 use mathlib.Core.Path.{_≡_, refl, sym, ap, subst, _∙_}
@@ -54,8 +54,8 @@ use Rattle.run.proofs.Thread as T
 use Rattle.run.proofs.Shared as S
 use Rattle.run.proofs.Shared.Laws as S′
 use Rattle.run.proofs.Runs.{Playing, playing-start, playing-on, playing-end}
-use Rattle.run.proofs.Seen.{valOf, sharedVal, Seen, seen-twice}
-use Rattle.run.proofs.Again.{LentAgain, lends-again, comes-back}
+use Rattle.run.proofs.WalkValues.{valOf, sharedVal, Seen, seen-twice}
+use Rattle.run.proofs.LentAgain.{LentAgain, lends-again, comes-back}
 use Rattle.run.proofs.block_at as block-at
 use Rattle.run.proofs.block_at.Symbol as block-at-def
 use Rattle.run.proofs.block_at.Symbol.{name as #run·block-at}

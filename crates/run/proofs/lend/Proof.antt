@@ -59,7 +59,7 @@ use Rattle.run.proofs.Shared.Laws as S′
 use Rattle.run.proofs.Ended as E
 use Rattle.run.proofs.Ended.Laws as E′
 use Rattle.run.proofs.Ends.{comes}
-use Rattle.run.proofs.Seen.{valOf, threadVal, sharedVal, Seen, seen-twice}
+use Rattle.run.proofs.WalkValues.{valOf, threadVal, sharedVal, Seen, seen-twice}
 use Rattle.run.proofs.blocks_at as blocks-at
 use Rattle.run.proofs.blocks_at.Symbol as blocks-at-def
 use Rattle.run.proofs.blocks_at.Symbol.{name as #run·blocks-at}
