@@ -81,7 +81,9 @@ loop-again c =
     let l = c .before .before .before .before .before .before .before .before .before .before .record-at .ensures in
     let rows = c .before .before .before .before .before .before .put-values .ensures in
     let target = c .before .before .before .before .before .before .before .before .before .target-name .ensures in
-    value-step v (c .before .before .before .before .before .before .before .before .before .before .before .before .before .before .before .before .before .pre .0) (c .before .before .before .before .before .before .before .before .before .before .before .loop-test .taken) l (c .before .before .before .before .before .before .before .before .before .before .before .before .before .before .globals .ensures) rows (c .before .value-rows .ensures) (c .before .before .before .before .before .before .before .before .before .before .before .before .before .before .before .before .before .pre .1 .0) target (c .before .before .take-copy .ensures) (c .next-of .ensures)
+    let width = c .before .value-rows .ensures in
+    let taken = c .before .before .take-copy .ensures in
+    value-step v (c .before .before .before .before .before .before .before .before .before .before .before .before .before .before .before .before .before .pre .0) (c .before .before .before .before .before .before .before .before .before .before .before .loop-test .taken) l (c .before .before .before .before .before .before .before .before .before .before .before .before .before .before .globals .ensures) rows width (c .before .before .before .before .before .before .before .before .before .before .before .before .before .before .before .before .before .pre .1 .0) target taken (c .next-of .ensures)
 
 same-length : tie.Need-same-length Inv-loop μ-loop
 same-length c = c .before .loop .inv .writes .same
