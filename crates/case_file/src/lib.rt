@@ -27,6 +27,13 @@ pub struct Record {
     pub c: u16,
 }
 
+// Where a line stands in its chain: its record, and the records before and after it; 0 where there is none.
+pub struct Link {
+    pub before: u16,
+    pub line: u16,
+    pub next: u16,
+}
+
 // A byte as half of a field.
 fn wide(x: u8) -> u16
     ensures { λ r. ⌜ (r ≡ x) × (r < 256) ⌝ }

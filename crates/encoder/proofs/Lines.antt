@@ -18,7 +18,7 @@ use Rattle.case_file.specs.declared.Record.{Record}
 use Rattle.case_file.specs.Records.{recordOf, asLine}
 use Rattle.copies.specs.Held.{withCopy, Held}
 use Rattle.copies.proofs.Held.{held-more, held-next}
-use Rattle.rows.specs.declared.Link.{Link}
+use Rattle.case_file.specs.declared.Link.{Link}
 use Rattle.rows.specs.Rows.{Nearest, PutsOrder, PutsValues}
 use Rattle.encoder.proofs.Walking.{orders, values, Walking, walking-room, walking-more}
 

@@ -15,6 +15,7 @@ ghost use Rattle.laws.specs.Written.{numbersAt};
 ghost use Rattle.copies.specs.Held.{Held};
 ghost use Rattle.encoder.specs.Parts.{orderNumbers, allOrderNumbers, valueNumbers, allValueNumbers, itemNumbers, blockNumbers, runNumbers, tableNumbers};
 use accept::accept;
+use case_file::Link;
 use case_file::block_values;
 use case_file::first_of;
 use case_file::globals;
@@ -36,7 +37,6 @@ use model::LOCALS;
 use model::NAMES;
 use model::THREADS;
 use model::Verdict;
-use rows::Link;
 use rows::ROW;
 
 // The table of a case: refusals 1 to 9, then 10; else its constraints, six numbers each, from the slice's start.

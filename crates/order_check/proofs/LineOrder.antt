@@ -16,7 +16,7 @@ use Rattle.laws.proofs.Views.{EqView, same, diff, eq-view}
 use Rattle.assignment.specs.Numbers.{recordBlock}
 use Rattle.search.specs.Search.{failingIn}
 use Rattle.order_check.specs.Rows.{neighbour, linkRows}
-use Rattle.order_check.specs.declared.Link.{Link}
+use Rattle.case_file.specs.declared.Link.{Link}
 
 module _ (bytes xs : List ℕ) (t : ℕ) (link : Link) (block : ℕ) (eb : block ≡ recordBlock xs (link .line)) where
   -- the 1 or 2 by the number of the next record

@@ -18,7 +18,7 @@ use Rattle.laws.proofs.Sizes.{line-order-length, order-rows}
 use Rattle.search.specs.Search.{failingIn, Searched}
 use Rattle.search.proofs.Search.{Searching, searching-start, searching-end, searching-room, searching-found, searching-more}
 use Rattle.order_check.specs.Rows.{linkRows, threadOrders, allOrders}
-use Rattle.order_check.specs.declared.Link.{Link}
+use Rattle.case_file.specs.declared.Link.{Link}
 
 -- ---- A thread, at record k
 

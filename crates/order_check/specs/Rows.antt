@@ -7,7 +7,7 @@ use lib.Dec.{eqb}
 use Rattle.model.specs.CaseFile.{Line, lineOf, caseOf}
 use Rattle.model.specs.Table.{Row, lineOrderRows, orderRows, allOrderRows}
 use Rattle.laws.specs.Accepted.{threadLines}
-use Rattle.order_check.specs.declared.Link.{Link}
+use Rattle.case_file.specs.declared.Link.{Link}
 
 -- Record k as the one line that is seen of its chain on one side; 0 is none.
 abbrev pub neighbour : List ℕ → ℕ → ℕ → List Line

@@ -11,19 +11,13 @@ ghost use Rattle.assignment.specs.Numbers.{recordBlock};
 ghost use Rattle.search.specs.Search.{failingIn, Searched};
 ghost use Rattle.order_check.specs.Rows.{linkRows, threadOrders, allOrders};
 use assignment::block_of;
+use case_file::Link;
 use case_file::first_of;
 use case_file::next_of;
 use case_file::switches;
 use case_file::threads;
 use line::ORDER_ROWS;
 use search::Found;
-
-// Where a line stands in its chain: its record, and the records before and after it; 0 where there is none.
-pub struct Link {
-    pub before: u16,
-    pub line: u16,
-    pub next: u16,
-}
 
 // What a line's block number is at most: that of the next line, or n.
 fn most_block(case: &[u8], assignment: &[u16], next: u16) -> u16

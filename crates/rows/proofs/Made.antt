@@ -20,7 +20,7 @@ use Rattle.laws.proofs.RowNumbers.{rows-then}
 use Rattle.laws.proofs.Sizes.{line-value-length}
 use Rattle.copies.specs.Held.{copyIn, Held}
 use Rattle.copies.proofs.Held.{held-copy}
-use Rattle.rows.specs.declared.Link.{Link}
+use Rattle.case_file.specs.declared.Link.{Link}
 use Rattle.rows.specs.Rows.{Nearest, Stands}
 
 pub six-stores :

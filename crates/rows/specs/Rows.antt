@@ -10,7 +10,7 @@ use Rattle.model.specs.Table.{Row, followRow, lineOrderRows, valueRow, demandRo
 use Rattle.laws.specs.Written.{numbersAt}
 use Rattle.copies.specs.Held.{Held}
 use Rattle.rows.specs.declared.Constraint.{Constraint}
-use Rattle.rows.specs.declared.Link.{Link}
+use Rattle.case_file.specs.declared.Link.{Link}
 
 -- A constraint as the code holds it.
 abbrev pub asRow : Constraint → Row

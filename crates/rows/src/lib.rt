@@ -11,6 +11,7 @@ ghost use Rattle.laws.specs.RowCounts.{orderRowCount, valueRowCount};
 ghost use Rattle.laws.specs.Written.{numbersAt};
 ghost use Rattle.case_file.specs.Records.{asLine};
 ghost use Rattle.rows.specs.Rows.{asRow, Follows, PutsOrder, Values, PutsDemand, PutsValues};
+use case_file::Link;
 use case_file::Record;
 use copies::copy_of;
 use line::guard_name;
@@ -31,13 +32,6 @@ pub struct Constraint {
 }
 
 pub const ROW: usize = 6;
-
-// Where a line stands in its chain: the line before it, itself and the next; 0 where there is none.
-pub struct Link {
-    pub before: u16,
-    pub line: u16,
-    pub next: u16,
-}
 
 // A row's six numbers, from a place on.
 pub fn put_row(table: &mut [u16], at: usize, w: Constraint)
