@@ -9,7 +9,8 @@ use lib.ListN.{length}
 use Rattle.model.specs.CaseFile.{caseOf}
 use Rattle.model.specs.Accept.{verdict}
 use Rattle.model.specs.Assignment.{variables}
-use Rattle.model.specs.Answers.{onCase, failedIn, checked}
+use Rattle.model.specs.Answers.{failedIn, checked}
+use Rattle.laws.proofs.OnCase.{on-accepted, on-refused}
 use Rattle.model.specs.declared.Verdict.{Verdict}
 use Rattle.model.specs.declared.Verdict.the-variants.{Accepted}
 use Rattle.model.specs.declared.Verdict.the-variants as verdicts
@@ -33,10 +34,10 @@ module _ (bytes xs : List ℕ) (n : ℕ) (en : n ≡ variables (caseOf bytes)) w
         (ap Fails ef)
 
 pub accepted-answer : (bytes xs : List ℕ) (v : Verdict) → v ≡ verdict bytes → v ≡ Accepted → checkedAccepted bytes xs ≡ checked bytes xs
-unfolding checked checkedAccepted onCase
-accepted-answer bytes xs v e h = rw (← e, h)
+unfolding checked checkedAccepted
+accepted-answer bytes xs v e h = sym (on-accepted _ _ _ (sym e ∙ h))
 
 pub refused-answer : (bytes xs : List ℕ) (v : Verdict) (number place : ℕ) → v ≡ verdict bytes → v ≡ verdicts.Refused number place
     → Refused number place ≡ checked bytes xs
-unfolding checked onCase
-refused-answer bytes xs v number place e h = rw (← e, h)
+unfolding checked
+refused-answer bytes xs v number place e h = sym (on-refused _ _ _ number place (sym e ∙ h))

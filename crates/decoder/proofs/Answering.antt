@@ -14,7 +14,8 @@ use Rattle.model.specs.CaseFile.{caseOf}
 use Rattle.model.specs.Accept.{verdict}
 use Rattle.model.specs.Assignment.{variables}
 use Rattle.model.specs.Schedule.{scheduleSize}
-use Rattle.model.specs.Answers.{onCase, failedIn, decoded, afterDecoded, decodedInto}
+use Rattle.model.specs.Answers.{failedIn, decoded, afterDecoded, decodedInto}
+use Rattle.laws.proofs.OnCase.{on-accepted, on-refused}
 use Rattle.model.specs.declared.Verdict.the-variants.{Accepted}
 use Rattle.model.specs.declared.Verdict.the-variants as verdicts
 use Rattle.model.specs.declared.Checked.{Checked}
@@ -33,13 +34,13 @@ module _ (bytes xs before : List ℕ) where
   answered r after er ea = record { answer = er; slice = ea ∙ ap (λ (q : Decoded). afterDecoded q (scheduleOf bytes xs) before) er }
 
   pub refused : (number place : ℕ) → verdict bytes ≡ verdicts.Refused number place → Answered bytes xs before before (Refused number place)
-  unfolding decoded onCase
-  refused number place e = answered _ _ (rw e) refl
+  unfolding decoded
+  refused number place e = answered _ _ (rw (on-refused _ _ _ number place e)) refl
 
   module _ (accepted : verdict bytes ≡ Accepted) (size : ℕ) (es : size ≡ scheduleSize (caseOf bytes)) where
     pub too-short : length before < size → Answered bytes xs before before (Refused 10 0)
-    unfolding decoded onCase
-    too-short h = answered _ _ (rw (accepted, lt-leb (scheduleSize (caseOf bytes)) (length before) (rw es at h))) refl
+    unfolding decoded
+    too-short h = answered _ _ (rw (on-accepted _ _ _ accepted, lt-leb (scheduleSize (caseOf bytes)) (length before) (rw es at h))) refl
 
     -- What follows where there is room, by the two tests that the checker makes, and the checker's answer by these.
     rest : Bool → Bool → Decoded
@@ -49,8 +50,8 @@ module _ (bytes xs before : List ℕ) where
     tests sized met = unless sized (checkeds.Refused 11 0) (unless met (Fails (failedIn bytes xs)) Meets)
 
     roomy : size ≤ length before → decoded bytes xs (length before) ≡ rest (eqb (length xs) (variables (caseOf bytes))) (eqb (failedIn bytes xs) 0)
-    unfolding decoded onCase rest
-    roomy h = rw (accepted, le-leb (scheduleSize (caseOf bytes)) (length before) (rw es at h))
+    unfolding decoded rest
+    roomy h = rw (on-accepted _ _ _ accepted, le-leb (scheduleSize (caseOf bytes)) (length before) (rw es at h))
 
     module _ (h : size ≤ length before) (answer : Checked) (ea : answer ≡ checkedAccepted bytes xs) where
       pub not-met : (r : Decoded) → r ≡ refusalOf answer → answer ≢ Meets → Answered bytes xs before before r

@@ -15,7 +15,7 @@ use Rattle.model.specs.CaseFile.{caseOf}
 use Rattle.model.specs.Accept.{verdict}
 use Rattle.model.specs.Assignment.{variables}
 use Rattle.model.specs.Table.{Row, table, numbersOf}
-use Rattle.model.specs.Answers.{onCase, encoded, afterEncoded, encodedInto}
+use Rattle.model.specs.Answers.{encoded, afterEncoded, encodedInto}
 use Rattle.model.specs.Listing.{numbersLine, rowLine, rowLines, listingText, listed, afterListed, listedInto, listedNumbers}
 use Rattle.model.specs.declared.Verdict.{Verdict}
 use Rattle.model.specs.declared.Verdict.the-variants.{Accepted}
@@ -26,6 +26,7 @@ use Rattle.model.specs.declared.Encoded.the-variants as encodeds
 use Rattle.model.specs.declared.Listed.{Listed}
 use Rattle.model.specs.declared.Listed.the-variants.{Text, Refused}
 use Rattle.laws.specs.Written.{numbersAt}
+use Rattle.laws.proofs.OnCase.{on-accepted, on-refused}
 use Rattle.laws.proofs.Views.{LeView, within, beyond, le-view}
 use Rattle.laws.proofs.Accepted.{accepted-of}
 use Rattle.laws.proofs.Writing.{numbers-from-start}
@@ -58,12 +59,12 @@ rows-size rows = rw (← rows-listed rows []) (lines-size (numbersOf rows ++ [])
 -- The listing by the verdict.
 module _ (bytes : List ℕ) where
   listing-accepted : verdict bytes ≡ Accepted → listingText bytes ≡ numbersLine (length (table (caseOf bytes)) ∷ (variables (caseOf bytes) ∷ [])) ++ rowLines (table (caseOf bytes))
-  unfolding listingText onCase
-  listing-accepted e = rw e
+  unfolding listingText
+  listing-accepted e = on-accepted _ _ _ e
 
   listing-refused : (number place : ℕ) → verdict bytes ≡ verdicts.Refused number place → listingText bytes ≡ numbersLine (number ∷ (place ∷ []))
-  unfolding listingText onCase
-  listing-refused number place e = rw e
+  unfolding listingText
+  listing-refused number place e = on-refused _ _ _ number place e
 
   pub text-fits : length (listingText bytes) ≤ mostListingBytes
   text-fits = go (verdict bytes) refl
@@ -84,12 +85,12 @@ module _ (bytes : List ℕ) where
 -- The encoder's answer, with room for every table.
 module _ (bytes : List ℕ) (room : ℕ) (large : room ≡ mostTableNumbers) where
   table-fits : verdict bytes ≡ Accepted → encoded bytes room ≡ Table (length (table (caseOf bytes))) (variables (caseOf bytes))
-  unfolding encoded onCase
-  table-fits e = rw (e, le-leb (length (numbersOf (table (caseOf bytes)))) room (omega (arith, table-numbers bytes (accepted-of bytes e))))
+  unfolding encoded
+  table-fits e = rw (on-accepted _ _ _ e, le-leb (length (numbersOf (table (caseOf bytes)))) room (omega (arith, table-numbers bytes (accepted-of bytes e))))
 
   case-refused : (number place : ℕ) → verdict bytes ≡ verdicts.Refused number place → encoded bytes room ≡ encodeds.Refused number place
-  unfolding encoded onCase
-  case-refused number place e = rw e
+  unfolding encoded
+  case-refused number place e = on-refused _ _ _ number place e
 
   -- The rows that it says it has written are in its slice.
   pub rows-fit : (r : Encoded) → r ≡ encoded bytes room → 6 * rowsOf r ≤ room

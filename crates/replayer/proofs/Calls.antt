@@ -14,11 +14,12 @@ use Rattle.model.specs.CaseFile.{switchCount, caseOf, itemCount}
 use Rattle.model.specs.Accept.{verdict}
 use Rattle.model.specs.Machine.{State, Outcome, refused14, cutOff, violated, clean, run}
 use Rattle.model.specs.Schedule.{allInputLines, scheduleSize, blockLengths, valueGiven, lengthsAddUp, runOf}
-use Rattle.model.specs.Answers.{onCase, answerOfRun, itemsAfter, afterReplayed, replayed, replayedInto}
+use Rattle.model.specs.Answers.{answerOfRun, itemsAfter, afterReplayed, replayed, replayedInto}
 use Rattle.model.specs.declared.Verdict.the-variants as verdicts
 use Rattle.model.specs.declared.Replayed.{Replayed}
 use Rattle.model.specs.declared.Replayed.the-variants.{Violated, Clean, CutOff, Refused}
 use Rattle.laws.specs.Accepted.{Accepted}
+use Rattle.laws.proofs.OnCase.{on-accepted, on-refused}
 use Rattle.turn.specs.TurnState.{itemsOf, givenBy}
 use Rattle.run.specs.declared.Ended.{Ended}
 use Rattle.run.specs.Promises.{Leaves, Replies}
@@ -86,17 +87,17 @@ module _ (bytes schedule slice : List ℕ) where
   answers r after er is = (er, is ∙ ap (λ (x : Replayed). afterReplayed x (itemsAfter (runOf (caseOf bytes) schedule)) slice) er)
 
   pub answers-refused : (number place : ℕ) → verdict bytes ≡ verdicts.Refused number place → Answers (Refused number place) slice
-  unfolding replayed onCase
-  answers-refused number place e = answers (Refused number place) slice (rw e) refl
+  unfolding replayed
+  answers-refused number place e = answers (Refused number place) slice (rw (on-refused _ _ _ number place e)) refl
 
   module _ (ok : Accepted bytes) (accepted : verdict bytes ≡ verdicts.Accepted) (switches count : ℕ)
       (is-switches : switches ≡ switchCount bytes) (is-count : count ≡ itemCount (caseOf bytes))
     where
       pub answers-10 : length slice < count → Answers (Refused 10 0) slice
-      unfolding replayed onCase
+      unfolding replayed
       answers-10 short =
           answers (Refused 10 0) slice
-          (rw (accepted, lt-leb (itemCount (caseOf bytes)) (length slice) (omega (arith, short, is-count)))) refl
+          (rw (on-accepted _ _ _ accepted, lt-leb (itemCount (caseOf bytes)) (length slice) (omega (arith, short, is-count)))) refl
 
       module _ (room : count ≤ length slice) (f : Inputs)
           (is-spread : f ≡ putThreads schedule (caseOf bytes .threads) (noInputs (switches + 1)))
@@ -109,11 +110,11 @@ module _ (bytes schedule slice : List ℕ) where
               ∙ ap (λ (x : ℕ). x + length (allInputLines (caseOf bytes .threads))) (let e : switches + 1 ≡ suc (switchCount bytes) = omega arith in e)
 
           pub answers-12 : (length schedule ≡ f .used → ⊥) → Answers (Refused 12 0) slice
-          unfolding replayed onCase
+          unfolding replayed
           answers-12 differ =
               answers (Refused 12 0) slice
               (rw (
-                accepted,
+                on-accepted _ _ _ accepted,
                 le-leb (itemCount (caseOf bytes)) (length slice) enough,
                 ne-eqb (length schedule) (scheduleSize (caseOf bytes)) (λ e. differ (e ∙ sym size-is)),
               )) refl
@@ -126,11 +127,11 @@ module _ (bytes schedule slice : List ℕ) where
             sums-are = are-sums ∙ ap (λ (x : ℕ). lengthsAddUp (caseOf bytes) (take x schedule)) blocks
 
             pub answers-13 : sums ≡ false → Answers (Refused 13 0) slice
-            unfolding replayed onCase
+            unfolding replayed
             answers-13 fail =
                 answers (Refused 13 0) slice
                 (rw (
-                  accepted,
+                  on-accepted _ _ _ accepted,
                   le-leb (itemCount (caseOf bytes)) (length slice) enough,
                   eq-eqb (length schedule) (scheduleSize (caseOf bytes)) (whole ∙ size-is),
                   ← sums-are,
@@ -147,11 +148,11 @@ module _ (bytes schedule slice : List ℕ) where
                 ∙ ap (λ (x : ℕ). valueGiven (allInputLines (caseOf bytes .threads)) (drop x schedule) k) blocks))
 
             pub answers-run : (r : Replayed) (after : List ℕ) → sums ≡ true → Ran bytes (take (switches + 1) schedule) (f .given) slice r after → Answers r after
-            unfolding replayed onCase
+            unfolding replayed
             answers-run r after pass ran =
                 answers r after
                 (rw (
-                  accepted,
+                  on-accepted _ _ _ accepted,
                   le-leb (itemCount (caseOf bytes)) (length slice) enough,
                   eq-eqb (length schedule) (scheduleSize (caseOf bytes)) (whole ∙ size-is),
                   ← sums-are,

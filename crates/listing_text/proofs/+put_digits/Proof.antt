@@ -1,5 +1,4 @@
 -- `put_digits` calls itself with a tenth of the number, which is the measure. Assumes nothing.
-use borrow.Author.Needs.{needs}
 use native.Mathlib.Omega.{arith}
 use mathlib.Core.Path.{_∙_}
 use Rattle.listing_text.proofs.Digits.{within-five}
