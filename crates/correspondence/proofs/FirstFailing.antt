@@ -22,6 +22,7 @@ use Rattle.model.specs.declared.Verdict.the-variants.{Accepted}
 use Rattle.model.specs.declared.Verdict.the-variants as verdicts
 use Rattle.model.specs.declared.Checked.the-variants.{Meets, Fails}
 use Rattle.model.specs.declared.Checked.the-variants as checkeds
+use Rattle.laws.proofs.OnCase.{on-accepted}
 use Rattle.laws.specs.AllHold.{AllHold}
 use Rattle.correspondence.specs.ReadBack.{rowsOf, FirstFails}
 
@@ -90,10 +91,10 @@ checker-names-the-first bytes xs k e =
 -- And the other way round.
 pub fails-of-first : (bytes xs : List ℕ) (k : ℕ) → verdict bytes ≡ Accepted → length xs ≡ variables (caseOf bytes)
     → FirstFails (caseOf bytes) (assignmentOf (caseOf bytes) xs) 1 (table (caseOf bytes)) k → checked bytes xs ≡ Fails k
-unfolding checked onCase
+unfolding checked
 fails-of-first bytes xs k accepted sized first =
     let found : failedIn bytes xs ≡ k = failing-of-first (caseOf bytes) (assignmentOf (caseOf bytes) xs) 1 (table (caseOf bytes)) k first in
-    rw (accepted, eq-eqb _ _ sized, found, ne-eqb k 0 (λ z. omega (arith, first .place)))
+    rw (on-accepted _ _ _ accepted, eq-eqb _ _ sized, found, ne-eqb k 0 (λ z. omega (arith, first .place)))
 
 pub rows-of-numbers : (rows : List Row) → rowsOf (numbersOf rows) ≡ rows
 unfolding rowsOf numbersOf

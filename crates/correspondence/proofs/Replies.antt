@@ -14,6 +14,7 @@ use Rattle.model.specs.Assignment.{variables, assignmentOf}
 use Rattle.model.specs.Table.{table, numbersOf}
 use Rattle.model.specs.Schedule.{scheduleSize, blockLengths, lengthsAddUp, runOf, decode}
 use Rattle.model.specs.Answers.{onCase, answerOfRun, failedIn, encoded, encodedInto, checked, decoded, decodedInto, replayed}
+use Rattle.laws.proofs.OnCase.{on-accepted}
 use Rattle.model.specs.declared.Verdict.{Verdict}
 use Rattle.model.specs.declared.Verdict.the-variants.{Accepted}
 use Rattle.model.specs.declared.Verdict.the-variants as verdicts
@@ -52,8 +53,8 @@ fits-of-answered bytes schedule room taken =
 
 pub replayed-fits : (bytes schedule : List ℕ) (room : ℕ) → Fits bytes schedule room
     → replayed bytes schedule room ≡ answerOfRun (runOf (caseOf bytes) schedule)
-unfolding replayed onCase
-replayed-fits bytes schedule room f = rw (f .accepted, le-leb _ _ (f .has-room), eq-eqb _ _ (f .has-size), f .adds-up)
+unfolding replayed
+replayed-fits bytes schedule room f = rw (on-accepted _ _ _ (f .accepted), le-leb _ _ (f .has-room), eq-eqb _ _ (f .has-size), f .adds-up)
 
 -- The checker's yes.
 pub record PassesCheck (bytes xs : List ℕ) : Type 0 where
@@ -85,19 +86,19 @@ passes-of-meets bytes xs e =
     go Accepted a true b false c t = absurd t
 
 pub meets-of-passes : (bytes xs : List ℕ) → PassesCheck bytes xs → checked bytes xs ≡ Meets
-unfolding checked onCase
-meets-of-passes bytes xs p = rw (p .accepted, eq-eqb _ _ (p .has-size), p .none-failed)
+unfolding checked
+meets-of-passes bytes xs p = rw (on-accepted _ _ _ (p .accepted), eq-eqb _ _ (p .has-size), p .none-failed)
 
 module _ (bytes : List ℕ) (accepted : verdict bytes ≡ Accepted) where
   -- The encoder.
   pub encoded-with-room : (room : ℕ) → length (numbersOf (table (caseOf bytes))) ≤ room
       → encoded bytes room ≡ encodeds.Table (length (table (caseOf bytes))) (variables (caseOf bytes))
-  unfolding encoded onCase
-  encoded-with-room room h = rw (accepted, le-leb _ _ h)
+  unfolding encoded
+  encoded-with-room room h = rw (on-accepted _ _ _ accepted, le-leb _ _ h)
 
   pub encoded-short : (room : ℕ) → room < length (numbersOf (table (caseOf bytes))) → encoded bytes room ≡ encodeds.Refused 10 0
-  unfolding encoded onCase
-  encoded-short room h = rw (accepted, lt-leb _ _ h)
+  unfolding encoded
+  encoded-short room h = rw (on-accepted _ _ _ accepted, lt-leb _ _ h)
 
   pub encoded-into : (slice : List ℕ) → length (numbersOf (table (caseOf bytes))) ≤ length slice
       → encodedInto bytes slice ≡ writtenOver (numbersOf (table (caseOf bytes))) slice
@@ -107,12 +108,12 @@ module _ (bytes : List ℕ) (accepted : verdict bytes ≡ Accepted) where
   -- The decoder on an assignment that passes the check.
   module _ (xs : List ℕ) (passes : PassesCheck bytes xs) where
     pub decoded-with-room : (room : ℕ) → scheduleSize (caseOf bytes) ≤ room → decoded bytes xs room ≡ decodeds.Schedule (scheduleSize (caseOf bytes))
-    unfolding decoded onCase
-    decoded-with-room room h = rw (accepted, le-leb _ _ h, eq-eqb _ _ (passes .has-size), passes .none-failed)
+    unfolding decoded
+    decoded-with-room room h = rw (on-accepted _ _ _ accepted, le-leb _ _ h, eq-eqb _ _ (passes .has-size), passes .none-failed)
 
     pub decoded-short : (room : ℕ) → room < scheduleSize (caseOf bytes) → decoded bytes xs room ≡ decodeds.Refused 10 0
-    unfolding decoded onCase
-    decoded-short room h = rw (accepted, lt-leb _ _ h)
+    unfolding decoded
+    decoded-short room h = rw (on-accepted _ _ _ accepted, lt-leb _ _ h)
 
     pub decoded-into : (slice : List ℕ) → scheduleSize (caseOf bytes) ≤ length slice
         → decodedInto bytes xs slice ≡ writtenOver (decode (caseOf bytes) (assignmentOf (caseOf bytes) xs)) slice
@@ -121,5 +122,5 @@ module _ (bytes : List ℕ) (accepted : verdict bytes ≡ Accepted) where
 
   -- The replayer.
   pub replayed-short : (schedule : List ℕ) (room : ℕ) → room < itemCount (caseOf bytes) → replayed bytes schedule room ≡ replayeds.Refused 10 0
-  unfolding replayed onCase
-  replayed-short schedule room h = rw (accepted, lt-leb _ _ h)
+  unfolding replayed
+  replayed-short schedule room h = rw (on-accepted _ _ _ accepted, lt-leb _ _ h)

@@ -15,10 +15,11 @@ use Rattle.model.specs.Accept.{verdict}
 use Rattle.model.specs.Machine.{Outcome, refused14, cutOff, violated, clean}
 use Rattle.model.specs.Schedule.{scheduleSize, blockLengths, givenIn, lengthsAddUp, runOf}
 use Rattle.model.specs.Runs.{Step, courseOf, runSteps, lastItems, ends, strays, broken, Complete, Legal, Violates, InBlocks, Takes, FirstBroken, NoneBroken, NoneStrays, FirstEnding, FirstStray}
-use Rattle.model.specs.Answers.{onCase, answerOfRun, itemsAfter, replayed, replayedInto}
+use Rattle.model.specs.Answers.{answerOfRun, itemsAfter, replayed, replayedInto}
 use Rattle.model.specs.declared.Verdict.the-variants.{Accepted}
 use Rattle.model.specs.declared.Replayed.{Replayed}
 use Rattle.model.specs.declared.Replayed.the-variants.{Violated, Clean, CutOff, Refused}
+use Rattle.laws.proofs.OnCase.{on-accepted}
 use Rattle.correspondence.specs.Meaning.{WellFormed}
 use Rattle.correspondence.specs.Demand3.{itemRoom, Leaves, NotRefused}
 use Rattle.correspondence.proofs.Replies.{Fits, fits-of-answered, replayed-fits}
@@ -148,8 +149,8 @@ module _ (bytes : List ℕ) (accepted : verdict bytes ≡ Accepted) (wf : WellFo
     reply-by-size : replayed bytes schedule room
         ≡ unless (eqb (length schedule) (scheduleSize case)) (Refused 12 0)
         (unless (lengthsAddUp case (blockLengths case schedule)) (Refused 13 0) (answerOfRun (runOf case schedule)))
-    unfolding replayed onCase
-    reply-by-size = rw (accepted, le-leb (itemRoom bytes) room h)
+    unfolding replayed
+    reply-by-size = rw (on-accepted _ _ _ accepted, le-leb (itemRoom bytes) room h)
 
     pub run-of-14 : (k : ℕ) → replayed bytes schedule room ≡ Refused 14 k
         → (length schedule ≡ scheduleSize case) × (lengthsAddUp case (blockLengths case schedule) ≡ true) × FirstStray case schedule k

@@ -20,7 +20,7 @@ use Rattle.model.specs.Table.{Row, lineOrderRows, orderRows, demandRows, valueR
 use Rattle.model.specs.Machine.{Outcome, refused14, cutOff, violated, clean}
 use Rattle.model.specs.Schedule.{inputLines, allInputLines, scheduleSize, blockLengths, lengthsAddUp, runOf}
 use Rattle.model.specs.Accept.{sizeOk, threadsOk, switchesOk, itemsOk, absentOk, linksOk, reachedOk, lengthsOk, brokenRecord, verdict}
-use Rattle.model.specs.Answers.{onCase, encoded, failedIn, decoded, answerOfRun, replayed, verdictNumbers, encodedNumbers, decodedNumbers, replayedNumbers}
+use Rattle.model.specs.Answers.{encoded, failedIn, decoded, answerOfRun, replayed, verdictNumbers, encodedNumbers, decodedNumbers, replayedNumbers}
 use Rattle.model.specs.declared.Verdict.{Verdict}
 use Rattle.model.specs.declared.Verdict.the-variants as verdicts
 use Rattle.model.specs.declared.Encoded.the-variants as encodeds
@@ -30,6 +30,7 @@ use Rattle.laws.specs.Accepted.{Accepted}
 use Rattle.laws.specs.RowCounts.{orderRowCount, valueRowCount}
 use Rattle.laws.specs.Sizes.{Sizes, LargestSizes, NeverTooShort}
 use Rattle.laws.proofs.Accepted.{accepted-of}
+use Rattle.laws.proofs.OnCase.{on-accepted, on-refused}
 use Rattle.laws.proofs.Counting.{sum-of-bits}
 use Rattle.laws.proofs.RecordSums.{lines-add-up}
 
@@ -274,7 +275,7 @@ replayed-not-10 true false outcome = λ ten. omega arith
 replayed-not-10 false adds-up outcome = λ ten. omega arith
 
 pub never-too-short : (bytes : List ℕ) → NeverTooShort bytes
-unfolding encoded decoded replayed onCase
+unfolding encoded decoded replayed
 never-too-short bytes = record {
   table-never-short = λ room h. by-table room h (verdict bytes) refl;
   schedule-never-short = λ xs room h. by-schedule xs room h (verdict bytes) refl;
@@ -282,18 +283,18 @@ never-too-short bytes = record {
 }
   where
     by-table : (room : ℕ) → mostTableNumbers ≤ room → (v : Verdict) → verdict bytes ≡ v → encodedNumbers (encoded bytes room) .refusal ≢ 10
-    by-table room h verdicts.Accepted e = rw (e, le-leb (length (numbersOf (table (caseOf bytes)))) room (omega (arith, table-numbers bytes (accepted-of bytes e)))) (λ ten. omega arith)
-    by-table room h (verdicts.Refused number place) e = rw e (refused-not-10 bytes number place e)
+    by-table room h verdicts.Accepted e = rw (on-accepted _ _ _ e, le-leb (length (numbersOf (table (caseOf bytes)))) room (omega (arith, table-numbers bytes (accepted-of bytes e)))) (λ ten. omega arith)
+    by-table room h (verdicts.Refused number place) e = rw (on-refused _ _ _ number place e) (refused-not-10 bytes number place e)
 
     by-schedule : (xs : List ℕ) (room : ℕ) → mostScheduleNumbers ≤ room → (v : Verdict) → verdict bytes ≡ v → decodedNumbers (decoded bytes xs room) .refusal ≢ 10
     by-schedule xs room h verdicts.Accepted e =
-        rw (e, le-leb (scheduleSize (caseOf bytes)) room (omega (arith, schedule-numbers bytes (accepted-of bytes e))))
+        rw (on-accepted _ _ _ e, le-leb (scheduleSize (caseOf bytes)) room (omega (arith, schedule-numbers bytes (accepted-of bytes e))))
         (decoded-not-10 (eqb (length xs) (variables (caseOf bytes))) (eqb (failedIn bytes xs) 0) (failedIn bytes xs) (scheduleSize (caseOf bytes)))
-    by-schedule xs room h (verdicts.Refused number place) e = rw e (refused-not-10 bytes number place e)
+    by-schedule xs room h (verdicts.Refused number place) e = rw (on-refused _ _ _ number place e) (refused-not-10 bytes number place e)
 
     by-items : (schedule : List ℕ) (room : ℕ) → mostItems ≤ room → (v : Verdict) → verdict bytes ≡ v → replayedNumbers (replayed bytes schedule room) .refusal ≢ 10
     by-items schedule room h verdicts.Accepted e =
-        rw (e, le-leb (itemCount (caseOf bytes)) room (omega (arith, item-numbers bytes (accepted-of bytes e))))
+        rw (on-accepted _ _ _ e, le-leb (itemCount (caseOf bytes)) room (omega (arith, item-numbers bytes (accepted-of bytes e))))
         (replayed-not-10 (eqb (length schedule) (scheduleSize (caseOf bytes))) (lengthsAddUp (caseOf bytes) (blockLengths (caseOf bytes) schedule))
         (runOf (caseOf bytes) schedule))
-    by-items schedule room h (verdicts.Refused number place) e = rw e (refused-not-10 bytes number place e)
+    by-items schedule room h (verdicts.Refused number place) e = rw (on-refused _ _ _ number place e) (refused-not-10 bytes number place e)
