@@ -1,6 +1,7 @@
 // What is read of an assignment: the block number and the value of a record, and the items' values where a block starts.
 ghost use mathlib.Core.Path.{_≡_};
 ghost use Prim.Native.Nat.{_+_, _-_, _*_, _≤_};
+ghost use lib.ListN.{length};
 ghost use Rattle.model.specs.Limits.{mostSwitches, mostItems, mostVariables};
 ghost use Rattle.model.specs.CaseFile.{caseOf, itemCount};
 ghost use Rattle.laws.specs.Accepted.{Accepted};
@@ -51,11 +52,28 @@ fn start_of_run(case: &[u8]) -> [u16; ITEMS]
     items
 }
 
+// As many numbers as there can be items, from a place on: the length is fixed, so that they are copied at once.
+fn most_items_at(assignment: &[u16], place: usize) -> [u16; ITEMS]
+    requires { ⌜ (place ≤ mostVariables) × (place + mostItems ≤ length (now assignment)) ⌝ }
+    ensures { λ r. ⌜ Filled (numberFrom (now (assignment .entry)) place) mostItems r ⌝ }
+{
+    let mut items = [0u16; ITEMS];
+    let mut g = 0;
+    while g < ITEMS {
+        items[g] = assignment[place + g];
+        g += 1;
+    }
+    items
+}
+
 // So many numbers of an assignment from a place on, as items' values.
 fn items_at(assignment: &[u16], place: usize, count: usize) -> [u16; ITEMS]
     requires { ⌜ (place ≤ mostVariables) × (count ≤ mostItems) ⌝ }
     ensures { λ r. ⌜ Filled (numberFrom (now (assignment .entry)) place) count r ⌝ }
 {
+    if place + ITEMS <= assignment.len() {
+        return most_items_at(assignment, place);
+    }
     let mut items = [0u16; ITEMS];
     let mut g = 0;
     while g < count {

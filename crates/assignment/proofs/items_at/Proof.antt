@@ -13,6 +13,15 @@ Inv-loop assignment place count items₀ g₀ items g = (g ≤ count) × Filled 
 abbrev μ-loop : tie.MeasureT-loop
 μ-loop assignment place count items₀ g₀ items g = count - g
 
+add-if1 : tie.Need-add-if1 Inv-loop μ-loop
+add-if1 c = search needs
+
+most-items-at-requires : tie.Need-most-items-at-requires Inv-loop μ-loop
+most-items-at-requires c κs = search needs
+
+returns : tie.Need-returns Inv-loop μ-loop
+returns c = filled-all _ _ _ _ (c .most-items-at .ensures) (search needs)
+
 loop-holds : tie.Need-loop-holds Inv-loop μ-loop
 loop-holds c = (search needs, filled-start _ _ refl)
 
@@ -37,8 +46,8 @@ loop-less c = search needs
 loop-again : tie.Need-loop-again Inv-loop μ-loop
 loop-again c = (search needs, filled-more _ _ _ _ (c .before .before .loop .inv .1) (search needs) (c .at .ensures))
 
-returns : tie.Need-returns Inv-loop μ-loop
-returns c = filled-all _ _ _ _ (c .before .loop .inv .1) (search needs)
+returns-2 : tie.Need-returns-2 Inv-loop μ-loop
+returns-2 c = filled-all _ _ _ _ (c .before .loop .inv .1) (search needs)
 
 pub items-at-spec : {M : Type 1} → statement M
 items-at-spec =
@@ -46,6 +55,9 @@ items-at-spec =
     (tie.spec
     Inv-loop
     μ-loop
+    add-if1
+    most-items-at-requires
+    returns
     loop-holds
     add-at
     at-requires
@@ -54,4 +66,4 @@ items-at-spec =
     add-g
     loop-less
     loop-again
-    returns)
+    returns-2)
