@@ -128,21 +128,15 @@ fn note_copy(
     take_copy(latest, t as usize, name, k);
 }
 
-// The items' values where a thread goes on in block i, from another block or from the same.
-fn items_in(
-    case: &[u8],
-    assignment: &[u16],
-    items: [u16; ITEMS],
-    block: u16,
-    i: u16,
-) -> [u16; ITEMS]
+// A thread goes on in block i: the items' values stay where it is the same block, and are those that another block starts from.
+fn enter_block(case: &[u8], assignment: &[u16], items: &mut [u16; ITEMS], block: u16, i: u16)
     requires { ⌜ Accepted (now case) × (i ≤ mostSwitches) ⌝ }
-    ensures { λ r. ⌜ Entered (now (case .entry)) (now (assignment .entry)) block i items r ⌝ }
+    ensures { λ r. ⌜ Entered (now (case .entry)) (now (assignment .entry)) block i (now (items .entry)) (now (items .exit)) ⌝ }
 {
     if i == block {
-        return items;
+        return;
     }
-    start_of_block(case, assignment, i)
+    *items = start_of_block(case, assignment, i);
 }
 
 // The 4s and 5s of thread t, after a walk over those of the threads before it. The values of its locals, and of the items in its
@@ -176,7 +170,7 @@ fn thread_values(
         let l = record_at(case, t, k as usize);
         let i = block_of(assignment, k);
         let value = value_of(assignment, k);
-        items = items_in(case, assignment, items, block, i);
+        enter_block(case, assignment, &mut items, block, i);
         block = i;
         let failed = line_failing(&locals, &items, counts, at, l, value);
         if failed != 0 {

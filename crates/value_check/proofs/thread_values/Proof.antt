@@ -52,15 +52,15 @@ block-of-requires c κs = search needs
 value-of-requires : tie.Need-value-of-requires Inv-loop μ-loop
 value-of-requires c κs = search needs
 
-items-in-requires : tie.Need-items-in-requires Inv-loop μ-loop
-items-in-requires c κs =
-    let line = c .before .before .before in
+enter-block-requires : tie.Need-enter-block-requires Inv-loop μ-loop
+enter-block-requires c κs =
+    let line = c .before .before .before .before in
     let start = line .before .before .before .before .before .before .before .before in
-    (start .pre .0 .0, walk-block (start .pre .0 .0) _ _ (start .pre .0 .1) (line .before .loop .inv) (line .loop-test .taken) _ (c .before .block-of .ensures))
+    (start .pre .0 .0, walk-block (start .pre .0 .0) _ _ (start .pre .0 .1) (line .before .loop .inv) (line .loop-test .taken) _ (c .before .before .block-of .ensures))
 
 line-failing-requires : tie.Need-line-failing-requires Inv-loop μ-loop
 line-failing-requires c κs =
-    let line = c .before .before .before .before .before .before in
+    let line = c .before .before .before .before .before .before .before in
     let start = line .before .before .before .before .before .before .before .before in (
       omega (arith, line .before .before .before .before .before .globals .ensures, start .pre .0 .0 .few-globals),
       line .before .before .before .before .items .ensures .1,
@@ -70,10 +70,11 @@ line-failing-requires c κs =
 returns : tie.Need-returns Inv-loop μ-loop
 returns c =
     let read = c .before .before .before .before in
-    let line = read .before .before .before .before in
+    let line = read .before .before .before .before .before in
     let start = line .before .before .before .before .before .before .before .before in (
-      walk-found (start .pre .0 .0) _ _ (start .pre .0 .1) (line .before .loop .inv) (line .loop-test .taken) _ (read .before .before .block-of .ensures) _ (read .before .before .before .record-at .ensures) _ (read .before .value-of .ensures) _
-          (read .items-in .ensures) _ (line .before .before .before .before .before .globals .ensures) (line .before .before .before .before .items .ensures .0) _ (c .before .line-failing .ensures) (c .if1 .taken) _,
+      walk-found (start .pre .0 .0) _ _ (start .pre .0 .1) (line .before .loop .inv) (line .loop-test .taken) _ (read .before .before .before .block-of .ensures) _ (read .before .before .before .before .record-at .ensures) _
+          (read .before .before .value-of .ensures) _ (read .enter-block .ensures) _ (line .before .before .before .before .before .globals .ensures) (line .before .before .before .before .items .ensures .0) _ (c .before .line-failing .ensures)
+          (c .if1 .taken) _,
       λ z. absurd (c .if1 .taken z),
     )
 
@@ -87,26 +88,26 @@ value-rows-requires : tie.Need-value-rows-requires Inv-loop μ-loop
 value-rows-requires c κs = search needs
 
 cast-at : tie.Need-cast-at Inv-loop μ-loop
-cast-at c = record { fits = omega (arith, value-count-at-most (kindOf (c .before .before .before .before .before .before .before .before .before .before .before .before .record-at .result .kind)), c .value-rows .ensures) }
+cast-at c = record { fits = omega (arith, value-count-at-most (kindOf (c .before .before .before .before .before .before .before .before .before .before .before .before .before .record-at .result .kind)), c .value-rows .ensures) }
 
 add-at : tie.Need-add-at Inv-loop μ-loop
 add-at c =
     let read = c .before .before .before .before .before .before .before .before .before in
-    let line = read .before .before .before .before in
+    let line = read .before .before .before .before .before in
     let start = line .before .before .before .before .before .before .before .before in
     omega (
       arith,
-      walk-room-after (start .pre .0 .0) _ _ (start .pre .0 .1) (line .before .loop .inv) (line .loop-test .taken) _ (read .before .before .block-of .ensures) _ (read .before .before .before .record-at .ensures) _ (read .before .value-of .ensures) _
-          (read .items-in .ensures) _ (line .before .before .before .before .before .globals .ensures) (line .before .before .before .before .items .ensures .0) _ (c .value-rows .ensures),
+      walk-room-after (start .pre .0 .0) _ _ (start .pre .0 .1) (line .before .loop .inv) (line .loop-test .taken) _ (read .before .before .before .block-of .ensures) _ (read .before .before .before .before .record-at .ensures) _
+          (read .before .before .value-of .ensures) _ (read .enter-block .ensures) _ (line .before .before .before .before .before .globals .ensures) (line .before .before .before .before .items .ensures .0) _ (c .value-rows .ensures),
       start .pre .1 .0 .1,
     )
 
 target-name-requires : tie.Need-target-name-requires Inv-loop μ-loop
-target-name-requires c κs = omega (arith, c .before .before .before .before .before .before .before .before .before .before .before .before .before .before .before .before .before .before .globals .ensures, c .before .before .before .before .before .before .before .before .before .before .before .before .before .before .before .before .before .before .before .before .before .pre .0 .0 .few-globals)
+target-name-requires c κs = omega (arith, c .before .before .before .before .before .before .before .before .before .before .before .before .before .before .before .before .before .before .before .globals .ensures, c .before .before .before .before .before .before .before .before .before .before .before .before .before .before .before .before .before .before .before .before .before .before .pre .0 .0 .few-globals)
 
 note-copy-requires : tie.Need-note-copy-requires Inv-loop μ-loop
 note-copy-requires c κs =
-    let line = c .before .before .before .before .before .before .before .before .before .before .before .before .before .before .before .before in
+    let line = c .before .before .before .before .before .before .before .before .before .before .before .before .before .before .before .before .before in
     let start = line .before .before .before .before .before .before .before .before in
     (omega (arith, start .pre .0 .1, start .pre .0 .0 .few-threads), omega (arith, line .before .loop .inv .low, start .pre .0 .0 .few-records))
 
@@ -114,39 +115,39 @@ put-local-requires : tie.Need-put-local-requires Inv-loop μ-loop
 put-local-requires c κs = search needs
 
 put-item-requires : tie.Need-put-item-requires Inv-loop μ-loop
-put-item-requires c κs = c .before .before .before .before .before .before .before .before .before .before .before .before .before .before .before .before .before .before .before .before .before .before .before .before .items .ensures .1
+put-item-requires c κs = c .before .before .before .before .before .before .before .before .before .before .before .before .before .before .before .before .before .before .before .before .before .before .before .before .before .items .ensures .1
 
 cast-next-of : tie.Need-cast-next-of Inv-loop μ-loop
 cast-next-of c =
-    let line = c .before .before .before .before .before .before .before .before .before .before .before .before .before .before .before .before .before .before .before .before .before in
+    let line = c .before .before .before .before .before .before .before .before .before .before .before .before .before .before .before .before .before .before .before .before .before .before in
     let start = line .before .before .before .before .before .before .before .before in
     record { fits = omega (arith, line .before .loop .inv .low, start .pre .0 .0 .few-records) }
 
 next-of-requires : tie.Need-next-of-requires Inv-loop μ-loop
 next-of-requires c κs =
-    let line = c .before .before .before .before .before .before .before .before .before .before .before .before .before .before .before .before .before .before .before .before .before in
+    let line = c .before .before .before .before .before .before .before .before .before .before .before .before .before .before .before .before .before .before .before .before .before .before in
     let start = line .before .before .before .before .before .before .before .before in
     (omega (arith, line .loop-test .taken), omega (arith, line .before .loop .inv .low, start .pre .0 .0 .size))
 
 cast-k-3 : tie.Need-cast-k-3 Inv-loop μ-loop
 cast-k-3 c =
-    let line = c .before .before .before .before .before .before .before .before .before .before .before .before .before .before .before .before .before .before .before .before .before .before in
+    let line = c .before .before .before .before .before .before .before .before .before .before .before .before .before .before .before .before .before .before .before .before .before .before .before in
     let start = line .before .before .before .before .before .before .before .before in
     record { fits = omega (arith, c .next-of .ensures, next-low _ (start .pre .0 .0) (start .args .t) _ (line .loop-test .taken) (line .before .loop .inv .low), start .pre .0 .0 .few-records) }
 
 loop-less : tie.Need-loop-less Inv-loop μ-loop
 loop-less c =
-    let line = c .before .before .before .before .before .before .before .before .before .before .before .before .before .before .before .before .before .before .before .before .before .before in
+    let line = c .before .before .before .before .before .before .before .before .before .before .before .before .before .before .before .before .before .before .before .before .before .before .before in
     let start = line .before .before .before .before .before .before .before .before in
     lines-less _ (start .pre .0 .0) _ _ (line .loop-test .taken) (line .before .loop .inv .low) _ (c .next-of .ensures)
 
 loop-again : tie.Need-loop-again Inv-loop μ-loop
 loop-again c =
     let read = c .before .before .before .before .before .before .before .before .before .before .before .before .before .before .before .before .before .before in
-    let line = read .before .before .before .before in
+    let line = read .before .before .before .before .before in
     let start = line .before .before .before .before .before .before .before .before in
-    walk-more (start .pre .0 .0) _ _ (start .pre .0 .1) (line .before .loop .inv) (line .loop-test .taken) _ (read .before .before .block-of .ensures) _ (read .before .before .before .record-at .ensures) _ (read .before .value-of .ensures) _
-    (read .items-in .ensures) _ (line .before .before .before .before .before .globals .ensures) (line .before .before .before .before .items .ensures .0) _
+    walk-more (start .pre .0 .0) _ _ (start .pre .0 .1) (line .before .loop .inv) (line .loop-test .taken) _ (read .before .before .before .block-of .ensures) _ (read .before .before .before .before .record-at .ensures) _
+    (read .before .before .value-of .ensures) _ (read .enter-block .ensures) _ (line .before .before .before .before .before .globals .ensures) (line .before .before .before .before .items .ensures .0) _
     (c .before .before .before .before .before .before .before .before .before .before .before .before .before .before .before .line-failing .ensures)
     (c .before .before .before .before .before .before .before .before .before .before .before .before .before .before .if1 .left) _ (c .before .before .before .before .before .before .before .before .before .value-rows .ensures) _
     (c .before .before .before .before .before .before .before .before .before .before .before .breaks .ensures) _ (c .before .before .before .before .before .before .before .before .before .before .noted .ensures) _
@@ -175,7 +176,7 @@ thread-values-spec =
     record-at-requires
     block-of-requires
     value-of-requires
-    items-in-requires
+    enter-block-requires
     line-failing-requires
     returns
     breaks-requires
