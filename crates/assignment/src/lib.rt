@@ -1,7 +1,8 @@
 // What is read of an assignment: the block number and the value of a record, and the items' values where a block starts.
 ghost use mathlib.Core.Path.{_≡_};
-ghost use Prim.Native.Nat.{_+_, _-_, _*_, _≤_};
+ghost use Prim.Native.Nat.{_+_, _-_, _*_, _≤_, _<_};
 ghost use lib.ListN.{length};
+ghost use Rattle.model.specs.Word.{wordSize};
 ghost use Rattle.model.specs.Limits.{mostSwitches, mostItems, mostVariables};
 ghost use Rattle.model.specs.CaseFile.{caseOf, itemCount};
 ghost use Rattle.laws.specs.Accepted.{Accepted};
@@ -15,7 +16,7 @@ use numbers::at;
 
 // Where the two numbers of record k start.
 fn start_of(k: u16) -> usize
-    ensures { λ r. ⌜ (r ≡ 2 * (k - 1)) × (r ≤ 131070) ⌝ }
+    ensures { λ r. ⌜ (r ≡ 2 * (k - 1)) × (r < 2 * wordSize) ⌝ }
 {
     if k == 0 {
         return 0;

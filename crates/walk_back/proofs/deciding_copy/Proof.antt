@@ -1,6 +1,7 @@
 -- `walk_back::deciding_copy` meets its contract. Assumes nothing.
 use mathlib.Core.Path.{_≡_, refl, sym, _∙_}
 use Prim.Native.Nat.{_≤_, _<_}
+use Rattle.model.specs.Word.{wordSize}
 use Rattle.model.specs.Limits.{mostLines}
 use Rattle.walk_back.specs.Deciding.{deciding}
 use Rattle.walk_back.proofs.Deciding.{deciding-spent, deciding-ends, deciding-found, deciding-goes-on}
@@ -9,7 +10,7 @@ use Rattle.walk_back.proofs.deciding_copy.Statement.{statement}
 use Rattle.walk_back.proofs.deciding_copy.Tie as tie
 
 abbrev Inv-chain : tie.InvT-chain
-Inv-chain assignment previous i last p₀ left₀ p left = (p < 65536) × ((left ≤ mostLines) × (deciding previous assignment i left p ≡ deciding previous assignment i mostLines last))
+Inv-chain assignment previous i last p₀ left₀ p left = (p < wordSize) × ((left ≤ mostLines) × (deciding previous assignment i left p ≡ deciding previous assignment i mostLines last))
 
 abbrev μ-chain : tie.MeasureT-chain
 μ-chain assignment previous i last p₀ left₀ p left = left
