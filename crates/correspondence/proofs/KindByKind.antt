@@ -22,7 +22,8 @@ use Rattle.laws.specs.Order.{AllLines}
 use Rattle.correspondence.specs.KindByKind.{localIn, globalIn, localGets, globalGets, guardHolds, operandIn, expressionIn, doneByKind, stepByKind, endsByKind, notedByKind, refusedByKind, DoneAsSaid}
 use Rattle.correspondence.proofs.WellFormed.{all-lines-by}
 use Rattle.laws.proofs.Copies.{item-of-name}
-use Rattle.correspondence.proofs.Step.{put, length-putItem}
+use Rattle.laws.proofs.Memory.{put}
+use Rattle.correspondence.proofs.Step.{length-putItem}
 
 look-local : (m : Memory) (x : ℕ) → x < localCount → look m (localName x) ≡ localIn m x
 unfolding look localName

@@ -1,14 +1,12 @@
 -- One line: what the machine holds for each name is what an assignment reads for it, and a step keeps this.
 -- Assumes nothing. Met again in Block, for the lines of a block.
 use mathlib.Core.Path.{_≡_, refl, sym, ap, _∙_}
-use mathlib.Core.Logic.{_≢_}
-use Prim.Native.Nat.{ℕ, _+_, _-_, _≤_, _<_}
+use Prim.Native.Nat.{ℕ, _+_, _-_, _<_}
 use mathlib.Core.Bool.{Bool, true, false, cond, not, _&&_}
 use mathlib.Core.List.{List, _∷_}
 use native.Mathlib.Omega.{arith}
 use lib.Dec.{ltb}
-use lib.ListN.{set, length, length-set, List·getD-eq-default}
-use lib.Seq.{getD-set-same, getD-set-other}
+use lib.ListN.{set, length, length-set}
 use Rattle.laws.proofs.Views.{EqView, same, diff, eq-view, LtView, below, above, lt-view}
 use Rattle.model.specs.Limits.{localCount}
 use Rattle.model.specs.CaseFile.{Kind, compute, store, load, input, assert, assume, lock, unlock, Line, Case, itemCount}
@@ -17,44 +15,13 @@ use Rattle.model.specs.Machine.{Memory, look, putLocal, putItem, readsIn, stepp
 use Rattle.model.specs.Assignment.{Assignment}
 use Rattle.model.specs.Copies.{readAfter}
 use Rattle.correspondence.specs.Meaning.{WellFormed}
+use Rattle.laws.proofs.Memory.{put, look-put-same, look-put-other, look-beyond}
 use Rattle.laws.proofs.Copies.{readName-no-name, readName-own-block, readAfter-target, readAfter-other}
-
--- A memory where a name gets a value.
-abbrev pub put : Bool → ℕ → ℕ → Memory → Memory
-put on name value m = record { locals = putLocal on name value (m .locals); items = putItem on name value (m .items) }
 
 -- A memory of 16 locals and all items.
 pub record MemoryFits (case : Case) (m : Memory) : Type 0 where
   pub all-locals : length (m .locals) ≡ localCount
   pub all-items : length (m .items) ≡ itemCount case
-
-pub look-put-same : (name value : ℕ) (m : Memory) → length (m .locals) ≡ localCount → name < localCount + length (m .items)
-    → look (put true name value m) name ≡ value
-unfolding look putLocal putItem
-look-put-same name value m few in-range = go (lt-view name localCount)
-  where
-    go : LtView name localCount → look (put true name value m) name ≡ value
-    go (below h e) = rw e (getD-set-same (m .locals) name value 0 (omega arith))
-    go (above h e) = rw e (getD-set-same (m .items) (name - localCount) value 0 (omega arith))
-
-pub look-put-other : (on : Bool) (name other value : ℕ) (m : Memory) → other ≢ name → look (put on other value m) name ≡ look m name
-unfolding look putLocal putItem
-look-put-other true name other value m differs = go (lt-view name localCount) (lt-view other localCount)
-  where
-    go : LtView name localCount → LtView other localCount → look (put true other value m) name ≡ look m name
-    go (below h e) (below h' e') = rw (e, e') (getD-set-other (m .locals) other name value 0 (omega arith))
-    go (below h e) (above h' e') = rw (e, e')
-    go (above h e) (below h' e') = rw (e, e')
-    go (above h e) (above h' e') = rw (e, e') (getD-set-other (m .items) (other - localCount) (name - localCount) value 0 (omega arith))
-look-put-other false name other value m differs = refl
-
-pub look-no-name : (name : ℕ) (m : Memory) → localCount + length (m .items) ≤ name → look m name ≡ 0
-unfolding look
-look-no-name name m beyond-items = go (lt-view name localCount)
-  where
-    go : LtView name localCount → look m name ≡ 0
-    go (below h e) = absurd (omega arith)
-    go (above h e) = rw e (List·getD-eq-default (m .items) 0 {n = name - localCount} (omega arith))
 
 length-set-where : (on : Bool) (xs : List ℕ) (j x : ℕ) → length (cond on (set xs j x) xs) ≡ length xs
 length-set-where true xs j x = length-set xs j x
@@ -123,7 +90,7 @@ module _ (case : Case) (α : Assignment) where
           ∙ sym (readName-own-block case α i name (l .number) h positive in-block)
           ∙ sym (readAfter-target case α i name l earlier e)
       go (same e _) (above h _) =
-          look-no-name name (stepped case given l m) (omega (arith, step-fits case given l m fits .all-items))
+          look-beyond name (stepped case given l m) (omega (arith, step-fits case given l m fits .all-items))
           ∙ sym (readName-no-name case α i name (l .number) h)
           ∙ sym (readAfter-target case α i name l earlier e)
       go (diff differs _) _ =

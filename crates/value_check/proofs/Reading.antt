@@ -104,7 +104,7 @@ module _ (case : Case) (α : Assignment) where
     reading-reads = rw (in-block, ev) (ap (λ (f : ℕ → ℕ). readsOf (case .G) f l (α .value (l .number))) (fun-ext (v .sees)))
 
     -- One line more: its target has its value.
-    pub reading-more : 0 < l .number → Reading (l ∷ earlier) block (put (targetName (case .G) l) value m)
+    pub reading-more : 0 < l .number → Reading (l ∷ earlier) block (put true (targetName (case .G) l) value m)
     unfolding putLocal putItem
     reading-more low = record {
       positive = (low, v .positive);
@@ -117,14 +117,14 @@ module _ (case : Case) (α : Assignment) where
         target : ℕ
         target = targetName (case .G) l
 
-        all-items' : length (put (targetName (case .G) l) value m .items) ≡ itemCount case
+        all-items' : length (put true (targetName (case .G) l) value m .items) ≡ itemCount case
         all-items' = length-set-where (not (ltb target localCount)) (m .items) (target - localCount) value ∙ v .all-items
 
         go : (name : ℕ) → EqView target name → LtView name (localCount + itemCount case)
-            → look (put (targetName (case .G) l) value m) name ≡ readAfter case α block (l ∷ earlier) name
-        go name (diff n _) _ = look-put-other name target value m n ∙ v .sees name ∙ sym (readAfter-other case α block name l earlier n)
+            → look (put true (targetName (case .G) l) value m) name ≡ readAfter case α block (l ∷ earlier) name
+        go name (diff n _) _ = look-put-other true name target value m n ∙ v .sees name ∙ sym (readAfter-other case α block name l earlier n)
         go name (same e _) (below h _) =
-            ap (look (put target value m)) (sym e)
+            ap (look (put true target value m)) (sym e)
             ∙ look-put-same target value m (v .all-locals) (omega (arith, v .all-items)) ∙ ev
             ∙ sym (readAfter-target case α block name l earlier e ∙ readName-own-block case α block name (l .number) h low in-block)
-        go name (same e _) (above h _) = look-beyond name (put target value m) (omega (arith, all-items')) ∙ no-name block (l ∷ earlier) name h
+        go name (same e _) (above h _) = look-beyond name (put true target value m) (omega (arith, all-items')) ∙ no-name block (l ∷ earlier) name h
