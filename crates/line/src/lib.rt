@@ -143,7 +143,7 @@ pub fn guarded(locals: &[u16; LOCALS], l: Record) -> bool
     }
 }
 
-fn bit_of(x: bool) -> u16
+pub fn bit_of(x: bool) -> u16
     ensures { λ r. ⌜ r ≡ bit x ⌝ }
 {
     if x { 1 } else { 0 }
@@ -253,9 +253,9 @@ pub fn value(
 }
 
 // Whether the line, with this value, breaks an assertion.
-pub fn breaks(
-    locals: &[u16; LOCALS],
-    items: &[u16; ITEMS],
+pub fn breaks<'a>(
+    locals: &'a [u16; LOCALS],
+    items: &'a [u16; ITEMS],
     globals: usize,
     count: usize,
     l: Record,

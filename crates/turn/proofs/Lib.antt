@@ -1,3 +1,3 @@
-pub mod Effects
+pub mod LineKinds
 pub mod Steps
 pub mod Blocks

@@ -5,10 +5,8 @@ use mathlib.Core.Bool.{Bool, true, false}
 use mathlib.Core.List.{List}
 use lib.ListN.{getD, take}
 use Rattle.model.specs.CaseFile.{Line, caseOf, itemCount}
-use Rattle.model.specs.Line.{Reads, guardTrue, valueOf, stops, breaks, strayInput}
 use Rattle.model.specs.Machine.{Memory}
 use Rattle.laws.specs.Accepted.{linesFrom}
-use Rattle.turn.specs.declared.Effect.{Effect}
 use Rattle.turn.specs.declared.Stand.{Stand}
 use Rattle.turn.specs.declared.Stand.the-variants.{Running, Strayed, Stopped}
 use Rattle.turn.specs.declared.Turn.{Turn}
@@ -26,16 +24,6 @@ restOf bytes t turn = linesFrom bytes t (turn .next)
 -- The values given, by record number.
 abbrev pub givenBy : List ℕ → ℕ → ℕ
 givenBy givens k = getD givens k 0
-
--- What a line with these reads does.
-abbrev pub effectOf : Line → Reads → Effect
-effectOf l reads = record {
-  strays = strayInput (l .kind) l reads;
-  stops = stops (l .kind) l reads;
-  breaks = breaks (l .kind) l reads (valueOf l reads);
-  writes = guardTrue l reads;
-  value = valueOf l reads;
-}
 
 -- Whether the run goes on.
 abbrev pub isRunning : Stand → Bool

@@ -1,20 +1,14 @@
 // A thread's turn in a run of an accepted case: what the thread holds, with what the threads share, as one value. Its steps and
 // its blocks are methods that hand the next turn back.
 ghost use mathlib.Core.Path.{_≡_};
-ghost use mathlib.Core.Bool.{cond};
+ghost use mathlib.Core.Bool.{true, false, cond};
 ghost use Prim.Native.Nat.{ℕ, _≤_};
-ghost use mathlib.Core.List.{List};
 ghost use lib.Dec.{eqb};
 ghost use Rattle.model.specs.Limits.{mostGlobals, mostItems};
-ghost use Rattle.model.specs.CaseFile.{kindOf};
-ghost use Rattle.model.specs.Line.{strayInput};
-ghost use Rattle.model.specs.Line as model;
 ghost use Rattle.case_file.specs.Records.{asLine};
-ghost use Rattle.line.specs.LineReads.{readsAt};
-ghost use Rattle.turn.specs.TurnState.{effectOf, isRunning};
-ghost use Rattle.turn.specs.Promises.{Ready, AtLine, Stepped, BlockRan};
+ghost use Rattle.turn.specs.TurnState.{isRunning};
+ghost use Rattle.turn.specs.Promises.{Ready, AtLine, LineRan, Stepped, BlockRan};
 use case_file::Record;
-use line::guarded;
 use model::ITEMS;
 use model::LOCALS;
 
@@ -33,74 +27,6 @@ pub struct Turn {
     pub items: [u16; ITEMS],
     pub stand: Stand,
     pub note: u16,
-}
-
-// What a line does: whether it strays, whether it ends the run, whether it breaks an assertion, whether its target gets its value,
-// and that value.
-pub struct Effect {
-    pub strays: bool,
-    pub stops: bool,
-    pub breaks: bool,
-    pub writes: bool,
-    pub value: u16,
-}
-
-// Whether the line is an input that refusal 14 meets: guarded out, and given something else than 0.
-fn strays(locals: &[u16; LOCALS], l: Record, given: u16) -> bool
-    ensures { λ r. ⌜ ((G count : ℕ) (items : List ℕ) (k : ℕ) → count ≤ mostItems → r ≡ strayInput (kindOf (l .kind)) (asLine l k) (readsAt G count given (now (locals .entry)) items (asLine l k))) ⌝ }
-{
-    if guarded(locals, l) {
-        return false;
-    }
-    let kind = l.kind;
-    match kind {
-        4 => given != 0,
-        _ => false,
-    }
-}
-
-// Whether the line ends the run: guarded in, and an assume that is zero or a lock whose mutex is taken.
-fn stops(
-    locals: &[u16; LOCALS],
-    items: &[u16; ITEMS],
-    globals: usize,
-    count: usize,
-    l: Record,
-) -> bool
-    requires { ⌜ (globals ≤ mostGlobals) × (count ≤ mostItems) ⌝ }
-    ensures { λ r. ⌜ ((given k : ℕ) → r ≡ model.stops (kindOf (l .kind)) (asLine l k) (readsAt globals count given (now (locals .entry)) (now (items .entry)) (asLine l k))) ⌝ }
-{
-    if !guarded(locals, l) {
-        return false;
-    }
-    let kind = l.kind;
-    match kind {
-        6 => line::expression_of(locals, l) == 0,
-        7 => line::item_at(items, count, globals + l.target as usize) != 0,
-        _ => false,
-    }
-}
-
-// What the line does.
-fn effect_of<'a>(
-    locals: &'a [u16; LOCALS],
-    items: &'a [u16; ITEMS],
-    globals: usize,
-    count: usize,
-    l: Record,
-    given: u16,
-) -> Effect
-    requires { ⌜ (globals ≤ mostGlobals) × (count ≤ mostItems) ⌝ }
-    ensures { λ r. ⌜ ((k : ℕ) → r ≡ effectOf (asLine l k) (readsAt globals count given (now (locals .entry)) (now (items .entry)) (asLine l k))) ⌝ }
-{
-    let value = line::value(locals, items, globals, count, l, given);
-    Effect {
-        strays: strays(locals, l, given),
-        stops: stops(locals, items, globals, count, l),
-        breaks: line::breaks(locals, items, globals, count, l, value),
-        writes: guarded(locals, l),
-        value,
-    }
 }
 
 // The first zero assert, after record k.
@@ -140,6 +66,75 @@ impl Turn {
         }
     }
 
+    // A line with a true guard, by its kind: compute, store, load, input, assert, assume, lock, unlock.
+    fn guarded_in(mut self, l: Record, k: u16, given: u16, globals: usize, count: usize) -> Turn
+        requires { ⌜ (globals ≤ mostGlobals) × (count ≤ mostItems) ⌝ }
+        ensures { λ r. ⌜ LineRan true globals count given (asLine l k) self r ⌝ }
+    {
+        let kind = l.kind;
+        let target = l.target as usize;
+        match kind {
+            1 => {
+                let value = line::expression_of(&self.locals, l);
+                line::put_local(&mut self.locals, line::local_name(l.target), value);
+                self
+            }
+            2 => {
+                let value = line::expression_of(&self.locals, l);
+                line::put_item(&mut self.items, count, LOCALS + target, value);
+                self
+            }
+            3 => {
+                let value = line::item_at(&self.items, count, l.a as usize);
+                line::put_local(&mut self.locals, line::local_name(l.target), value);
+                self
+            }
+            4 => {
+                line::put_local(&mut self.locals, line::local_name(l.target), given);
+                self
+            }
+            5 => {
+                let value = line::bit_of(line::expression_of(&self.locals, l) != 0);
+                let broken = line::breaks(&self.locals, &self.items, globals, count, l, value);
+                self.note = noted(self.note, k, broken);
+                self
+            }
+            6 => {
+                if line::expression_of(&self.locals, l) == 0 {
+                    return self.ended(Stand::Stopped(k));
+                }
+                self
+            }
+            7 => {
+                if line::item_at(&self.items, count, globals + target) != 0 {
+                    return self.ended(Stand::Stopped(k));
+                }
+                line::put_item(&mut self.items, count, LOCALS + (globals + target), 1);
+                self
+            }
+            _ => {
+                line::put_item(&mut self.items, count, LOCALS + (globals + target), 0);
+                self
+            }
+        }
+    }
+
+    // A line with a false guard: nothing changes, and an input must be given 0.
+    fn guarded_out(self, l: Record, k: u16, given: u16) -> Turn
+        ensures { λ r. ⌜ ((G count : ℕ) → LineRan false G count given (asLine l k) self r) ⌝ }
+    {
+        let kind = l.kind;
+        match kind {
+            4 => {
+                if given != 0 {
+                    return self.ended(Stand::Strayed(k));
+                }
+                self
+            }
+            _ => self,
+        }
+    }
+
     // A step of thread t at its next line, in a case with so many globals and items.
     fn step(mut self, t: u16, globals: usize, count: usize, case: &[u8], given: &[u16]) -> Turn
         requires { ⌜ AtLine (now case) (now given) globals count self ⌝ }
@@ -150,21 +145,10 @@ impl Turn {
         let l = case_file::record_at(case, t, at);
         let x = given[at];
         self.next = case_file::next_of(case, at);
-        let e = effect_of(&self.locals, &self.items, globals, count, l, x);
-        if e.strays {
-            return self.ended(Stand::Strayed(k));
+        if line::guarded(&self.locals, l) {
+            return self.guarded_in(l, k, x, globals, count);
         }
-        if e.stops {
-            return self.ended(Stand::Stopped(k));
-        }
-        self.note = noted(self.note, k, e.breaks);
-        if !e.writes {
-            return self;
-        }
-        let name = line::target_name(globals, l);
-        line::put_local(&mut self.locals, name, e.value);
-        line::put_item(&mut self.items, count, name, e.value);
-        self
+        self.guarded_out(l, k, x)
     }
 
     // A block of thread t: so many steps, or fewer where the thread or the run ends.
