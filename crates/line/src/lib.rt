@@ -1,8 +1,9 @@
 // What one line names, reads and does. A record knows its thread; its number makes no difference here, and the contracts are for all.
 ghost use mathlib.Core.Path.{_≡_};
 ghost use Prim.Native.Nat.{ℕ, _≤_};
-ghost use mathlib.Core.Bool.{true};
+ghost use mathlib.Core.Bool.{true, cond};
 ghost use mathlib.Core.List.{List};
+ghost use lib.Dec.{eqb};
 ghost use lib.ListN.{take};
 ghost use Rattle.model.specs.Word.{bit};
 ghost use Rattle.model.specs.Limits.{mostGlobals, mostItems};
@@ -268,6 +269,16 @@ pub fn breaks<'a>(
         5 => value == 0,
         _ => false,
     }
+}
+
+// The record of the first line that breaks an assertion, after record k, which may be the first; 0 while there is none.
+pub fn noted(note: u16, k: u16, broken: bool) -> u16
+    ensures { λ r. ⌜ r ≡ cond (eqb note 0) (cond broken k 0) note ⌝ }
+{
+    if note != 0 {
+        return note;
+    }
+    if broken { k } else { 0 }
 }
 
 // A name gets a value, if it is a local's.

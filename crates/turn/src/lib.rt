@@ -1,9 +1,8 @@
 // A thread's turn in a run of an accepted case: what the thread holds, with what the threads share, as one value. Its steps and
 // its blocks are methods that hand the next turn back.
 ghost use mathlib.Core.Path.{_≡_};
-ghost use mathlib.Core.Bool.{true, false, cond};
+ghost use mathlib.Core.Bool.{true, false};
 ghost use Prim.Native.Nat.{ℕ, _≤_};
-ghost use lib.Dec.{eqb};
 ghost use Rattle.model.specs.Limits.{mostGlobals, mostItems};
 ghost use Rattle.case_file.specs.Records.{asLine};
 ghost use Rattle.turn.specs.TurnState.{isRunning};
@@ -27,16 +26,6 @@ pub struct Turn {
     pub items: [u16; ITEMS],
     pub stand: Stand,
     pub note: u16,
-}
-
-// The first zero assert, after record k.
-fn noted(note: u16, k: u16, broken: bool) -> u16
-    ensures { λ r. ⌜ r ≡ cond (eqb note 0) (cond broken k 0) note ⌝ }
-{
-    if note != 0 {
-        return note;
-    }
-    if broken { k } else { 0 }
 }
 
 // Whether the run goes on.
@@ -96,7 +85,7 @@ impl Turn {
             5 => {
                 let value = line::bit_of(line::expression_of(&self.locals, l) != 0);
                 let broken = line::breaks(&self.locals, &self.items, globals, count, l, value);
-                self.note = noted(self.note, k, broken);
+                self.note = line::noted(self.note, k, broken);
                 self
             }
             6 => {

@@ -1,10 +1,8 @@
 // Constraints 4 and 5: the value of each line, and what an assume or a lock demands. What a line reads, and which copies there are,
 // is kept along the lines of each thread.
 ghost use mathlib.Core.Path.{_≡_};
-ghost use mathlib.Core.Bool.{cond};
 ghost use mathlib.Core.List.{[]};
 ghost use Prim.Native.Nat.{ℕ, _+_, _<_, _≤_};
-ghost use lib.Dec.{eqb};
 ghost use lib.ListN.{length, set};
 ghost use Rattle.model.specs.Limits.{mostThreads, mostSwitches, mostGlobals, mostItems, mostConstraints, recordPlaces};
 ghost use Rattle.model.specs.CaseFile.{threadCount, caseOf};
@@ -101,16 +99,6 @@ fn line_failing(
     at + 1
 }
 
-// The record of the first line that breaks an assertion, after record k; 0 if there is none.
-fn noted(note: u16, breaks: bool, k: u16) -> u16
-    ensures { λ r. ⌜ r ≡ cond (eqb note 0) (cond breaks k 0) note ⌝ }
-{
-    if note != 0 {
-        return note;
-    }
-    if breaks { k } else { 0 }
-}
-
 // Record k is the latest copy of a name in thread t, after the copy before it is noted for it.
 fn note_copy(
     previous: &mut [u16; RECORD_PLACES],
@@ -181,7 +169,7 @@ fn thread_values(
             };
         }
         let breaks = line::breaks(&locals, &items, counts.globals, counts.items, l, value);
-        broken = noted(broken, breaks, k);
+        broken = line::noted(broken, k, breaks);
         at += value_rows(l.kind) as u16;
         let name = target_name(counts.globals, l);
         note_copy(previous, latest, t, name, k);

@@ -83,7 +83,8 @@ loop-again c =
     let target = c .before .before .before .before .before .before .before .before .before .target-name .ensures in
     let width = c .before .value-rows .ensures in
     let taken = c .before .before .take-copy .ensures in
-    value-step v (c .before .before .before .before .before .before .before .before .before .before .before .before .before .before .before .before .before .pre .0) (c .before .before .before .before .before .before .before .before .before .before .before .loop-test .taken) l (c .before .before .before .before .before .before .before .before .before .before .before .before .before .before .globals .ensures) rows width (c .before .before .before .before .before .before .before .before .before .before .before .before .before .before .before .before .before .pre .1 .0) target taken (c .next-of .ensures)
+    let pre = c .before .before .before .before .before .before .before .before .before .before .before .before .before .before .before .before .before .pre in
+    value-step v (pre .0) (c .before .before .before .before .before .before .before .before .before .before .before .loop-test .taken) l (c .before .before .before .before .before .before .before .before .before .before .before .before .before .before .globals .ensures) rows width (pre .1 .0) target taken (c .next-of .ensures)
 
 same-length : tie.Need-same-length Inv-loop μ-loop
 same-length c = c .before .loop .inv .writes .same

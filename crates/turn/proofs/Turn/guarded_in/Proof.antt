@@ -1,6 +1,6 @@
 -- `turn::Turn::guarded_in` meets its contract: an arm for each kind. Assumes nothing.
 use mathlib.Core.Path.{refl, _∙_, ap}
-use Prim.Native.Nat.{ℕ, _+_}
+use Prim.Native.Nat.{ℕ}
 use Rattle.model.specs.Word.{bit, nonzero}
 use Rattle.model.specs.CaseFile.{compute, store, load, input, assert, assume, lock, unlock}
 use Rattle.model.specs.Line.{nameOfA, hasExpression, nameOfTarget, guardedInValue, stops, breaks}

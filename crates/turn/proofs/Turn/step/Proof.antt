@@ -1,6 +1,8 @@
 -- `turn::Turn::step` meets its contract. Assumes nothing.
 use mathlib.Core.Path.{sym, _∙_}
+use Prim.Native.Nat.{_≤_}
 use native.Mathlib.Omega.{arith}
+use Rattle.model.specs.Limits.{mostItems}
 use Rattle.turn.proofs.Steps.{step-of}
 use borrow.Author.Needs.{needs}
 use Rattle.turn.proofs.Turn.step.Statement.{statement}
@@ -29,14 +31,24 @@ guarded-in-requires c κs = search needs
 
 returns : tie.Need-returns
 returns c =
-    step-of _ _ _ _ (c .before .before .before .before .before .before .before .before .before .before .pre .runs) _ (c .before .before .before .before .before .next-of .ensures) _ _ _ _ (c .before .before .before .before .before .before .before .record-at .ensures) (c .before .before .before .before .before .before .before .before .before .before .pre .globals) (c .before .before .before .before .before .before .before .before .before .before .pre .items) (c .guarded-in .ensures (sym (c .before .before .guarded .ensures _ (c .before .before .before .before .before .before .before .before .before .before .args .count) _ _ _ (omega (arith, c .before .before .before .before .before .before .before .before .before .before .pre .items, c .before .before .before .before .before .before .before .before .before .before .pre .ready .accepted .few-globals, c .before .before .before .before .before .before .before .before .before .before .pre .ready .accepted .few-mutexes))) ∙ c .before .if1 .taken))
+    let pre = c .before .before .before .before .before .before .before .before .before .before .pre in
+    let few : c .before .before .before .before .before .before .before .before .before .before .args .count ≤ mostItems = omega (arith, pre .items, pre .ready .accepted .few-globals, pre .ready .accepted .few-mutexes) in
+    let on = sym (c .before .before .guarded .ensures _ (c .before .before .before .before .before .before .before .before .before .before .args .count) _ _ _ few) ∙ c .before .if1 .taken in
+    step-of _ _ _ _ (pre .runs) _ (c .before .before .before .before .before .next-of .ensures) _ _ _ _
+    (c .before .before .before .before .before .before .before .record-at .ensures) (pre .globals) (pre .items)
+    (c .guarded-in .ensures on)
 
 guarded-out-requires : tie.Need-guarded-out-requires
 guarded-out-requires c κs = search needs
 
 returns-2 : tie.Need-returns-2
 returns-2 c =
-    step-of _ _ _ _ (c .before .before .before .before .before .before .before .before .before .before .pre .runs) _ (c .before .before .before .before .before .next-of .ensures) _ _ _ _ (c .before .before .before .before .before .before .before .record-at .ensures) (c .before .before .before .before .before .before .before .before .before .before .pre .globals) (c .before .before .before .before .before .before .before .before .before .before .pre .items) (c .guarded-out .ensures _ _ (sym (c .before .before .guarded .ensures _ (c .before .before .before .before .before .before .before .before .before .before .args .count) _ _ _ (omega (arith, c .before .before .before .before .before .before .before .before .before .before .pre .items, c .before .before .before .before .before .before .before .before .before .before .pre .ready .accepted .few-globals, c .before .before .before .before .before .before .before .before .before .before .pre .ready .accepted .few-mutexes))) ∙ c .before .if1 .left))
+    let pre = c .before .before .before .before .before .before .before .before .before .before .pre in
+    let few : c .before .before .before .before .before .before .before .before .before .before .args .count ≤ mostItems = omega (arith, pre .items, pre .ready .accepted .few-globals, pre .ready .accepted .few-mutexes) in
+    let on = sym (c .before .before .guarded .ensures _ (c .before .before .before .before .before .before .before .before .before .before .args .count) _ _ _ few) ∙ c .before .if1 .left in
+    step-of _ _ _ _ (pre .runs) _ (c .before .before .before .before .before .next-of .ensures) _ _ _ _
+    (c .before .before .before .before .before .before .before .record-at .ensures) (pre .globals) (pre .items)
+    (c .guarded-out .ensures _ _ on)
 
 pub step-spec : {M : Type 1} → statement M
 step-spec =

@@ -1,7 +1,7 @@
--- `turn::noted` meets its contract. Assumes nothing.
+-- `line::noted` meets its contract. Assumes nothing.
 use borrow.Author.Tests.{ne-eqb}
-use Rattle.turn.proofs.noted.Statement.{statement}
-use Rattle.turn.proofs.noted.Tie as tie
+use Rattle.line.proofs.noted.Statement.{statement}
+use Rattle.line.proofs.noted.Tie as tie
 
 returns : tie.Need-returns
 returns c = rw (ne-eqb _ _ (c .if1 .taken))
