@@ -1,15 +1,15 @@
--- What a step and a block ask and promise, in terms of the machine.
+-- What a line, a step and a block ask and promise, in terms of the machine.
 -- Assumes nothing.
 use mathlib.Core.Path.{_≡_}
 use Prim.Native.Nat.{ℕ, suc, _≤_, _<_}
-use mathlib.Core.Bool.{Bool, true, false}
+use mathlib.Core.Bool.{Bool, true, cond}
 use mathlib.Core.List.{List, _∷_}
-use lib.ListN.{length, take, drop}
+use lib.ListN.{length, drop}
 use Rattle.model.specs.CaseFile.{Line, records, globalCount, nextRecord, lineOf, caseOf, itemCount}
-use Rattle.model.specs.Line.{Reads, targetName, guardTrue, valueOf, stops, breaks, strayInput}
-use Rattle.model.specs.Machine.{Memory, putLocal, putItem, noted, BlockEnd, strayed, stopped, passed, runBlock}
+use Rattle.model.specs.Line.{Reads, noName, targetName, guardTrue, valueOf, stops, breaks, strayInput}
+use Rattle.model.specs.Machine.{Memory, BlockEnd, strayed, stopped, passed, runBlock}
 use Rattle.laws.specs.Accepted.{Accepted}
-use Rattle.line.specs.LineReads.{readsAt}
+use Rattle.turn.specs.declared.Effect.{Effect}
 use Rattle.turn.specs.declared.Stand.{Stand}
 use Rattle.turn.specs.declared.Stand.the-variants.{Running, Strayed, Stopped}
 use Rattle.turn.specs.declared.Turn.{Turn}
@@ -44,32 +44,17 @@ continued (strayed k) next = strayed k
 continued (stopped k items) next = stopped k items
 continued (passed m note) next = next m note
 
--- The turn, where the run stands so.
-abbrev pub standing : Stand → Turn → Turn
-standing stand turn = record { next = turn .next; locals = turn .locals; items = turn .items; stand = stand; note = turn .note }
+-- What a line with these reads does, in a case with G globals: it writes where its guard is true.
+pub record Effective (G : ℕ) (l : Line) (reads : Reads) (e : Effect) : Type 0 where
+  pub straying : e .strays ≡ strayInput (l .kind) l reads
+  pub stopping : e .stops ≡ stops (l .kind) l reads
+  pub breaking : e .breaks ≡ breaks (l .kind) l reads (valueOf l reads)
+  pub naming : e .name ≡ cond (guardTrue l reads) (targetName G l) noName
+  pub giving : guardTrue l reads ≡ true → e .value ≡ valueOf l reads
 
--- What a line of a case with G globals and so many items reads of a turn, if it is given this value.
-abbrev pub readsOfTurn : ℕ → ℕ → ℕ → Line → Turn → Reads
-readsOfTurn G count given l turn = readsAt G count given (turn .locals) (turn .items) l
-
--- What a line with these reads leaves of a turn in which it goes on.
-pub record Left (G count : ℕ) (l : Line) (reads : Reads) (turn after : Turn) : Type 0 where
-  pub locals : after .locals ≡ putLocal (guardTrue l reads) (targetName G l) (valueOf l reads) (turn .locals)
-  pub items : take count (after .items) ≡ putItem (guardTrue l reads) (targetName G l) (valueOf l reads) (take count (turn .items))
-  pub note : after .note ≡ noted (turn .note) l (breaks (l .kind) l reads (valueOf l reads))
-  pub stand : after .stand ≡ turn .stand
-  pub next : after .next ≡ turn .next
-
--- A line with these reads strays, or ends the run, or goes on.
-pub data Ran (G count : ℕ) (l : Line) (reads : Reads) (turn after : Turn) : Type 0 where
-  strays : strayInput (l .kind) l reads ≡ true → after ≡ standing (Strayed (l .number)) turn → Ran G count l reads turn after
-  ends : strayInput (l .kind) l reads ≡ false → stops (l .kind) l reads ≡ true → after ≡ standing (Stopped (l .number)) turn → Ran G count l reads turn after
-  goes : strayInput (l .kind) l reads ≡ false → stops (l .kind) l reads ≡ false → Left G count l reads turn after → Ran G count l reads turn after
-
--- A line runs whose guard is so.
-abbrev pub LineRan : Bool → ℕ → ℕ → ℕ → Line → Turn → Turn → Type 0
-LineRan on G count given l turn after =
-    guardTrue l (readsOfTurn G count given l turn) ≡ on → Ran G count l (readsOfTurn G count given l turn) turn after
+-- The same, where the line's guard is so.
+abbrev pub Does : Bool → ℕ → Line → Reads → Effect → Type 0
+Does on G l reads e = guardTrue l reads ≡ on → Effective G l reads e
 
 -- A step of thread t: its next line is run, and the record that follows is next.
 pub record Stepped (bytes givens : List ℕ) (t : ℕ) (turn after : Turn) : Type 0 where

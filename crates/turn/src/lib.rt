@@ -3,13 +3,16 @@
 ghost use mathlib.Core.Path.{_≡_};
 ghost use mathlib.Core.Bool.{true, false};
 ghost use Prim.Native.Nat.{ℕ, _≤_};
+ghost use mathlib.Core.List.{List};
 ghost use Rattle.model.specs.Limits.{mostGlobals, mostItems};
 ghost use Rattle.case_file.specs.Records.{asLine};
+ghost use Rattle.line.specs.LineReads.{readsAt};
 ghost use Rattle.turn.specs.TurnState.{isRunning};
-ghost use Rattle.turn.specs.Promises.{Ready, AtLine, LineRan, Stepped, BlockRan};
+ghost use Rattle.turn.specs.Promises.{Ready, AtLine, Does, Effective, Stepped, BlockRan};
 use case_file::Record;
 use model::ITEMS;
 use model::LOCALS;
+use model::NAMES;
 
 // How the run stands: it goes on, or it met an input of refusal 14, or a line that ended it.
 pub enum Stand {
@@ -26,6 +29,117 @@ pub struct Turn {
     pub items: [u16; ITEMS],
     pub stand: Stand,
     pub note: u16,
+}
+
+// What a line does: whether it strays, whether it ends the run, whether it breaks an assertion, the name that it writes, and the
+// value that it writes there.
+pub struct Effect {
+    pub strays: bool,
+    pub stops: bool,
+    pub breaks: bool,
+    pub name: usize,
+    pub value: u16,
+}
+
+// A name gets a value.
+fn put(name: usize, value: u16) -> Effect
+    ensures { λ r. ⌜ r ≡ record { strays = false; stops = false; breaks = false; name = name; value = value } ⌝ }
+{
+    Effect {
+        strays: false,
+        stops: false,
+        breaks: false,
+        name,
+        value,
+    }
+}
+
+// What a line with a true guard does, by its kind: compute, store, load, input, assert, assume, lock, unlock.
+fn effect_in<'a>(
+    locals: &'a [u16; LOCALS],
+    items: &'a [u16; ITEMS],
+    globals: usize,
+    count: usize,
+    l: Record,
+    given: u16,
+) -> Effect
+    requires { ⌜ (globals ≤ mostGlobals) × (count ≤ mostItems) ⌝ }
+    ensures { λ r. ⌜ ((k : ℕ) → Does true globals (asLine l k) (readsAt globals count given (now (locals .entry)) (now (items .entry)) (asLine l k)) r) ⌝ }
+{
+    let kind = l.kind;
+    let target = l.target as usize;
+    match kind {
+        1 => put(line::local_name(l.target), line::expression_of(locals, l)),
+        2 => put(LOCALS + target, line::expression_of(locals, l)),
+        3 => put(
+            line::local_name(l.target),
+            line::item_at(items, count, l.a as usize),
+        ),
+        4 => put(line::local_name(l.target), given),
+        5 => {
+            let value = line::bit_of(line::expression_of(locals, l) != 0);
+            Effect {
+                strays: false,
+                stops: false,
+                breaks: line::breaks(locals, items, globals, count, l, value),
+                name: NAMES,
+                value,
+            }
+        }
+        6 => {
+            let x = line::expression_of(locals, l);
+            Effect {
+                strays: false,
+                stops: x == 0,
+                breaks: false,
+                name: NAMES,
+                value: line::bit_of(x != 0),
+            }
+        }
+        7 => Effect {
+            strays: false,
+            stops: line::item_at(items, count, globals + target) != 0,
+            breaks: false,
+            name: LOCALS + (globals + target),
+            value: 1,
+        },
+        _ => put(LOCALS + (globals + target), 0),
+    }
+}
+
+// What a line with a false guard does: nothing, and an input must be given 0.
+fn effect_out(l: Record, given: u16) -> Effect
+    ensures { λ r. ⌜ ((G count : ℕ) (locals items : List ℕ) (k : ℕ) → Does false G (asLine l k) (readsAt G count given locals items (asLine l k)) r) ⌝ }
+{
+    let kind = l.kind;
+    match kind {
+        4 => Effect {
+            strays: given != 0,
+            stops: false,
+            breaks: false,
+            name: NAMES,
+            value: 0,
+        },
+        _ => put(NAMES, 0),
+    }
+}
+
+// What a line does, by its guard.
+fn effect_of<'a>(
+    locals: &'a [u16; LOCALS],
+    items: &'a [u16; ITEMS],
+    globals: usize,
+    count: usize,
+    l: Record,
+    given: u16,
+) -> Effect
+    requires { ⌜ (globals ≤ mostGlobals) × (count ≤ mostItems) ⌝ }
+    ensures { λ r. ⌜ ((k : ℕ) → Effective globals (asLine l k) (readsAt globals count given (now (locals .entry)) (now (items .entry)) (asLine l k)) r) ⌝ }
+{
+    if line::guarded(locals, l) {
+        return effect_in(locals, items, globals, count, l, given);
+    }
+    effect_out(l, given)
 }
 
 // Whether the run goes on.
@@ -55,75 +169,6 @@ impl Turn {
         }
     }
 
-    // A line with a true guard, by its kind: compute, store, load, input, assert, assume, lock, unlock.
-    fn guarded_in(mut self, l: Record, k: u16, given: u16, globals: usize, count: usize) -> Turn
-        requires { ⌜ (globals ≤ mostGlobals) × (count ≤ mostItems) ⌝ }
-        ensures { λ r. ⌜ LineRan true globals count given (asLine l k) self r ⌝ }
-    {
-        let kind = l.kind;
-        let target = l.target as usize;
-        match kind {
-            1 => {
-                let value = line::expression_of(&self.locals, l);
-                line::put_local(&mut self.locals, line::local_name(l.target), value);
-                self
-            }
-            2 => {
-                let value = line::expression_of(&self.locals, l);
-                line::put_item(&mut self.items, count, LOCALS + target, value);
-                self
-            }
-            3 => {
-                let value = line::item_at(&self.items, count, l.a as usize);
-                line::put_local(&mut self.locals, line::local_name(l.target), value);
-                self
-            }
-            4 => {
-                line::put_local(&mut self.locals, line::local_name(l.target), given);
-                self
-            }
-            5 => {
-                let value = line::bit_of(line::expression_of(&self.locals, l) != 0);
-                let broken = line::breaks(&self.locals, &self.items, globals, count, l, value);
-                self.note = line::noted(self.note, k, broken);
-                self
-            }
-            6 => {
-                if line::expression_of(&self.locals, l) == 0 {
-                    return self.ended(Stand::Stopped(k));
-                }
-                self
-            }
-            7 => {
-                if line::item_at(&self.items, count, globals + target) != 0 {
-                    return self.ended(Stand::Stopped(k));
-                }
-                line::put_item(&mut self.items, count, LOCALS + (globals + target), 1);
-                self
-            }
-            _ => {
-                line::put_item(&mut self.items, count, LOCALS + (globals + target), 0);
-                self
-            }
-        }
-    }
-
-    // A line with a false guard: nothing changes, and an input must be given 0.
-    fn guarded_out(self, l: Record, k: u16, given: u16) -> Turn
-        ensures { λ r. ⌜ ((G count : ℕ) → LineRan false G count given (asLine l k) self r) ⌝ }
-    {
-        let kind = l.kind;
-        match kind {
-            4 => {
-                if given != 0 {
-                    return self.ended(Stand::Strayed(k));
-                }
-                self
-            }
-            _ => self,
-        }
-    }
-
     // A step of thread t at its next line, in a case with so many globals and items.
     fn step(mut self, t: u16, globals: usize, count: usize, case: &[u8], given: &[u16]) -> Turn
         requires { ⌜ AtLine (now case) (now given) globals count self ⌝ }
@@ -132,12 +177,18 @@ impl Turn {
         let at = self.next;
         let k = at as u16;
         let l = case_file::record_at(case, t, at);
-        let x = given[at];
+        let e = effect_of(&self.locals, &self.items, globals, count, l, given[at]);
         self.next = case_file::next_of(case, at);
-        if line::guarded(&self.locals, l) {
-            return self.guarded_in(l, k, x, globals, count);
+        if e.strays {
+            return self.ended(Stand::Strayed(k));
         }
-        self.guarded_out(l, k, x)
+        if e.stops {
+            return self.ended(Stand::Stopped(k));
+        }
+        self.note = line::noted(self.note, k, e.breaks);
+        line::put_local(&mut self.locals, e.name, e.value);
+        line::put_item(&mut self.items, count, e.name, e.value);
+        self
     }
 
     // A block of thread t: so many steps, or fewer where the thread or the run ends.
