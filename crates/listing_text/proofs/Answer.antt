@@ -15,7 +15,7 @@ use Rattle.model.specs.declared.Encoded.{Encoded}
 use Rattle.model.specs.declared.Encoded.the-variants.{Table, Refused}
 use Rattle.laws.specs.Written.{numbersAt}
 use Rattle.listing_text.specs.Text.{sixAt, sixLines, rowsOf, textOf}
-use Rattle.listing_text.proofs.Numbers.{Put, put-then}
+use Rattle.listing_text.proofs.Numbers.{TextPut, put-then}
 use Rattle.listing_text.proofs.Rows.{line-size}
 
 pub rows-have-room :
@@ -28,7 +28,7 @@ rows-have-room answer constraints variables at first second numbers e ea h few =
 pub table-text :
     (answer : Encoded) (constraints variables : ℕ) → answer ≡ Table constraints variables → (d xs a x : List ℕ) (at size : ℕ) →
     a ≡ numbersAt d 0 (numbersLine (constraints ∷ (variables ∷ []))) → at ≡ length (numbersLine (constraints ∷ (variables ∷ []))) →
-    Put a at (sixLines xs 0 constraints) x size → (x ≡ numbersAt d 0 (textOf answer xs)) × (size ≡ length (textOf answer xs))
+    TextPut a at (sixLines xs 0 constraints) x size → (x ≡ numbersAt d 0 (textOf answer xs)) × (size ≡ length (textOf answer xs))
 unfolding textOf
 table-text answer constraints variables e d xs a x at size ed ea put =
     let whole = put-then d a x (numbersLine (constraints ∷ (variables ∷ []))) (sixLines xs 0 constraints) 0 at size (ed, omega arith) put in

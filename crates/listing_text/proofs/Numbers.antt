@@ -12,27 +12,27 @@ use Rattle.listing_text.specs.Text.{ended}
 use Rattle.listing_text.proofs.Digits.{one-digit, more-digits}
 
 -- Some bytes from a place on, and the place after them.
-abbrev pub Put : List ℕ → ℕ → List ℕ → List ℕ → ℕ → Type 0
-Put d at xs a place = (a ≡ numbersAt d at xs) × (place ≡ at + length xs)
+abbrev pub TextPut : List ℕ → ℕ → List ℕ → List ℕ → ℕ → Type 0
+TextPut d at xs a place = (a ≡ numbersAt d at xs) × (place ≡ at + length xs)
 
 -- one part after another
-pub put-then : (d a x xs ys : List ℕ) (at place end : ℕ) → Put d at xs a place → Put a place ys x end → Put d at (xs ++ ys) x end
+pub put-then : (d a x xs ys : List ℕ) (at place end : ℕ) → TextPut d at xs a place → TextPut a place ys x end → TextPut d at (xs ++ ys) x end
 put-then d a x xs ys at place end (ea, ep) (ex, ee) =
     (ex ∙ rw (ep, ea) (sym (numbers-append d at xs ys)), omega (arith, length-append xs ys))
 
 -- a byte after some
-put-last : (d a x xs : List ℕ) (at place b b' : ℕ) → Put d at xs a place → x ≡ numbersAt a place (b ∷ []) → b ≡ b' → Put d at (xs ++ (b' ∷ [])) x (place + 1)
+put-last : (d a x xs : List ℕ) (at place b b' : ℕ) → TextPut d at xs a place → x ≡ numbersAt a place (b ∷ []) → b ≡ b' → TextPut d at (xs ++ (b' ∷ [])) x (place + 1)
 put-last d a x xs at place b b' put ex e =
     put-then d a x xs (b' ∷ []) at place (place + 1) put (ex ∙ ap (λ (c : ℕ). numbersAt a place (c ∷ [])) e, refl)
 
-pub put-one-digit : (d a : List ℕ) (at n b : ℕ) → n < 10 → a ≡ numbersAt d at (b ∷ []) → b ≡ digit n → Put d at (decimal n) a (at + 1)
+pub put-one-digit : (d a : List ℕ) (at n b : ℕ) → n < 10 → a ≡ numbersAt d at (b ∷ []) → b ≡ digit n → TextPut d at (decimal n) a (at + 1)
 put-one-digit d a at n b h ea e = rw (one-digit n h) (ea ∙ ap (λ (c : ℕ). numbersAt d at (c ∷ [])) e, refl)
 
 pub put-last-digit :
-    (d a x : List ℕ) (at n place b : ℕ) → 10 ≤ n → n < 65536 → Put d at (decimal (n / 10)) a place → x ≡ numbersAt a place (b ∷ []) → b ≡ digit (n % 10) →
-    Put d at (decimal n) x (place + 1)
+    (d a x : List ℕ) (at n place b : ℕ) → 10 ≤ n → n < 65536 → TextPut d at (decimal (n / 10)) a place → x ≡ numbersAt a place (b ∷ []) → b ≡ digit (n % 10) →
+    TextPut d at (decimal n) x (place + 1)
 put-last-digit d a x at n place b h small put ex e = rw (more-digits n h small) (put-last d a x (decimal (n / 10)) at place b (digit (n % 10)) put ex e)
 
-pub put-ended : (d a x : List ℕ) (at n place end : ℕ) → Put d at (decimal n) a place → x ≡ numbersAt a place (end ∷ []) → Put d at (ended n end) x (place + 1)
+pub put-ended : (d a x : List ℕ) (at n place end : ℕ) → TextPut d at (decimal n) a place → x ≡ numbersAt a place (end ∷ []) → TextPut d at (ended n end) x (place + 1)
 unfolding ended
 put-ended d a x at n place end put ex = put-last d a x (decimal n) at place end end put ex refl

@@ -12,7 +12,7 @@ use Rattle.laws.specs.Written.{numbersAt}
 use Rattle.laws.proofs.Writing.{Writing, writing-start, writing-more, writing-end}
 use Rattle.listing_text.specs.Text.{ended, sixAt, sixLines}
 use Rattle.listing_text.proofs.Digits.{six-bytes}
-use Rattle.listing_text.proofs.Numbers.{Put}
+use Rattle.listing_text.proofs.Numbers.{TextPut}
 
 -- A line: a number and what ends it.
 line-of-one : (x : ℕ) → numbersLine (x ∷ []) ≡ ended x lineFeed
@@ -57,7 +57,7 @@ line-last xs last h =
     (line-of-one (getD xs last 0))
 
 module _ (xs : List ℕ) (start last : ℕ) (d : List ℕ) (at j : ℕ) (out : List ℕ) (v : Lining xs start last d at j out) where
-  pub lining-more : j < last → (a : List ℕ) (place : ℕ) → Put out at (ended (getD xs j 0) blank) a place → Lining xs start last d place (j + 1) a
+  pub lining-more : j < last → (a : List ℕ) (place : ℕ) → TextPut out at (ended (getD xs j 0) blank) a place → Lining xs start last d place (j + 1) a
   lining-more h a place (ea, ep) = record {
     upto = omega arith;
     whole = v .whole;
@@ -65,7 +65,7 @@ module _ (xs : List ℕ) (start last : ℕ) (d : List ℕ) (at j : ℕ) (out : L
     writes = writing-more _ _ _ _ _ _ (v .writes) _ _ _ _ (line-more xs j (omega (arith, v .whole))) ea ep;
   }
 
-  pub lining-end : last ≤ j → (a : List ℕ) (place : ℕ) → Put out at (ended (getD xs last 0) lineFeed) a place → Put d start (numbersLine xs) a place
+  pub lining-end : last ≤ j → (a : List ℕ) (place : ℕ) → TextPut out at (ended (getD xs last 0) lineFeed) a place → TextPut d start (numbersLine xs) a place
   lining-end h a place (ea, ep) =
       let same : j ≡ last = omega (arith, v .upto) in
       let rest : numbersLine (drop j xs) ≡ ended (getD xs last 0) lineFeed = rw same (line-last xs last (v .whole)) in
@@ -94,12 +94,12 @@ unfolding sixLines
 no-more-rows xs i many h = let none : many - i ≡ 0 = omega arith in rw none
 
 module _ (xs : List ℕ) (start count : ℕ) (d : List ℕ) (at i : ℕ) (out : List ℕ) (v : Rowing xs start count d at i out) where
-  pub rowing-more : i < count → (a : List ℕ) (place : ℕ) → Put out at (numbersLine (sixAt xs (6 * i))) a place → Rowing xs start count d place (i + 1) a
+  pub rowing-more : i < count → (a : List ℕ) (place : ℕ) → TextPut out at (numbersLine (sixAt xs (6 * i))) a place → Rowing xs start count d place (i + 1) a
   rowing-more h a place (ea, ep) = record {
     upto = omega arith;
     near = omega (arith, line-size (sixAt xs (6 * i)));
     writes = writing-more _ _ _ _ _ _ (v .writes) _ _ _ _ (rows-more xs i count h) ea ep;
   }
 
-  pub rowing-end : count ≤ i → Put d start (sixLines xs 0 count) out at
+  pub rowing-end : count ≤ i → TextPut d start (sixLines xs 0 count) out at
   rowing-end h = writing-end _ _ _ _ _ _ (v .writes) (no-more-rows xs i count h)

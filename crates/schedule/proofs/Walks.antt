@@ -8,7 +8,7 @@ use mathlib.Core.List.{List, [], _∷_, _++_}
 use native.Mathlib.Omega.{arith}
 use lib.ListN.{getD, set, length, replicate, length-set, length-append}
 use lib.Seq.{getD-set-same, getD-set-other}
-use Rattle.model.specs.Limits.{mostThreads, mostBlocks, localCount}
+use Rattle.model.specs.Limits.{mostThreads, mostLines, mostBlocks, localCount}
 use Rattle.model.specs.CaseFile.{Line, records, threadCount, globalCount, firstRecord, nextRecord, lineOf, chains, caseOf}
 use Rattle.model.specs.Line.{guardName, targetName, guardTrue, isInput}
 use Rattle.model.specs.Machine.{putLocal}
@@ -90,7 +90,7 @@ own-and-rest bytes xs ok t k low high locals earlier are l el value ev =
 
 module _ {bytes xs : List ℕ} {t : ℕ} {before : List ℕ} {start : ℕ} {out : List ℕ} {at : ℕ} {locals counts : List ℕ} {k : ℕ}
     (v : Walk bytes xs t before start out at locals counts k) where
-  pub walk-few : (i : ℕ) → getD counts i 0 < 65535
+  pub walk-few : (i : ℕ) → getD counts i 0 ≤ mostLines
   walk-few i =
       omega (arith, counting-few counts (recordBlock xs) _ _ (v .counting) i, few-lines-from bytes (v .ok) t (firstRecord bytes t) (v .ok .firsts t (v .thread)))
 

@@ -3,7 +3,7 @@ ghost use mathlib.Core.Path.{_≡_};
 ghost use Prim.Native.Nat.{_+_, _<_, _≤_};
 ghost use lib.ListN.{length, getD};
 ghost use Rattle.model.specs.Word.{bit};
-ghost use Rattle.model.specs.Limits.{mostScheduleNumbers};
+ghost use Rattle.model.specs.Limits.{mostLines, mostScheduleNumbers};
 ghost use Rattle.model.specs.Lists.{writtenOver};
 ghost use Rattle.model.specs.CaseFile.{kindOf, threadCount, switchCount, caseOf};
 ghost use Rattle.model.specs.Line.{isInput};
@@ -83,7 +83,7 @@ fn write_lengths(case: &[u8], schedule: &mut [u16], counts: &[[u16; BLOCKS]; THR
 
 // One more line is in a block; what is no block changes nothing.
 fn count_line(counts: &mut [u16; BLOCKS], block: u16)
-    requires { ⌜ getD (now counts) block 0 < 65535 ⌝ }
+    requires { ⌜ getD (now counts) block 0 ≤ mostLines ⌝ }
     ensures { λ r. ⌜ now (counts .exit) ≡ withLine (now (counts .entry)) block ⌝ }
 {
     let i = block as usize;
