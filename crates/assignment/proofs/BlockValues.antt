@@ -5,14 +5,17 @@ use mathlib.Core.Logic.{_≢_}
 use Prim.Native.Nat.{ℕ, zero, suc, _+_, _*_, _-_, _≤_, _<_}
 use mathlib.Core.List.{List, _++_}
 use native.Mathlib.Omega.{arith}
-use native.Mathlib.Nat.{mul-le-mul, add-zero, zero-add}
-use lib.ListN.{getD, set, length-set, replicate}
+use native.Mathlib.Nat.{mul-le-mul, add-zero}
+use lib.ListN.{getD, length, set, length-set, length-append, length-replicate, replicate}
 use lib.Seq.{getD-set-same, getD-set-other}
 use Rattle.model.specs.Limits.{mostSwitches, mostItems}
 use Rattle.model.specs.Lists.{numbersFrom}
 use Rattle.model.specs.CaseFile.{Case, records, globalCount, mutexCount, initialValue, caseOf, itemCount}
 use Rattle.model.specs.Assignment.{Assignment, assignmentOf}
 use Rattle.model.specs.Copies.{valueBefore}
+use Rattle.laws.specs.Accepted.{Accepted}
+use Rattle.laws.proofs.Ranges.{length-numbersFrom}
+use Rattle.case_file.specs.FirstItems.{firstItems}
 use Rattle.laws.proofs.Views.{EqView, same, diff, eq-view, LtView, below, above, lt-view}
 use Rattle.assignment.specs.Numbers.{Filled, initialItem, numberFrom, StartOf}
 
@@ -54,35 +57,25 @@ numbers-from-past f i zero j more h = zeros-at more j
 numbers-from-past f i (suc many) zero more h = absurd (omega arith)
 numbers-from-past f i (suc many) (suc j) more h = numbers-from-past f (suc i) many j more (omega arith)
 
-initial-of-global : (bytes : List ℕ) (g : ℕ) → g < globalCount bytes → initialItem bytes g ≡ initialValue bytes g
-initial-of-global bytes g h =
-    numbers-from-at (initialValue bytes) 0 (globalCount bytes) g _ h ∙ ap (initialValue bytes) (zero-add g)
+pub first-items-filled : (bytes : List ℕ) → Accepted bytes → (items : List ℕ) → items ≡ firstItems bytes (globalCount bytes)
+    → Filled (initialItem bytes) (itemCount (caseOf bytes)) items
+unfolding firstItems
+first-items-filled bytes ok items e = record {
+  wide = ap length e ∙ length-append globals zeros
+      ∙ omega (arith, length-numbersFrom (initialValue bytes) 0 (globalCount bytes), length-replicate {A = ℕ} (mostItems - globalCount bytes) 0, ok .few-globals);
+  filled = λ g h. ap (λ (xs : List ℕ). getD xs g 0) e ∙ at g (lt-view g (globalCount bytes));
+}
+  where
+    globals : List ℕ
+    globals = numbersFrom (initialValue bytes) 0 (globalCount bytes)
 
-initial-of-other : (bytes : List ℕ) (g : ℕ) → globalCount bytes ≤ g → initialItem bytes g ≡ 0
-initial-of-other bytes g h = numbers-from-past (initialValue bytes) 0 (globalCount bytes) g (mutexCount bytes) h
+    zeros : List ℕ
+    zeros = replicate (mostItems - globalCount bytes) 0
 
--- So many globals have their initial values, and the other items 0.
-pub record FromStart (bytes : List ℕ) (g : ℕ) (items : List ℕ) : Type 0 where
-  pub globals : Filled (initialItem bytes) g items
-  pub others : (j : ℕ) → g ≤ j → getD items j 0 ≡ 0
-
-module _ (bytes : List ℕ) where
-  pub from-start-none : (items : List ℕ) → items ≡ replicate mostItems 0 → FromStart bytes 0 items
-  from-start-none items e = record { globals = filled-start (initialItem bytes) items e; others = λ j h. ap (λ (xs : List ℕ). getD xs j 0) e ∙ zeros-at mostItems j }
-
-  module _ (g : ℕ) (items : List ℕ) (v : FromStart bytes g items) where
-    pub from-start-more : (x : ℕ) → g < mostItems → g < globalCount bytes → x ≡ initialValue bytes g → FromStart bytes (g + 1) (set items g x)
-    from-start-more x few h e = record {
-      globals = filled-more (initialItem bytes) g x items (v .globals) few (e ∙ sym (initial-of-global bytes g h));
-      others = λ j beyond. getD-set-other items g j x 0 (λ z. omega arith) ∙ v .others j (omega arith);
-    }
-
-    pub from-start-all : globalCount bytes ≡ g → Filled (initialItem bytes) (itemCount (caseOf bytes)) items
-    from-start-all all = record { wide = v .globals .wide; filled = λ j h. at j (lt-view j g) }
-      where
-        at : (j : ℕ) → LtView j g → getD items j 0 ≡ initialItem bytes j
-        at j (below h q) = v .globals .filled j h
-        at j (above h q) = v .others j h ∙ sym (initial-of-other bytes j (omega arith))
+    at : (g : ℕ) → LtView g (globalCount bytes) → getD (globals ++ zeros) g 0 ≡ initialItem bytes g
+    at g (below h _) = numbers-from-at (initialValue bytes) 0 (globalCount bytes) g zeros h ∙ sym (numbers-from-at (initialValue bytes) 0 (globalCount bytes) g _ h)
+    at g (above h _) = numbers-from-past (initialValue bytes) 0 (globalCount bytes) g (mostItems - globalCount bytes) h
+        ∙ sym (numbers-from-past (initialValue bytes) 0 (globalCount bytes) g (mutexCount bytes) h)
 
 -- ---- The values where a block starts
 

@@ -4,11 +4,9 @@ ghost use Prim.Native.Nat.{_+_, _-_, _*_, _≤_, _<_};
 ghost use lib.ListN.{length};
 ghost use Rattle.model.specs.Word.{wordSize};
 ghost use Rattle.model.specs.Limits.{mostSwitches, mostItems, mostVariables};
-ghost use Rattle.model.specs.CaseFile.{caseOf, itemCount};
 ghost use Rattle.laws.specs.Accepted.{Accepted};
-ghost use Rattle.assignment.specs.Numbers.{recordBlock, recordValue, Filled, initialItem, numberFrom, StartOf};
-use case_file::globals;
-use case_file::initial_of;
+ghost use Rattle.assignment.specs.Numbers.{recordBlock, recordValue, Filled, numberFrom, StartOf};
+use case_file::first_items;
 use case_file::items;
 use case_file::records;
 use model::ITEMS;
@@ -36,21 +34,6 @@ pub fn value_of(assignment: &[u16], k: u16) -> u16
     ensures { λ r. ⌜ r ≡ recordValue (now (assignment .entry)) k ⌝ }
 {
     at(assignment, start_of(k) + 1)
-}
-
-// The items' values where the run starts.
-fn start_of_run(case: &[u8]) -> [u16; ITEMS]
-    requires { ⌜ Accepted (now case) ⌝ }
-    ensures { λ r. ⌜ Filled (initialItem (now (case .entry))) (itemCount (caseOf (now (case .entry)))) r ⌝ }
-{
-    let globals = globals(case) as usize;
-    let mut items = [0u16; ITEMS];
-    let mut g = 0;
-    while g < globals {
-        items[g] = initial_of(case, g);
-        g += 1;
-    }
-    items
 }
 
 // As many numbers as there can be items, from a place on: the length is fixed, so that they are copied at once.
@@ -90,7 +73,7 @@ pub fn start_of_block(case: &[u8], assignment: &[u16], i: u16) -> [u16; ITEMS]
     ensures { λ r. ⌜ StartOf (now (case .entry)) (now (assignment .entry)) i r ⌝ }
 {
     if i == 0 {
-        return start_of_run(case);
+        return first_items(case);
     }
     let count = items(case);
     let place = 2 * records(case) + (i as usize - 1) * count;

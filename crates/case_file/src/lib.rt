@@ -8,6 +8,7 @@ ghost use Rattle.model.specs.CaseFile.{field, records, threadCount, switchCount
 ghost use Rattle.model.specs.Lists.{allFrom};
 ghost use Rattle.model.specs.Assignment.{variables};
 ghost use Rattle.laws.specs.Accepted.{Accepted};
+ghost use Rattle.case_file.specs.FirstItems.{firstItems};
 ghost use Rattle.case_file.specs.Records.{recordOf};
 
 // Which field of the header is thread 0's first record, and which is global 0's initial value.
@@ -95,6 +96,21 @@ pub fn initial_of(case: &[u8], g: usize) -> u16
     ensures { λ r. ⌜ r ≡ initialValue (now (case .entry)) g ⌝ }
 {
     field_at(case, INITIALS + g)
+}
+
+// The items where a run starts: the globals at their initial values, and the rest at 0.
+pub fn first_items(case: &[u8]) -> [u16; model::ITEMS]
+    requires { ⌜ (headerBytes ≤ length (now case)) × (globalCount (now case) ≤ mostGlobals) ⌝ }
+    ensures { λ r. ⌜ r ≡ firstItems (now (case .entry)) (globalCount (now (case .entry))) ⌝ }
+{
+    let globals = globals(case) as usize;
+    let mut items = [0u16; model::ITEMS];
+    let mut g = 0;
+    while g < globals {
+        items[g] = initial_of(case, g);
+        g += 1;
+    }
+    items
 }
 
 // How many records there are.

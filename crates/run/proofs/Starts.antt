@@ -2,31 +2,25 @@
 -- Assumes nothing.
 use mathlib.Core.Path.{_≡_, refl, sym, ap, ap₂, _∙_, subst}
 use Prim.Native.Nat.{ℕ, zero, suc, _+_, _-_, _%_, _≤_, _<_}
-use mathlib.Core.List.{List, [], _∷_, _++_, append-assoc}
+use mathlib.Core.List.{List, _∷_, _++_}
 use native.Mathlib.Omega.{arith}
-use native.Mathlib.Nat.{add-zero, zero-add, mod-lt}
-use native.Mathlib.Numerals.{add-one}
-use lib.ListN.{length, set, take, replicate}
-use lib.Seq.{take-append-add, set-at}
-use Rattle.model.specs.Limits.{mostThreads, mostGlobals, mostItems, localCount}
+use native.Mathlib.Nat.{mod-lt}
+use lib.ListN.{length, take, replicate}
+use lib.Seq.{take-append-add}
+use Rattle.model.specs.Limits.{mostThreads, mostItems, localCount}
 use Rattle.model.specs.Lists.{numbersFrom}
 use Rattle.model.specs.CaseFile.{Line, records, threadCount, globalCount, mutexCount, initialValue, chains, caseOf}
 use Rattle.model.specs.Machine.{State, start, Outcome, run, runBlocks}
 use Rattle.laws.specs.Accepted.{Accepted, threadLines, linesFrom}
 use Rattle.laws.proofs.Ranges.{length-numbersFrom}
+use Rattle.case_file.specs.FirstItems.{firstItems}
 use Rattle.turn.specs.TurnState.{itemsOf, givenBy}
 use Rattle.run.specs.declared.Thread.{Thread}
 use Rattle.run.specs.declared.Shared.{Shared}
 use Rattle.run.specs.declared.Ended.{Ended}
-use Rattle.run.specs.RunState.{threadAt, listFrom, restAt, stateOf, firstItems, firstThread, firstThreads, firstShared}
+use Rattle.run.specs.RunState.{threadAt, listFrom, restAt, stateOf, firstThread, firstThreads, firstShared}
 use Rattle.run.specs.Promises.{RunReady, outcomeFrom, Replies, Comes}
 use Rattle.run.proofs.Runs.{listFrom-same}
-
-numbersFrom-snoc : (f : ℕ → ℕ) (i many : ℕ) → numbersFrom f i (suc many) ≡ numbersFrom f i many ++ (f (i + many) ∷ [])
-unfolding numbersFrom
-numbersFrom-snoc f i zero = ap (λ (x : ℕ). f x ∷ []) (sym (add-zero i))
-numbersFrom-snoc f i (suc many) =
-    ap (λ (xs : List ℕ). f i ∷ xs) (numbersFrom-snoc f (suc i) many ∙ ap (λ (x : ℕ). numbersFrom f (suc i) many ++ (f x ∷ [])) (omega arith))
 
 take-zeros : (m n : ℕ) → m ≤ n → take {A = ℕ} m (replicate n 0) ≡ replicate m 0
 take-zeros zero n h = refl
@@ -34,23 +28,6 @@ take-zeros (suc m) zero h = absurd (omega arith)
 take-zeros (suc m) (suc n) h = ap (λ (xs : List ℕ). 0 ∷ xs) (take-zeros m n (omega arith))
 
 module _ (bytes : List ℕ) where
-  pub items-none : replicate mostItems 0 ≡ firstItems bytes 0
-  unfolding firstItems numbersFrom
-  items-none = refl
-
-  pub items-more : (g value : ℕ) (items : List ℕ) → g < mostGlobals → items ≡ firstItems bytes g → value ≡ initialValue bytes g
-      → set items g value ≡ firstItems bytes (g + 1)
-  unfolding firstItems
-  items-more g value items h e is =
-      let left = mostItems - (g + 1) in
-      let more : mostItems - g ≡ suc left = omega arith in
-      let f = initialValue bytes in
-      rw (e, more, is)
-      (set-at (numbersFrom f 0 g) 0 (replicate left 0) (f g) g (length-numbersFrom f 0 g)
-      ∙ sym (append-assoc (numbersFrom f 0 g) (f g ∷ []) (replicate left 0))
-      ∙ ap (λ (xs : List ℕ). xs ++ replicate left 0)
-      (sym (ap (numbersFrom f 0) (add-one g) ∙ numbersFrom-snoc f 0 g ∙ ap (λ (x : ℕ). numbersFrom f 0 g ++ (f x ∷ [])) (zero-add g))))
-
   module _ (ok : Accepted bytes) where
     items-start : itemsOf bytes (firstItems bytes (globalCount bytes)) ≡ caseOf bytes .initial
     unfolding firstItems

@@ -1,13 +1,13 @@
 -- The threads of a run as the code holds them, and the state of the machine that they stand for.
 -- Assumes nothing.
-use Prim.Native.Nat.{ℕ, zero, suc, _-_}
-use mathlib.Core.List.{List, [], _∷_, _++_}
+use Prim.Native.Nat.{ℕ, zero, suc}
+use mathlib.Core.List.{List, [], _∷_}
 use lib.ListN.{getD, replicate}
-use Rattle.model.specs.Limits.{mostItems, localCount}
-use Rattle.model.specs.Lists.{numbersFrom}
-use Rattle.model.specs.CaseFile.{Line, threadCount, globalCount, firstRecord, initialValue}
+use Rattle.model.specs.Limits.{localCount}
+use Rattle.model.specs.CaseFile.{Line, threadCount, globalCount, firstRecord}
 use Rattle.model.specs.Machine.{State}
 use Rattle.laws.specs.Accepted.{linesFrom}
+use Rattle.case_file.specs.FirstItems.{firstItems}
 use Rattle.turn.specs.declared.Stand.the-variants.{Running}
 use Rattle.turn.specs.declared.Turn.{Turn}
 use Rattle.turn.specs.TurnState.{itemsOf}
@@ -48,10 +48,6 @@ stateOf bytes threads items = record {
   locals = listFrom (λ t. threadAt threads t .locals) 0 (threadCount bytes);
   items = itemsOf bytes items;
 }
-
--- The items where a run starts: the globals' initial values, so many of them, and zeros.
-unfoldable pub firstItems : List ℕ → ℕ → List ℕ
-firstItems bytes many = numbersFrom (initialValue bytes) 0 many ++ replicate (mostItems - many) 0
 
 -- Thread t where a run starts.
 abbrev pub firstThread : List ℕ → ℕ → Thread

@@ -3,12 +3,12 @@ ghost use mathlib.Core.Path.{_≡_};
 ghost use Prim.Native.Nat.{ℕ, _%_, _≤_, _<_};
 ghost use mathlib.Core.List.{List};
 ghost use lib.ListN.{length};
-ghost use Rattle.model.specs.Limits.{mostThreads, mostGlobals, headerBytes};
+ghost use Rattle.model.specs.Limits.{mostThreads, headerBytes};
 ghost use Rattle.model.specs.CaseFile.{records, threadCount, caseOf};
 ghost use Rattle.model.specs.Machine as machine;
 ghost use Rattle.laws.specs.Accepted.{Accepted};
 ghost use Rattle.turn.specs.TurnState.{givenBy};
-ghost use Rattle.run.specs.RunState.{turnOf, firstItems, firstThread, firstThreads, firstShared};
+ghost use Rattle.run.specs.RunState.{turnOf, firstThread, firstThreads, firstShared};
 ghost use Rattle.run.specs.Promises.{BlockReady, RunReady, BlockAt, MovedBy, outcomeOf, Played, Comes, Replies};
 use model::ITEMS;
 use model::LOCALS;
@@ -81,26 +81,12 @@ fn first_shared(case: &[u8]) -> Shared
     requires { ⌜ Accepted (now case) ⌝ }
     ensures { λ r. ⌜ r ≡ firstShared (now (case .entry)) ⌝ }
 {
-    let items = first_items(case, case_file::globals(case) as usize);
+    let items = case_file::first_items(case);
     Shared {
         items,
         stand: Stand::Running,
         note: 0,
     }
-}
-
-// The items where a run starts.
-fn first_items(case: &[u8], globals: usize) -> [u16; ITEMS]
-    requires { ⌜ (headerBytes ≤ length (now case)) × (globals ≤ mostGlobals) ⌝ }
-    ensures { λ r. ⌜ r ≡ firstItems (now (case .entry)) globals ⌝ }
-{
-    let mut items = [0u16; ITEMS];
-    let mut g = 0;
-    while g < globals {
-        items[g] = case_file::initial_of(case, g);
-        g += 1;
-    }
-    items
 }
 
 // The threads are lent to all blocks. Its parameters are plain, so that callers need no walk.

@@ -2,16 +2,16 @@
 use Prim.Native.Nat.{ℕ, _+_, _-_, _*_}
 use mathlib.Core.Path.{ap}
 use native.Mathlib.Omega.{arith}
-use Rattle.assignment.proofs.BlockValues.{start-of-first, start-of-later, block-place-at-most}
+use Rattle.assignment.proofs.BlockValues.{first-items-filled, start-of-first, start-of-later, block-place-at-most}
 use borrow.Author.Needs.{needs}
 use Rattle.assignment.proofs.start_of_block.Statement.{statement}
 use Rattle.assignment.proofs.start_of_block.Tie as tie
 
-start-of-run-requires : tie.Need-start-of-run-requires
-start-of-run-requires c κs = search needs
+first-items-requires : tie.Need-first-items-requires
+first-items-requires c κs = search needs
 
 returns : tie.Need-returns
-returns c = start-of-first _ _ _ (c .before .if1 .taken) (c .start-of-run .ensures)
+returns c = start-of-first _ _ _ (c .before .if1 .taken) (first-items-filled _ (c .before .before .before .before .pre .0) _ (c .first-items .ensures))
 
 items-requires : tie.Need-items-requires
 items-requires c κs = search needs
@@ -42,7 +42,7 @@ pub start-of-block-spec : {M : Type 1} → statement M
 start-of-block-spec =
     tie.close
     (tie.spec
-    start-of-run-requires
+    first-items-requires
     returns
     items-requires
     records-requires

@@ -1,14 +1,16 @@
--- `assignment::start_of_run` meets its contract. Assumes nothing.
-use Prim.Native.Nat.{_-_, _≤_}
-use mathlib.Core.Path.{refl}
+-- `case_file::first_items` meets its contract. The invariant: the items so far are those of the first g globals. Assumes nothing.
+use mathlib.Core.Path.{_≡_}
+use Prim.Native.Nat.{_≤_, _-_}
 use native.Mathlib.Omega.{arith}
-use Rattle.assignment.proofs.BlockValues.{FromStart, from-start-none, from-start-more, from-start-all}
+use Rattle.model.specs.CaseFile.{globalCount}
+use Rattle.case_file.specs.FirstItems.{firstItems}
+use Rattle.case_file.proofs.FirstItems.{items-none, items-more}
 use borrow.Author.Needs.{needs}
-use Rattle.assignment.proofs.start_of_run.Statement.{statement}
-use Rattle.assignment.proofs.start_of_run.Tie as tie
+use Rattle.case_file.proofs.first_items.Statement.{statement}
+use Rattle.case_file.proofs.first_items.Tie as tie
 
 abbrev Inv-loop : tie.InvT-loop
-Inv-loop case globals items₀ g₀ items g = (g ≤ globals) × FromStart case g items
+Inv-loop case globals items₀ g₀ items g = (g ≤ globals) × (items ≡ firstItems case g)
 
 abbrev μ-loop : tie.MeasureT-loop
 μ-loop case globals items₀ g₀ items g = globals - g
@@ -20,7 +22,7 @@ cast-globals : tie.Need-cast-globals Inv-loop μ-loop
 cast-globals c = search needs
 
 loop-holds : tie.Need-loop-holds Inv-loop μ-loop
-loop-holds c = (search needs, from-start-none _ _ refl)
+loop-holds c = (search needs, items-none _)
 
 initial-of-requires : tie.Need-initial-of-requires Inv-loop μ-loop
 initial-of-requires c κs = search needs
@@ -38,13 +40,15 @@ loop-less : tie.Need-loop-less Inv-loop μ-loop
 loop-less c = search needs
 
 loop-again : tie.Need-loop-again Inv-loop μ-loop
-loop-again c = (search needs, from-start-more _ _ _ (c .before .before .loop .inv .1) _ (search needs) (omega (arith, c .before .before .before .globals .ensures, c .before .loop-test .taken)) (c .initial-of .ensures))
+loop-again c = (search needs, items-more _ _ _ _ (omega arith) (c .before .before .loop .inv .1) (c .initial-of .ensures))
 
 returns : tie.Need-returns Inv-loop μ-loop
-returns c = from-start-all _ _ _ (c .before .loop .inv .1) (omega (arith, c .before .before .globals .ensures, c .before .loop .inv .0, c .loop-test .left))
+returns c =
+    let e : c .before .loop .g ≡ globalCount (c .before .before .before .before .args .case .now) = omega (arith, c .before .before .globals .ensures, c .loop-test .left) in
+    rw (← e) (c .before .loop .inv .1)
 
-pub start-of-run-spec : {M : Type 1} → statement M
-start-of-run-spec =
+pub first-items-spec : {M : Type 1} → statement M
+first-items-spec =
     tie.close
     (tie.spec
     Inv-loop
