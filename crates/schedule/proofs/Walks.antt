@@ -16,7 +16,7 @@ use Rattle.model.specs.Assignment.{assignmentOf}
 use Rattle.model.specs.Copies.{readsAfter}
 use Rattle.model.specs.Schedule.{decodedValues, allDecodedValues}
 use Rattle.laws.specs.Accepted.{Accepted, linesFrom, threadLines}
-use Rattle.laws.specs.Written.{numbersAt}
+use Rattle.laws.specs.Written.{numbersAt, Put}
 use Rattle.laws.proofs.Following.{lines-end, lines-more, next-low, lines-less, chains-more, chains-end}
 use Rattle.laws.proofs.Lines.{few-lines-from}
 use Rattle.laws.proofs.Views.{EqView, same, diff, eq-view}
@@ -25,7 +25,7 @@ use Rattle.case_file.specs.declared.Record.{Record}
 use Rattle.case_file.specs.Records.{recordOf, asLine}
 use Rattle.line.proofs.KindNumbers.{kind-4, input-other}
 use Rattle.assignment.specs.Numbers.{recordBlock, recordValue}
-use Rattle.schedule.specs.Schedules.{valuesOf, threadValues, CountsOf, AllCounts, withLine, inputNumber, ownNumbers, Put}
+use Rattle.schedule.specs.Schedules.{valuesOf, threadValues, CountsOf, AllCounts, withLine, inputNumber, ownNumbers}
 use Rattle.schedule.proofs.Locals.{LocalsAre, locals-start, locals-step, guard-same}
 use Rattle.schedule.proofs.Counts.{Counting, counting-start, counting-few, counting-more, counting-end}
 

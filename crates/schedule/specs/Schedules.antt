@@ -5,7 +5,7 @@ use mathlib.Core.Path.{_≡_}
 use mathlib.Core.Bool.{cond}
 use mathlib.Core.List.{List, [], _∷_}
 use lib.Dec.{ltb}
-use lib.ListN.{getD, set, length}
+use lib.ListN.{getD, set}
 use Rattle.model.specs.Limits.{mostBlocks}
 use Rattle.model.specs.Lists.{numbersFrom}
 use Rattle.model.specs.CaseFile.{kindOf, threadCount, switchCount, caseOf}
@@ -13,7 +13,6 @@ use Rattle.model.specs.Line.{guardTrue, isInput}
 use Rattle.model.specs.Assignment.{assignmentOf}
 use Rattle.model.specs.Schedule.{linesInBlock, decodedValues, allDecodedValues, decode}
 use Rattle.laws.specs.Accepted.{threadLines}
-use Rattle.laws.specs.Written.{numbersAt}
 use Rattle.case_file.specs.declared.Record.{Record}
 use Rattle.case_file.specs.Records.{asLine}
 use Rattle.line.specs.LineReads.{readsAt}
@@ -52,8 +51,3 @@ inputNumber l locals value = cond (guardTrue (asLine l 0) (readsAt 0 0 0 locals 
 -- The schedule's numbers for a line: none unless it is an input.
 unfoldable pub ownNumbers : Record → List ℕ → ℕ → List ℕ
 ownNumbers l locals value = cond (isInput (kindOf (l .kind))) (inputNumber l locals value ∷ []) []
-
--- These numbers are written from a place on, and r is the place after them.
-pub record Put (numbers before : List ℕ) (at : ℕ) (after : List ℕ) (r : ℕ) : Type 0 where
-  pub slice : after ≡ numbersAt before at numbers
-  pub place : r ≡ at + length numbers

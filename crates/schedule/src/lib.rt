@@ -9,8 +9,8 @@ ghost use Rattle.model.specs.CaseFile.{kindOf, threadCount, switchCount, caseOf
 ghost use Rattle.model.specs.Line.{isInput};
 ghost use Rattle.model.specs.Schedule.{scheduleSize};
 ghost use Rattle.laws.specs.Accepted.{Accepted};
-ghost use Rattle.laws.specs.Written.{numbersAt};
-ghost use Rattle.schedule.specs.Schedules.{scheduleOf, valuesOf, threadValues, CountsOf, AllCounts, lengthsIn, withLine, inputNumber, ownNumbers, Put};
+ghost use Rattle.laws.specs.Written.{numbersAt, Put};
+ghost use Rattle.schedule.specs.Schedules.{scheduleOf, valuesOf, threadValues, CountsOf, AllCounts, lengthsIn, withLine, inputNumber, ownNumbers};
 use assignment::block_of;
 use assignment::value_of;
 use case_file::Record;
