@@ -11,7 +11,7 @@ use Rattle.model.specs.CaseFile.{Case, caseOf}
 use Rattle.model.specs.Assignment.{Assignment, assignmentOf}
 use Rattle.model.specs.Table.{Row}
 use Rattle.model.specs.Holds.{holds, firstFailing}
-use Rattle.search.specs.Search.{failingIn, Searched}
+use Rattle.search.specs.Search.{failingIn, Searched, Room}
 
 module _ (case : Case) (α : Assignment) where
   past-those-that-hold : (k : ℕ) (rows later : List Row) → 0 < k → firstFailing case α k rows ≡ 0
@@ -58,6 +58,9 @@ module _ {bytes xs : List ℕ} {start : ℕ} {rows : List Row} {at : ℕ} {rest 
 
   pub searching-room : (now later : List Row) → rest ≡ now ++ later → at + length now ≤ start + length rows
   searching-room now later e = omega (arith, v .room, ap length e, length-append now later)
+
+  pub searching-fits : Room start rows → (now later : List Row) → rest ≡ now ++ later → Room at now
+  searching-fits fits now later e = record { counted = v .some; room = omega (arith, fits .room, searching-room now later e) }
 
   -- some at once
   module _ {now : List Row} {f next : ℕ} (found : Searched bytes xs at now f next) where

@@ -1,9 +1,10 @@
 -- What a walk over some constraints comes to.
 -- Assumes nothing.
 use mathlib.Core.Path.{_≡_}
-use Prim.Native.Nat.{ℕ, _+_}
+use Prim.Native.Nat.{ℕ, _+_, _<_, _≤_}
 use mathlib.Core.List.{List}
 use lib.ListN.{length}
+use Rattle.model.specs.Limits.{mostConstraints}
 use Rattle.model.specs.CaseFile.{caseOf}
 use Rattle.model.specs.Assignment.{assignmentOf}
 use Rattle.model.specs.Table.{Row}
@@ -17,3 +18,8 @@ failingIn bytes xs start rows = firstFailing (caseOf bytes) (assignmentOf (caseO
 pub record Searched (bytes xs : List ℕ) (start : ℕ) (rows : List Row) (failed next : ℕ) : Type 0 where
   pub first : failed ≡ failingIn bytes xs start rows
   pub after : failed ≡ 0 → next ≡ start + length rows
+
+-- A walk over these constraints starts at a number above 0, and there are numbers for all of them.
+pub record Room (start : ℕ) (rows : List Row) : Type 0 where
+  pub counted : 0 < start
+  pub room : start + length rows ≤ mostConstraints
