@@ -1,32 +1,50 @@
 -- The walk over copies, copy by copy.
 -- Assumes nothing.
 use mathlib.Core.Path.{_≡_, refl, sym, _∙_}
-use Prim.Native.Nat.{ℕ, zero, suc, _-_}
+use mathlib.Core.Logic.{_≢_}
+use Prim.Native.Nat.{ℕ, zero, suc, _-_, _≤_, _<_}
+use mathlib.Core.Bool.{cond}
 use mathlib.Core.List.{List}
 use native.Mathlib.Omega.{arith}
+use lib.Dec.{eqb}
 use lib.ListN.{getD}
 use borrow.Author.Tests.{eq-eqb, ne-eqb}
+use Rattle.model.specs.Word.{wordSize}
+use Rattle.model.specs.Limits.{mostLines}
 use Rattle.assignment.specs.Numbers.{recordBlock}
 use Rattle.walk_back.specs.Deciding.{deciding}
 
-module _ (previous xs : List ℕ) (i p : ℕ) where
-  pub deciding-spent : (most : ℕ) → most ≡ 0 → deciding previous xs i most p ≡ 0
-  unfolding deciding
-  deciding-spent most h = rw h
+-- At copy p, with so many copies left: the copy that decides from here on is the one that decides from the last copy on.
+pub record DecidingWalk (previous xs : List ℕ) (i last p left : ℕ) : Type 0 where
+  pub small : p < wordSize
+  pub upto : left ≤ mostLines
+  pub same : deciding previous xs i left p ≡ deciding previous xs i mostLines last
 
-  pub deciding-ends : (most : ℕ) → p ≡ 0 → deciding previous xs i most p ≡ 0
-  unfolding deciding
-  deciding-ends zero h = refl
-  deciding-ends (suc most) h = rw (eq-eqb _ _ h)
+deciding-step : (previous xs : List ℕ) (i p left : ℕ) → left ≢ 0
+    → deciding previous xs i left p ≡ cond (eqb p 0) 0 (cond (eqb (recordBlock xs p) i) p (deciding previous xs i (left - 1) (getD previous p 0)))
+unfolding deciding
+deciding-step previous xs i p zero some = absurd (some refl)
+deciding-step previous xs i p (suc left) some = let z : suc left - 1 ≡ left = omega arith in rw z
 
-  pub deciding-found : (most b : ℕ) → (most ≡ 0 → ⊥) → (p ≡ 0 → ⊥) → b ≡ recordBlock xs p → b ≡ i → deciding previous xs i most p ≡ p
+module _ {previous xs : List ℕ} {i last p left : ℕ} (v : DecidingWalk previous xs i last p left) where
+  pub deciding-spent : left ≡ 0 → 0 ≡ deciding previous xs i mostLines last
   unfolding deciding
-  deciding-found zero b m h e q = absurd (m refl)
-  deciding-found (suc most) b m h e q = rw (ne-eqb p 0 h, eq-eqb (recordBlock xs p) i (sym e ∙ q))
+  deciding-spent h = rw h at (v .same)
 
-  pub deciding-goes-on : (most b q : ℕ) → (most ≡ 0 → ⊥) → (p ≡ 0 → ⊥) → b ≡ recordBlock xs p → (b ≡ i → ⊥) → q ≡ getD previous p 0
-      → deciding previous xs i most p ≡ deciding previous xs i (most - 1) q
-  unfolding deciding
-  deciding-goes-on zero b q m h e n eq = absurd (m refl)
-  deciding-goes-on (suc most) b q m h e n eq =
-      let z : suc most - 1 ≡ most = omega arith in rw (ne-eqb p 0 h, ne-eqb (recordBlock xs p) i (λ x. n (e ∙ x)), z, eq)
+  module _ (some : left ≢ 0) where
+    step : cond (eqb p 0) 0 (cond (eqb (recordBlock xs p) i) p (deciding previous xs i (left - 1) (getD previous p 0))) ≡ deciding previous xs i mostLines last
+    step = sym (deciding-step previous xs i p left some) ∙ v .same
+
+    pub deciding-ends : p ≡ 0 → 0 ≡ deciding previous xs i mostLines last
+    deciding-ends h = rw (eq-eqb p 0 h) at step
+
+    module _ (copy : p ≢ 0) {b : ℕ} (e : b ≡ recordBlock xs p) where
+      pub deciding-found : b ≡ i → p ≡ deciding previous xs i mostLines last
+      deciding-found q = rw (ne-eqb p 0 copy, eq-eqb (recordBlock xs p) i (sym e ∙ q)) at step
+
+      pub deciding-goes-on : b ≢ i → {q : ℕ} → q ≡ getD previous p 0 → q < wordSize → DecidingWalk previous xs i last q (left - 1)
+      deciding-goes-on n {q} eq small = record {
+        small = small;
+        upto = omega arith;
+        same = rw (ne-eqb p 0 copy, ne-eqb (recordBlock xs p) i (λ x. n (e ∙ x)), ← eq) at step;
+      }

@@ -1,15 +1,9 @@
 // Constraint 6: the value of each item at the end of each block, walking back over the copies of the block's thread.
 ghost use mathlib.Core.Path.{_≡_};
-ghost use mathlib.Core.List.{[]};
-ghost use Prim.Native.Nat.{_+_, _<_, _≤_};
-ghost use lib.ListN.{length};
-ghost use Rattle.model.specs.Limits.{mostLines, mostConstraints};
-ghost use Rattle.model.specs.CaseFile.{threadCount, caseOf};
-ghost use Rattle.laws.specs.Accepted.{Accepted};
-ghost use Rattle.copies.specs.CopyChains.{CopyChains};
+ghost use Rattle.model.specs.Limits.{mostLines};
 ghost use Rattle.search.specs.Search.{Searched};
 ghost use Rattle.walk_back.specs.Deciding.{deciding, decidedValue};
-ghost use Rattle.walk_back.specs.Blocks.{sixesOf, allSixes, Spanned};
+ghost use Rattle.walk_back.specs.Blocks.{sixesOf, allSixes, SixesReady, SpanReady};
 use assignment::block_of;
 use assignment::start_of_block;
 use assignment::value_of;
@@ -75,9 +69,7 @@ fn block_failing(
     latest: &[[u16; NAMES]; THREADS],
     span: Span,
 ) -> Found
-    requires { ⌜ Accepted (now case) × Spanned (now case) (now assignment) span ⌝ }
-    requires { ⌜ CopyChains (caseOf (now case)) (now latest) (now previous) (threadCount (now case)) [] ⌝ }
-    requires { ⌜ (0 < span .start) × (span .start + length (sixesOf (now case) (span .block)) ≤ mostConstraints) ⌝ }
+    requires { ⌜ SpanReady (now case) (now assignment) (now previous) (now latest) span ⌝ }
     ensures { λ r. ⌜ Searched (now (case .entry)) (now (assignment .entry)) (span .start) (sixesOf (now (case .entry)) (span .block)) (r .failed) (r .next) ⌝ }
 {
     let count = items(case);
@@ -110,9 +102,7 @@ pub fn blocks_failing(
     latest: &[[u16; NAMES]; THREADS],
     start: u16,
 ) -> Found
-    requires { ⌜ Accepted (now case) ⌝ }
-    requires { ⌜ CopyChains (caseOf (now case)) (now latest) (now previous) (threadCount (now case)) [] ⌝ }
-    requires { ⌜ (0 < start) × (start + length (allSixes (now case)) ≤ mostConstraints) ⌝ }
+    requires { ⌜ SixesReady (now case) (now previous) (now latest) start (allSixes (now case)) ⌝ }
     ensures { λ r. ⌜ Searched (now (case .entry)) (now (assignment .entry)) start (allSixes (now (case .entry))) (r .failed) (r .next) ⌝ }
 {
     let last = switches(case);

@@ -1,5 +1,4 @@
 -- `walk_back::block_failing` meets its contract. Assumes nothing.
-use mathlib.Core.Path.{refl}
 use Prim.Native.Nat.{_-_}
 use native.Mathlib.Omega.{arith}
 use Rattle.walk_back.proofs.Blocks.{block-thread, BlockWalk, block-start, block-end, block-room, block-found, block-more}
@@ -8,7 +7,7 @@ use Rattle.walk_back.proofs.block_failing.Statement.{statement}
 use Rattle.walk_back.proofs.block_failing.Tie as tie
 
 abbrev Inv-loop : tie.InvT-loop
-Inv-loop case assignment previous latest span count t at₀ g₀ at g = BlockWalk case assignment (span .block) (span .start) count at g
+Inv-loop case assignment previous latest span count t at₀ g₀ at g = BlockWalk case assignment span count at g
 
 abbrev μ-loop : tie.MeasureT-loop
 μ-loop case assignment previous latest span count t at₀ g₀ at g = count - g
@@ -23,16 +22,16 @@ rem-t : tie.Need-rem-t Inv-loop μ-loop
 rem-t c = search needs
 
 cast-t : tie.Need-cast-t Inv-loop μ-loop
-cast-t c = record { fits = omega (arith, block-thread (c .before .before .before .before .before .pre .0 .0) (c .before .before .before .before .before .pre .0 .1) _ (c .threads .ensures)) }
+cast-t c = record { fits = omega (arith, block-thread (c .before .before .before .before .before .pre) (c .threads .ensures)) }
 
 loop-holds : tie.Need-loop-holds Inv-loop μ-loop
-loop-holds c = block-start _ _ _ _ (c .before .items .ensures .0) (c .before .before .before .before .before .pre .1 .1 .0)
+loop-holds c = block-start (c .before .before .before .before .before .pre) (c .before .items .ensures .0)
 
 add-copy-of : tie.Need-add-copy-of Inv-loop μ-loop
 add-copy-of c = search needs
 
 copy-of-requires : tie.Need-copy-of-requires Inv-loop μ-loop
-copy-of-requires c κs = block-thread (c .before .before .before .before .before .before .before .pre .0 .0) (c .before .before .before .before .before .before .before .pre .0 .1) _ (c .before .before .threads .ensures)
+copy-of-requires c κs = block-thread (c .before .before .before .before .before .before .before .pre) (c .before .before .threads .ensures)
 
 mul-decided-value : tie.Need-mul-decided-value Inv-loop μ-loop
 mul-decided-value c = search needs
@@ -52,12 +51,13 @@ element-copy-out-if1 c = search needs
 returns : tie.Need-returns Inv-loop μ-loop
 returns c =
     let line = c .before .before .before .before .before in
-    let start = line .before .before .before .before .before .before .before in
-    block-found _ _ _ _ (line .before .before .before .items .ensures .0) (line .before .loop .inv) (line .loop-test .taken) (start .pre .0 .0) (start .pre .1 .0) _ (start .pre .0 .1) refl _ (line .before .before .threads .ensures) _
-    (c .before .before .before .before .copy-of .ensures) _ (c .before .before .decided-value .ensures) (c .if1 .taken) _
+    block-found (line .before .before .before .before .before .before .before .pre) (line .before .before .before .items .ensures .0) (line .before .loop .inv) (line .loop-test .taken) (line .before .before .threads .ensures)
+    (c .before .before .before .before .copy-of .ensures) (c .before .before .decided-value .ensures) (c .if1 .taken) _
 
 add-at : tie.Need-add-at Inv-loop μ-loop
-add-at c = omega (arith, block-room _ _ _ _ (c .before .before .before .before .before .before .before .before .items .ensures .0) (c .before .before .before .before .before .before .loop .inv) (c .before .before .before .before .before .loop-test .taken), c .before .before .before .before .before .before .before .before .before .before .before .before .pre .1 .1 .1)
+add-at c =
+    let line = c .before .before .before .before .before in
+    omega (arith, block-room (line .before .before .before .before .before .before .before .pre) (line .before .before .before .items .ensures .0) (line .before .loop .inv) (line .loop-test .taken) .room)
 
 add-g : tie.Need-add-g Inv-loop μ-loop
 add-g c = search needs
@@ -68,12 +68,11 @@ loop-less c = search needs
 loop-again : tie.Need-loop-again Inv-loop μ-loop
 loop-again c =
     let line = c .before .before .before .before .before in
-    let start = line .before .before .before .before .before .before .before in
-    block-more _ _ _ _ (line .before .before .before .items .ensures .0) (line .before .loop .inv) (line .loop-test .taken) (start .pre .0 .0) (start .pre .1 .0) _ (start .pre .0 .1) refl _ (line .before .before .threads .ensures) _
-    (c .before .before .before .before .copy-of .ensures) _ (c .before .before .decided-value .ensures) (c .if1 .left)
+    block-more (line .before .before .before .before .before .before .before .pre) (line .before .before .before .items .ensures .0) (line .before .loop .inv) (line .loop-test .taken) (line .before .before .threads .ensures)
+    (c .before .before .before .before .copy-of .ensures) (c .before .before .decided-value .ensures) (c .if1 .left)
 
 returns-2 : tie.Need-returns-2 Inv-loop μ-loop
-returns-2 c = block-end _ _ _ _ (c .before .before .before .items .ensures .0) (c .before .loop .inv) (c .loop-test .left)
+returns-2 c = block-end (c .before .before .before .before .before .before .before .pre) (c .before .before .before .items .ensures .0) (c .before .loop .inv) (c .loop-test .left)
 
 pub block-failing-spec : {M : Type 1} → statement M
 block-failing-spec =
