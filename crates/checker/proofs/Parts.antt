@@ -20,11 +20,12 @@ use Rattle.laws.proofs.AllHold.{none-fails}
 use Rattle.laws.proofs.Sizes.{run-rows}
 use Rattle.order_check.specs.Rows.{allOrders}
 use Rattle.value_check.specs.Rows.{allValues, AllOrdered}
-use Rattle.value_check.specs.Breaking.{firstBreaking}
+use Rattle.value_check.specs.declared.Walk.{Walk}
 use Rattle.value_check.proofs.Breaking.{first-breaking}
 use Rattle.walk_back.specs.Blocks.{allSixes}
-use Rattle.search.specs.Search.{Searched}
+use Rattle.search.specs.Search.{Searched, Room}
 use Rattle.search.proofs.Search.{Searching, searching-start, searching-found, searching-more, searching-last, one-holds, one-fails}
+use Rattle.checker.specs.Run.{RunSearched}
 
 module _ {bytes : List ℕ} (ok : Accepted bytes) (xs : List ℕ) where
   abbrev run : List Row
@@ -66,14 +67,17 @@ module _ {bytes : List ℕ} (ok : Accepted bytes) (xs : List ℕ) where
         values-fail some = searching-found after-orders values (allSixes bytes) refl some n'
 
         module _ (none' : f' ≡ 0) where
-          pub blocks-start : (0 < n') × (n' + length (allSixes bytes) ≤ mostConstraints)
-          blocks-start = (omega (arith, orders .after none, values .after none'), omega (arith, orders .after none, values .after none', run-room))
+          pub blocks-start : Room n' (allSixes bytes)
+          blocks-start = record {
+            counted = omega (arith, orders .after none, values .after none');
+            room = omega (arith, orders .after none, values .after none', run-room);
+          }
 
           pub blocks-end : {f'' n'' : ℕ} → Searched bytes xs n' (allSixes bytes) f'' n'' → Searched bytes xs 1 run f'' n''
           blocks-end blocks = searching-last (searching-more after-orders values refl none') blocks
 
   -- The goal, after all others.
-  module _ {f n : ℕ} (found : Searched bytes xs 1 run f n) where
+  module _ {walk : Walk} (run-searched : RunSearched bytes xs walk) where
     table-split : table (caseOf bytes) ≡ run ++ (goalRow ∷ [])
     unfolding table
     table-split = refl
@@ -81,19 +85,19 @@ module _ {bytes : List ℕ} (ok : Accepted bytes) (xs : List ℕ) where
     start-table : Searching bytes xs 1 (table (caseOf bytes)) 1 (table (caseOf bytes))
     start-table = searching-start bytes xs 1 _ _ (omega arith) refl
 
-    pub run-fails : f ≢ 0 → f ≡ failedIn bytes xs
-    run-fails some = searching-found start-table found (goalRow ∷ []) table-split some n .first
+    pub run-fails : walk .failed ≢ 0 → walk .failed ≡ failedIn bytes xs
+    run-fails some = searching-found start-table (run-searched .found) (goalRow ∷ []) table-split some (walk .next) .first
 
-    module _ (none : f ≡ 0) (broken : ℕ) (eb : broken ≡ firstBreaking bytes xs) where
-      goal-holds : nonzero broken ≡ holds (caseOf bytes) (assignmentOf (caseOf bytes) xs) goalRow
+    module _ (none : walk .failed ≡ 0) where
+      goal-holds : nonzero (walk .broken) ≡ holds (caseOf bytes) (assignmentOf (caseOf bytes) xs) goalRow
       unfolding holds
-      goal-holds = ap nonzero eb ∙ first-breaking bytes xs ok
+      goal-holds = ap nonzero (run-searched .breaking none) ∙ first-breaking bytes xs ok
 
-      at-goal : Searching bytes xs 1 (table (caseOf bytes)) n (goalRow ∷ [])
-      at-goal = searching-more start-table found table-split none
+      at-goal : Searching bytes xs 1 (table (caseOf bytes)) (walk .next) (goalRow ∷ [])
+      at-goal = searching-more start-table (run-searched .found) table-split none
 
-      pub goal-met : broken ≢ 0 → 0 ≡ failedIn bytes xs
-      goal-met some = searching-last at-goal (one-holds bytes xs n goalRow (nonzero broken) goal-holds (ap not (ne-eqb broken 0 some))) .first
+      pub goal-met : walk .broken ≢ 0 → 0 ≡ failedIn bytes xs
+      goal-met some = searching-last at-goal (one-holds bytes xs _ goalRow _ goal-holds (ap not (ne-eqb (walk .broken) 0 some))) .first
 
-      pub goal-missed : broken ≡ 0 → n ≡ failedIn bytes xs
-      goal-missed e = searching-last at-goal (one-fails bytes xs n goalRow (nonzero broken) goal-holds (ap not (eq-eqb broken 0 e)) n (at-goal .some)) .first
+      pub goal-missed : walk .broken ≡ 0 → walk .next ≡ failedIn bytes xs
+      goal-missed e = searching-last at-goal (one-fails bytes xs _ goalRow _ goal-holds (ap not (eq-eqb (walk .broken) 0 e)) (walk .next) (at-goal .some)) .first

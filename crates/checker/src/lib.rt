@@ -1,13 +1,10 @@
 // The checker: whether an assignment meets the constraints of a case. It goes along the lines and asks of each constraint, in
 // the table's order, whether it holds; no table is written.
 ghost use mathlib.Core.Path.{_≡_};
-ghost use Rattle.model.specs.CaseFile.{caseOf};
-ghost use Rattle.model.specs.Table.{runRows};
 ghost use Rattle.model.specs.Answers.{failedIn, checked};
 ghost use Rattle.laws.specs.Accepted.{Accepted};
-ghost use Rattle.search.specs.Search.{Searched};
-ghost use Rattle.value_check.specs.Breaking.{firstBreaking};
 ghost use Rattle.checker.specs.Answer.{checkedAccepted};
+ghost use Rattle.checker.specs.Run.{RunSearched};
 use accept::accept;
 use model::Checked;
 use model::NAMES;
@@ -50,8 +47,7 @@ pub fn check_accepted(case: &[u8], assignment: &[u16]) -> Checked
 // The constraints but for the goal, from number 1 on, with the record of the first line that breaks an assertion.
 fn run_failing(case: &[u8], assignment: &[u16]) -> Walk
     requires { ⌜ Accepted (now case) ⌝ }
-    ensures { λ r. ⌜ Searched (now (case .entry)) (now (assignment .entry)) 1 (runRows (caseOf (now (case .entry)))) (r .failed) (r .next) ⌝ }
-    ensures { λ r. ⌜ (r .failed ≡ 0 → r .broken ≡ firstBreaking (now (case .entry)) (now (assignment .entry))) ⌝ }
+    ensures { λ r. ⌜ RunSearched (now (case .entry)) (now (assignment .entry)) r ⌝ }
 {
     let order = order_failing(case, assignment);
     if order.failed != 0 {

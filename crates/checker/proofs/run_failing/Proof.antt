@@ -10,7 +10,10 @@ order-failing-requires : tie.Need-order-failing-requires
 order-failing-requires c κs = search needs
 
 returns : tie.Need-returns
-returns c = (order-fails (c .before .before .before .before .before .pre) _ (c .before .before .order-failing .ensures) (c .if1 .taken), λ z. absurd (c .if1 .taken z))
+returns c = record {
+  found = order-fails (c .before .before .before .before .before .pre) _ (c .before .before .order-failing .ensures) (c .if1 .taken);
+  breaking = λ z. absurd (c .if1 .taken z);
+}
 
 values-failing-requires : tie.Need-values-failing-requires
 values-failing-requires c κs =
@@ -23,29 +26,32 @@ values-failing-requires c κs =
     )
 
 returns-2 : tie.Need-returns-2
-returns-2 c = (values-fail (c .before .before .before .before .before .before .before .before .before .before .pre) _ (c .before .before .before .before .before .before .before .order-failing .ensures) (c .before .before .before .before .before .if1 .left) (c .before .before .values-failing .ensures .0) (c .if2 .taken), λ z. absurd (c .if2 .taken z))
+returns-2 c = record {
+  found = values-fail (c .before .before .before .before .before .before .before .before .before .before .pre) _ (c .before .before .before .before .before .before .before .order-failing .ensures) (c .before .before .before .before .before .if1 .left) (c .before .before .values-failing .ensures .0) (c .if2 .taken);
+  breaking = λ z. absurd (c .if2 .taken z);
+}
 
 slice-aggregate-blocks-failing : tie.Need-slice-aggregate-blocks-failing
 slice-aggregate-blocks-failing c = sym (c .before .before .before .values-failing .ensures .1 (c .before .if2 .left) .chains .places)
 
 blocks-failing-requires : tie.Need-blocks-failing-requires
 blocks-failing-requires c κs =
-    let start = c .before .before .before .before .before .before .before .before .before .before .before .before in (
-      start .pre,
-      (
-        c .before .before .before .before .values-failing .ensures .1 (c .before .before .if2 .left) .chains,
-        blocks-start (start .pre) _ (c .before .before .before .before .before .before .before .before .before .order-failing .ensures) (c .before .before .before .before .before .before .before .if1 .left)
-            (c .before .before .before .before .values-failing .ensures .0) (c .before .before .if2 .left),
-      ),
-    )
+    let start = c .before .before .before .before .before .before .before .before .before .before .before .before in
+    record {
+      accepted = start .pre;
+      chains = c .before .before .before .before .values-failing .ensures .1 (c .before .before .if2 .left) .chains;
+      numbers = blocks-start (start .pre) _ (c .before .before .before .before .before .before .before .before .before .order-failing .ensures) (c .before .before .before .before .before .before .before .if1 .left)
+          (c .before .before .before .before .values-failing .ensures .0) (c .before .before .if2 .left);
+    }
 
 returns-3 : tie.Need-returns-3
 returns-3 c =
-    let start = c .before .before .before .before .before .before .before .before .before .before .before .before .before in (
-      blocks-end (start .pre) _ (c .before .before .before .before .before .before .before .before .before .before .order-failing .ensures) (c .before .before .before .before .before .before .before .before .if1 .left)
-          (c .before .before .before .before .before .values-failing .ensures .0) (c .before .before .before .if2 .left) (c .blocks-failing .ensures),
-      λ _. c .before .before .before .before .before .values-failing .ensures .1 (c .before .before .before .if2 .left) .breaking,
-    )
+    let start = c .before .before .before .before .before .before .before .before .before .before .before .before .before in
+    record {
+      found = blocks-end (start .pre) _ (c .before .before .before .before .before .before .before .before .before .before .order-failing .ensures) (c .before .before .before .before .before .before .before .before .if1 .left)
+          (c .before .before .before .before .before .values-failing .ensures .0) (c .before .before .before .if2 .left) (c .blocks-failing .ensures);
+      breaking = λ _. c .before .before .before .before .before .values-failing .ensures .1 (c .before .before .before .if2 .left) .breaking;
+    }
 
 pub run-failing-spec : {M : Type 1} → statement M
 run-failing-spec =
