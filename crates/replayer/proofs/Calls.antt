@@ -6,9 +6,10 @@ use mathlib.Core.Bool.{Bool, true, false}
 use mathlib.Core.List.{List, [], _∷_, _++_, append-assoc}
 use native.Mathlib.Omega.{arith}
 use native.Mathlib.Numerals.{add-one}
-use lib.ListN.{getD, set, length, take, drop}
+use lib.ListN.{getD, set, length, take, drop, length-set}
 use lib.Seq.{set-at, drop-cons, take-suc, length-take-le}
 use borrow.Author.Tests.{le-leb, lt-leb, eq-eqb, ne-eqb}
+use Rattle.model.specs.Limits.{mostItems}
 use Rattle.model.specs.Lists.{writtenOver}
 use Rattle.model.specs.CaseFile.{switchCount, caseOf, itemCount}
 use Rattle.model.specs.Accept.{verdict}
@@ -18,28 +19,36 @@ use Rattle.model.specs.Answers.{answerOfRun, itemsAfter, afterReplayed, replaye
 use Rattle.model.specs.declared.Verdict.the-variants as verdicts
 use Rattle.model.specs.declared.Replayed.{Replayed}
 use Rattle.model.specs.declared.Replayed.the-variants.{Violated, Clean, CutOff, Refused}
-use Rattle.laws.specs.Accepted.{Accepted}
+use Rattle.laws.proofs.Accepted.{accepted-of}
 use Rattle.laws.proofs.OnCase.{on-accepted, on-refused}
 use Rattle.turn.specs.TurnState.{itemsOf, givenBy}
 use Rattle.run.specs.declared.Ended.{Ended}
 use Rattle.run.specs.Promises.{Leaves, Replies}
 use Rattle.replayer.specs.InputValues.{Inputs, putThreads, noInputs}
-use Rattle.replayer.specs.Promises.{outcomeIn, Ran}
+use Rattle.replayer.specs.Promises.{outcomeIn, Ran, Answered}
+use Rattle.replayer.specs.Ready.{ItemsFit}
 use Rattle.replayer.proofs.Values.{used-is, value-is}
 
--- Values written one by one.
-module _ (values slice : List ℕ) where
-  pub write-more : (items : List ℕ) (g : ℕ) → g < length values → g < length slice → items ≡ take g values ++ drop g slice
-      → set items g (getD values g 0) ≡ take (g + 1) values ++ drop (g + 1) slice
-  write-more items g some room e =
-      rw (e, drop-cons slice g 0 room, add-one g, take-suc values g 0 some)
-      (set-at (take g values) (getD slice g 0) (drop (suc g) slice) (getD values g 0) g (length-take-le g values (omega arith))
-      ∙ sym (append-assoc (take g values) (getD values g 0 ∷ []) (drop (suc g) slice)))
+-- The first g values are written.
+pub record ItemsWritten (values slice : List ℕ) (count : ℕ) (items : List ℕ) (g : ℕ) : Type 0 where
+  pub upto : g ≤ count
+  pub size : length items ≡ length slice
+  pub written : items ≡ take g values ++ drop g slice
 
-  pub write-end : (items : List ℕ) (count g : ℕ) → count ≤ length values → g ≡ count → items ≡ take g values ++ drop g slice
-      → items ≡ writtenOver (take count values) slice
+module _ {values slice : List ℕ} {count : ℕ} (fits : ItemsFit count slice) (all : length values ≡ mostItems) {items : List ℕ} {g : ℕ}
+    (v : ItemsWritten values slice count items g) where
+  pub items-more : g < count → ItemsWritten values slice count (set items g (getD values g 0)) (g + 1)
+  items-more h = record {
+    upto = omega arith;
+    size = length-set items g (getD values g 0) ∙ v .size;
+    written = rw (v .written, drop-cons slice g 0 (omega arith), add-one g, take-suc values g 0 (omega arith))
+        (set-at (take g values) (getD slice g 0) (drop (suc g) slice) (getD values g 0) g (length-take-le g values (omega arith))
+        ∙ sym (append-assoc (take g values) (getD values g 0 ∷ []) (drop (suc g) slice)));
+  }
+
+  pub items-end : count ≤ g → items ≡ writtenOver (take count values) slice
   unfolding writtenOver
-  write-end items count g fits e is = rw (length-take-le count values fits, ← e) is
+  items-end h = let e : g ≡ count = omega arith in rw (length-take-le count values (omega arith), ← e) (v .written)
 
 -- The replies with which the items are written.
 abbrev pub Writes : Replayed → Type 0
@@ -78,28 +87,25 @@ module _ (bytes lengths givens : List ℕ) (e : Ended) (replies : Replies bytes 
 
 -- The answer, and the slice after the call.
 module _ (bytes schedule slice : List ℕ) where
-  abbrev pub Answers : Replayed → List ℕ → Type 0
-  Answers r after = (r ≡ replayed bytes schedule (length slice)) × (after ≡ replayedInto bytes schedule slice)
-
   answers : (r : Replayed) (after : List ℕ) → r ≡ replayed bytes schedule (length slice)
-      → after ≡ afterReplayed r (itemsAfter (runOf (caseOf bytes) schedule)) slice → Answers r after
+      → after ≡ afterReplayed r (itemsAfter (runOf (caseOf bytes) schedule)) slice → Answered bytes schedule slice after r
   unfolding replayedInto
-  answers r after er is = (er, is ∙ ap (λ (x : Replayed). afterReplayed x (itemsAfter (runOf (caseOf bytes) schedule)) slice) er)
+  answers r after er is = record { answer = er; slice = is ∙ ap (λ (x : Replayed). afterReplayed x (itemsAfter (runOf (caseOf bytes) schedule)) slice) er }
 
-  pub answers-refused : (number place : ℕ) → verdict bytes ≡ verdicts.Refused number place → Answers (Refused number place) slice
+  pub answers-refused : (number place : ℕ) → verdict bytes ≡ verdicts.Refused number place → Answered bytes schedule slice slice (Refused number place)
   unfolding replayed
   answers-refused number place e = answers (Refused number place) slice (rw (on-refused _ _ _ number place e)) refl
 
-  module _ (ok : Accepted bytes) (accepted : verdict bytes ≡ verdicts.Accepted) (switches count : ℕ)
+  module _ (accepted : verdict bytes ≡ verdicts.Accepted) {switches count : ℕ}
       (is-switches : switches ≡ switchCount bytes) (is-count : count ≡ itemCount (caseOf bytes))
     where
-      pub answers-10 : length slice < count → Answers (Refused 10 0) slice
+      pub answers-10 : length slice < count → Answered bytes schedule slice slice (Refused 10 0)
       unfolding replayed
       answers-10 short =
           answers (Refused 10 0) slice
           (rw (on-accepted _ _ _ accepted, lt-leb (itemCount (caseOf bytes)) (length slice) (omega (arith, short, is-count)))) refl
 
-      module _ (room : count ≤ length slice) (f : Inputs)
+      module _ (room : count ≤ length slice) {f : Inputs}
           (is-spread : f ≡ putThreads schedule (caseOf bytes .threads) (noInputs (switches + 1)))
         where
           enough : itemCount (caseOf bytes) ≤ length slice
@@ -109,7 +115,7 @@ module _ (bytes schedule slice : List ℕ) where
           size-is = ap (λ (x : Inputs). x .used) is-spread ∙ used-is bytes schedule (switches + 1)
               ∙ ap (λ (x : ℕ). x + length (allInputLines (caseOf bytes .threads))) (let e : switches + 1 ≡ suc (switchCount bytes) = omega arith in e)
 
-          pub answers-12 : (length schedule ≡ f .used → ⊥) → Answers (Refused 12 0) slice
+          pub answers-12 : (length schedule ≡ f .used → ⊥) → Answered bytes schedule slice slice (Refused 12 0)
           unfolding replayed
           answers-12 differ =
               answers (Refused 12 0) slice
@@ -119,14 +125,14 @@ module _ (bytes schedule slice : List ℕ) where
                 ne-eqb (length schedule) (scheduleSize (caseOf bytes)) (λ e. differ (e ∙ sym size-is)),
               )) refl
 
-          module _ (whole : length schedule ≡ f .used) (sums : Bool) (are-sums : sums ≡ lengthsAddUp (caseOf bytes) (take (switches + 1) schedule)) where
+          module _ (whole : length schedule ≡ f .used) {sums : Bool} (are-sums : sums ≡ lengthsAddUp (caseOf bytes) (take (switches + 1) schedule)) where
             blocks : switches + 1 ≡ suc (switchCount bytes)
             blocks = omega arith
 
             sums-are : sums ≡ lengthsAddUp (caseOf bytes) (blockLengths (caseOf bytes) schedule)
             sums-are = are-sums ∙ ap (λ (x : ℕ). lengthsAddUp (caseOf bytes) (take x schedule)) blocks
 
-            pub answers-13 : sums ≡ false → Answers (Refused 13 0) slice
+            pub answers-13 : sums ≡ false → Answered bytes schedule slice slice (Refused 13 0)
             unfolding replayed
             answers-13 fail =
                 answers (Refused 13 0) slice
@@ -144,12 +150,13 @@ module _ (bytes schedule slice : List ℕ) where
                 ap (λ (x : ℕ). run (caseOf bytes) (take x schedule) (givenBy (f .given))) blocks
                 ∙ ap (run (caseOf bytes) (blockLengths (caseOf bytes) schedule))
                 (fun-ext (λ k. ap (λ (x : Inputs). getD (x .given) k 0) is-spread
-                ∙ value-is bytes schedule (switches + 1) ok (whole ∙ ap (λ (x : Inputs). x .used) is-spread ∙ used-is bytes schedule (switches + 1)) k
+                ∙ value-is bytes schedule (switches + 1) (accepted-of bytes accepted) (whole ∙ ap (λ (x : Inputs). x .used) is-spread ∙ used-is bytes schedule (switches + 1)) k
                 ∙ ap (λ (x : ℕ). valueGiven (allInputLines (caseOf bytes .threads)) (drop x schedule) k) blocks))
 
-            pub answers-run : (r : Replayed) (after : List ℕ) → sums ≡ true → Ran bytes (take (switches + 1) schedule) (f .given) slice r after → Answers r after
+            pub answers-run : {r : Replayed} {after : List ℕ} → sums ≡ true → Ran bytes (take (switches + 1) schedule) (f .given) slice r after
+                → Answered bytes schedule slice after r
             unfolding replayed
-            answers-run r after pass ran =
+            answers-run {r} {after} pass ran =
                 answers r after
                 (rw (
                   on-accepted _ _ _ accepted,

@@ -16,6 +16,7 @@ use Rattle.laws.proofs.Views.{EqView, same, diff, eq-view}
 use Rattle.laws.proofs.Lines.{few-lines-from}
 use Rattle.line.proofs.KindNumbers.{input-other}
 use Rattle.replayer.specs.InputValues.{Inputs, putNext, putLines, putThreads, ThreadPut, AllPut}
+use Rattle.replayer.specs.Ready.{ThreadReady}
 
 module _ (schedule : List ℕ) (kind k : ℕ) (f f' : Inputs) where
   pub next-is-input : (v : ℕ) → kind ≡ 4 → v ≡ getD schedule (f .used) 0 → f' .given ≡ set (f .given) k v → f' .used ≡ f .used + 1
@@ -48,36 +49,37 @@ pub record Putting (bytes schedule : List ℕ) (t : ℕ) (f₀ : Inputs) (k : �
   pub fits : f .used + length (linesFrom bytes t k) ≤ f₀ .used + mostLines
   pub counted : lines + length (linesFrom bytes t k) ≡ length (threadLines bytes t)
 
-module _ (bytes schedule : List ℕ) (t : ℕ) (f₀ : Inputs) (ok : Accepted bytes) (thread : t < threadCount bytes) where
-  pub putting-start : (first : ℕ) → first ≡ firstRecord bytes t → Putting bytes schedule t f₀ first f₀ 0
-  putting-start first e = rw e (record {
-    inside = ok .firsts t thread;
-    does = refl;
-    fits = omega (arith, few-lines-from bytes ok t (firstRecord bytes t) (ok .firsts t thread));
-    counted = omega arith;
-  })
+module _ {bytes : List ℕ} {t start : ℕ} (ready : ThreadReady bytes t start) (schedule : List ℕ) (f₀ : Inputs) where
+  few : length (threadLines bytes t) ≤ mostLines
+  few = few-lines-from bytes (ready .accepted) t (firstRecord bytes t) (ready .accepted .firsts t (ready .thread))
 
-  module _ (k : ℕ) (f : Inputs) (lines : ℕ) (p : Putting bytes schedule t f₀ k f lines) where
+  pub putting-start : {first : ℕ} → first ≡ firstRecord bytes t → Putting bytes schedule t f₀ first f₀ 0
+  putting-start e = rw e (record { inside = ready .accepted .firsts t (ready .thread); does = refl; fits = omega (arith, few); counted = omega arith })
+
+  module _ {k : ℕ} {f : Inputs} {lines : ℕ} (p : Putting bytes schedule t f₀ k f lines) where
+    pub putting-few : lines ≤ mostLines
+    putting-few = omega (arith, few)
+
     pub putting-end : k ≡ 0 → ThreadPut bytes schedule t f₀ f lines
     unfolding putLines
     putting-end e =
         let none : linesFrom bytes t k ≡ [] = ap (linesFrom bytes t) e ∙ linesFrom-end bytes t in
         record { values = sym (ap (λ (ls : List Line). putLines schedule ls f) none) ∙ p .does; counted = omega (arith, p .counted, ap length none) }
 
-    module _ (some : k ≡ 0 → ⊥) (next : ℕ) (is-next : next ≡ nextRecord bytes k) where
+    module _ (some : k ≡ 0 → ⊥) {next : ℕ} (is-next : next ≡ nextRecord bytes k) where
       lines-are : linesFrom bytes t k ≡ lineOf bytes t k ∷ linesFrom bytes t (nextRecord bytes k)
-      lines-are = ok .lines-go-on t k (omega arith) (p .inside)
+      lines-are = ready .accepted .lines-go-on t k (omega arith) (p .inside)
 
       pub fewer-lines : length (linesFrom bytes t next) < length (linesFrom bytes t k)
       fewer-lines = rw is-next (omega (arith, ap length lines-are))
 
-      pub putting-more : (kind : ℕ) (f' : Inputs) → kind ≡ recordField bytes k 1 → f' ≡ putNext schedule (isInput (kindOf kind)) k f
+      pub putting-more : {kind : ℕ} {f' : Inputs} → kind ≡ recordField bytes k 1 → f' ≡ putNext schedule (isInput (kindOf kind)) k f
           → Putting bytes schedule t f₀ next f' (lines + 1)
       unfolding putLines
-      putting-more kind f' is-kind is-f' =
+      putting-more {kind} {f'} is-kind is-f' =
           let is : f' ≡ putNext schedule (isInput (lineOf bytes t k .kind)) k f = rw is-kind at is-f' in
           rw is-next (record {
-            inside = ok .nexts k (omega arith) (p .inside);
+            inside = ready .accepted .nexts k (omega arith) (p .inside);
             does = ap (putLines schedule (linesFrom bytes t (nextRecord bytes k))) is
                 ∙ sym (ap (λ (ls : List Line). putLines schedule ls f) lines-are) ∙ p .does;
             fits = omega (arith, p .fits, ap length lines-are, ap (λ (x : Inputs). x .used) is, next-used schedule (isInput (lineOf bytes t k .kind)) k f);

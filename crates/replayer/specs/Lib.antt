@@ -1,2 +1,3 @@
 pub mod InputValues
 pub mod Promises
+pub mod Ready

@@ -1,17 +1,17 @@
 // The replayer: what a schedule of a case comes to.
 ghost use mathlib.Core.Path.{_≡_};
-ghost use Prim.Native.Nat.{ℕ, _<_, _≤_};
+ghost use Prim.Native.Nat.{ℕ, _<_};
 ghost use lib.ListN.{length, getD, take};
-ghost use Rattle.model.specs.Limits.{mostThreads, mostBlocks, mostItems, mostScheduleNumbers};
+ghost use Rattle.model.specs.Limits.{mostThreads};
 ghost use Rattle.model.specs.Lists.{writtenOver};
-ghost use Rattle.model.specs.CaseFile.{records, threadCount, caseOf, itemCount};
+ghost use Rattle.model.specs.CaseFile.{caseOf};
 ghost use Rattle.model.specs.Accept.{verdict};
 ghost use Rattle.model.specs.Schedule.{stepsOf, lengthsAddUp};
 ghost use Rattle.model.specs.Answers.{replayed, replayedInto};
 ghost use Rattle.model.specs.declared.Verdict.the-variants as verdicts;
-ghost use Rattle.laws.specs.Accepted.{Accepted};
-ghost use Rattle.replayer.specs.InputValues.{inputs, Counted, ThreadPut, AllPut};
-ghost use Rattle.replayer.specs.Promises.{Ran};
+ghost use Rattle.replayer.specs.InputValues.{inputs, ThreadPut, AllPut};
+ghost use Rattle.replayer.specs.Promises.{Ran, Answered};
+ghost use Rattle.replayer.specs.Ready.{ThreadReady, LengthsReady, SumsReady, ItemsFit, BlocksReady};
 use model::ITEMS;
 use model::RECORD_PLACES;
 use model::Replayed;
@@ -39,8 +39,7 @@ fn put_thread(
     start: usize,
     given: &mut [u16; RECORD_PLACES],
 ) -> Walked
-    requires { ⌜ Accepted (now case) ⌝ }
-    requires { ⌜ (t < threadCount (now case)) × (start ≤ mostScheduleNumbers) ⌝ }
+    requires { ⌜ ThreadReady (now case) t start ⌝ }
     ensures { λ r. ⌜ ThreadPut (now (case .entry)) (now (schedule .entry)) t (inputs (now (given .entry)) start) (inputs (now (given .exit)) (r .used)) (r .lines) ⌝ }
 {
     let mut k = case_file::first_of(case, t);
@@ -68,8 +67,7 @@ fn inputs_of(
     lengths: usize,
     given: &mut [u16; RECORD_PLACES],
 ) -> Counts
-    requires { ⌜ Accepted (now case) ⌝ }
-    requires { ⌜ lengths ≤ mostBlocks ⌝ }
+    requires { ⌜ LengthsReady (now case) lengths ⌝ }
     ensures { λ r. ⌜ AllPut (now (case .entry)) (now (schedule .entry)) (inputs (now (given .entry)) lengths) (inputs (now (given .exit)) (r .used)) (r .lines) ⌝ }
 {
     let threads = case_file::threads(case) as usize;
@@ -87,8 +85,7 @@ fn inputs_of(
 
 // The lengths of each thread's blocks added up, without wrapping.
 fn sums_of(case: &[u8], lengths: &[u16]) -> [usize; THREADS]
-    requires { ⌜ Accepted (now case) ⌝ }
-    requires { ⌜ length (now lengths) ≤ mostBlocks ⌝ }
+    requires { ⌜ LengthsReady (now case) (length (now lengths)) ⌝ }
     ensures { λ r. ⌜ ((t : ℕ) → t < mostThreads → getD r t 0 ≡ stepsOf (caseOf (now (case .entry))) t 0 (now (lengths .entry))) ⌝ }
 {
     let threads = case_file::threads(case) as usize;
@@ -106,8 +103,7 @@ fn sums_of(case: &[u8], lengths: &[u16]) -> [usize; THREADS]
 
 // Whether the block lengths of each thread add up to its lines.
 fn lengths_add_up(case: &[u8], lengths: &[u16], lines: [usize; THREADS]) -> bool
-    requires { ⌜ Accepted (now case) × (length (now lengths) ≤ mostBlocks) ⌝ }
-    requires { ⌜ Counted (now case) lines ⌝ }
+    requires { ⌜ SumsReady (now case) (now lengths) lines ⌝ }
     ensures { λ r. ⌜ r ≡ lengthsAddUp (caseOf (now (case .entry))) (now (lengths .entry)) ⌝ }
 {
     let threads = case_file::threads(case) as usize;
@@ -124,7 +120,7 @@ fn lengths_add_up(case: &[u8], lengths: &[u16], lines: [usize; THREADS]) -> bool
 
 // The first so many values go to the start of the slice.
 fn write_items(values: [u16; ITEMS], count: usize, items: &mut [u16])
-    requires { ⌜ (count ≤ mostItems) × (count ≤ length (now items)) ⌝ }
+    requires { ⌜ ItemsFit count (now items) ⌝ }
     ensures { λ r. ⌜ now (items .exit) ≡ writtenOver (take count values) (now (items .entry)) ⌝ }
 {
     let mut g = 0;
@@ -136,8 +132,7 @@ fn write_items(values: [u16; ITEMS], count: usize, items: &mut [u16])
 
 // The run of an accepted case in blocks with these lengths; the items' values at its end go to the start of the slice.
 fn replay_blocks(case: &[u8], lengths: &[u16], given: &[u16], items: &mut [u16]) -> Replayed
-    requires { ⌜ Accepted (now case) ⌝ }
-    requires { ⌜ (records (now case) < length (now given)) × (itemCount (caseOf (now case)) ≤ length (now items)) ⌝ }
+    requires { ⌜ BlocksReady (now case) (now given) (now items) ⌝ }
     ensures { λ r. ⌜ Ran (now (case .entry)) (now (lengths .entry)) (now (given .entry)) (now (items .entry)) r (now (items .exit)) ⌝ }
 {
     let count = case_file::items(case);
@@ -160,10 +155,8 @@ fn replay_blocks(case: &[u8], lengths: &[u16], given: &[u16], items: &mut [u16])
 }
 
 fn replay_accepted(case: &[u8], schedule: &[u16], items: &mut [u16]) -> Replayed
-    requires { ⌜ Accepted (now case) ⌝ }
     requires { ⌜ verdict (now case) ≡ verdicts.Accepted ⌝ }
-    ensures { λ r. ⌜ r ≡ replayed (now (case .entry)) (now (schedule .entry)) (length (now (items .entry))) ⌝ }
-    ensures { λ r. ⌜ now (items .exit) ≡ replayedInto (now (case .entry)) (now (schedule .entry)) (now (items .entry)) ⌝ }
+    ensures { λ r. ⌜ Answered (now (case .entry)) (now (schedule .entry)) (now (items .entry)) (now (items .exit)) r ⌝ }
 {
     let blocks = case_file::switches(case) as usize + 1;
     let written = case_file::items(case);

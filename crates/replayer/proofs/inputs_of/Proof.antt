@@ -20,16 +20,16 @@ cast-threads : tie.Need-cast-threads Inv-loop μ-loop
 cast-threads c = search needs
 
 loop-holds : tie.Need-loop-holds Inv-loop μ-loop
-loop-holds c = spreading-start _ _ _ (c .before .before .before .pre .0)
+loop-holds c = spreading-start _ _ _ (c .before .before .before .pre .accepted)
 
 put-thread-requires : tie.Need-put-thread-requires Inv-loop μ-loop
-put-thread-requires c κs = (c .before .before .before .before .before .before .pre .0, (omega (arith, c .before .before .before .threads .ensures), omega (arith, c .before .before .before .threads .ensures, c .before .before .loop .inv .fits, c .before .before .before .before .before .before .pre .1, c .before .before .before .before .before .before .pre .0 .few-threads)))
+put-thread-requires c κs = search needs
 
 mul-lines : tie.Need-mul-lines Inv-loop μ-loop
-mul-lines c = omega (arith, c .before .before .before .before .threads .ensures, c .before .before .before .before .before .before .before .pre .0 .few-threads)
+mul-lines c = search needs
 
 array-write-lines : tie.Need-array-write-lines Inv-loop μ-loop
-array-write-lines c = omega (arith, c .before .before .before .before .threads .ensures, c .before .before .before .before .before .before .before .pre .0 .few-threads)
+array-write-lines c = search needs
 
 add-t : tie.Need-add-t Inv-loop μ-loop
 add-t c = search needs
@@ -38,10 +38,10 @@ loop-less : tie.Need-loop-less Inv-loop μ-loop
 loop-less c = search needs
 
 loop-again : tie.Need-loop-again Inv-loop μ-loop
-loop-again c = spreading-more _ _ _ (c .before .before .before .before .before .before .before .pre .0) _ _ _ (c .before .before .before .loop .inv) _ _ (omega (arith, c .before .before .before .before .threads .ensures)) (c .put-thread .ensures)
+loop-again c = spreading-more _ _ _ (c .before .before .before .before .before .before .before .pre .accepted) _ _ _ (c .before .before .before .loop .inv) _ _ (omega (arith, c .before .before .before .before .threads .ensures)) (c .put-thread .ensures)
 
 returns : tie.Need-returns Inv-loop μ-loop
-returns c = spreading-end _ _ _ (c .before .before .before .before .before .pre .0) _ _ _ (c .before .loop .inv) (omega (arith, c .before .before .threads .ensures))
+returns c = spreading-end _ _ _ (c .before .before .before .before .before .pre .accepted) _ _ _ (c .before .loop .inv) (omega (arith, c .before .before .threads .ensures))
 
 pub inputs-of-spec : {M : Type 1} → statement M
 inputs-of-spec =

@@ -3,9 +3,8 @@ use mathlib.Core.Logic.{⊎-elim}
 use native.Mathlib.Omega.{arith}
 use lib.ListN.{length}
 use Rattle.laws.specs.Accepted.{linesFrom}
-use Rattle.laws.proofs.Lines.{few-lines-from}
 use Rattle.replayer.specs.InputValues.{inputs}
-use Rattle.replayer.proofs.InputLoops.{Putting, putting-start, putting-more, putting-end, fewer-lines, next-is-input, next-is-other}
+use Rattle.replayer.proofs.InputLoops.{Putting, putting-start, putting-few, putting-more, putting-end, fewer-lines, next-is-input, next-is-other}
 use borrow.Author.Needs.{needs}
 use Rattle.replayer.proofs.put_thread.Statement.{statement}
 use Rattle.replayer.proofs.put_thread.Tie as tie
@@ -20,37 +19,37 @@ first-of-requires : tie.Need-first-of-requires Inv-loop μ-loop
 first-of-requires c κs = search needs
 
 loop-holds : tie.Need-loop-holds Inv-loop μ-loop
-loop-holds c = putting-start _ _ _ _ (c .before .before .before .pre .0) (c .before .before .before .pre .1 .0) _ (c .first-of .ensures)
+loop-holds c = putting-start (c .before .before .before .pre) _ _ (c .first-of .ensures)
 
 kind-of-requires : tie.Need-kind-of-requires Inv-loop μ-loop
-kind-of-requires c κs = (omega arith, omega (arith, c .before .loop .inv .inside, c .before .before .before .before .before .pre .0 .size))
+kind-of-requires c κs = search needs
 
 at-requires : tie.Need-at-requires Inv-loop μ-loop
 at-requires c κs = search needs
 
 mul-given : tie.Need-mul-given Inv-loop μ-loop
-mul-given c = omega (arith, c .before .before .before .before .loop .inv .inside, c .before .before .before .before .before .before .before .before .pre .0 .few-records)
+mul-given c = search needs
 
 element-write-given : tie.Need-element-write-given Inv-loop μ-loop
-element-write-given c = omega (arith, c .before .before .before .before .loop .inv .inside, c .before .before .before .before .before .before .before .before .pre .0 .few-records)
+element-write-given c = search needs
 
 add-used : tie.Need-add-used Inv-loop μ-loop
-add-used c = omega (arith, c .before .before .before .before .loop .inv .fits, c .before .before .before .before .before .before .before .before .pre .1 .1)
+add-used c = search needs
 
 add-lines : tie.Need-add-lines Inv-loop μ-loop
-add-lines c = omega (arith, c .before .before .before .loop .inv .counted, few-lines-from _ (c .before .before .before .before .before .before .before .pre .0) (c .before .before .before .before .before .before .before .args .t) _ (c .before .before .before .before .before .before .before .pre .0 .firsts _ (c .before .before .before .before .before .before .before .pre .1 .0)))
+add-lines c = omega (arith, putting-few (c .before .before .before .before .before .before .before .pre) _ _ (c .before .before .before .loop .inv))
 
 next-of-requires : tie.Need-next-of-requires Inv-loop μ-loop
-next-of-requires c κs = (omega arith, omega (arith, c .before .before .before .loop .inv .inside, c .before .before .before .before .before .before .before .pre .0 .size))
+next-of-requires c κs = search needs
 
 loop-less : tie.Need-loop-less Inv-loop μ-loop
-loop-less c = fewer-lines _ _ _ _ (c .before .before .before .before .before .before .before .before .pre .0) (c .before .before .before .before .before .before .before .before .pre .1 .0) _ _ _ (c .before .before .before .before .loop .inv) (c .before .before .before .loop-test .taken) _ (c .next-of .ensures)
+loop-less c = fewer-lines (c .before .before .before .before .before .before .before .before .pre) _ _ (c .before .before .before .before .loop .inv) (c .before .before .before .loop-test .taken) (c .next-of .ensures)
 
 loop-again : tie.Need-loop-again Inv-loop μ-loop
-loop-again c = putting-more _ _ _ _ (c .before .before .before .before .before .before .before .before .pre .0) (c .before .before .before .before .before .before .before .before .pre .1 .0) _ _ _ (c .before .before .before .before .loop .inv) (c .before .before .before .loop-test .taken) _ (c .next-of .ensures) _ _ (c .before .before .kind-of .ensures) (⊎-elim (λ w. next-is-input _ _ _ _ _ _ (w .0 .keys1) (w .1 .ensures) (w .2) (w .3)) (λ w. next-is-other _ _ _ _ _ (w .0 .rest .1) (w .1) (w .2)) (c .before .match .came))
+loop-again c = putting-more (c .before .before .before .before .before .before .before .before .pre) _ _ (c .before .before .before .before .loop .inv) (c .before .before .before .loop-test .taken) (c .next-of .ensures) (c .before .before .kind-of .ensures) (⊎-elim (λ w. next-is-input _ _ _ _ _ _ (w .0 .keys1) (w .1 .ensures) (w .2) (w .3)) (λ w. next-is-other _ _ _ _ _ (w .0 .rest .1) (w .1) (w .2)) (c .before .match .came))
 
 returns : tie.Need-returns Inv-loop μ-loop
-returns c = putting-end _ _ _ _ (c .before .before .before .before .before .pre .0) (c .before .before .before .before .before .pre .1 .0) _ _ _ (c .before .loop .inv) (c .loop-test .left)
+returns c = putting-end (c .before .before .before .before .before .pre) _ _ (c .before .loop .inv) (c .loop-test .left)
 
 pub put-thread-spec : {M : Type 1} → statement M
 put-thread-spec =

@@ -1,8 +1,5 @@
 -- `replayer::replay` meets its contract. Assumes nothing.
-use mathlib.Core.Path.{_≡_, sym, _∙_}
-use Rattle.model.specs.Accept.{verdict}
-use Rattle.model.specs.declared.Verdict.the-variants.{Accepted}
-use Rattle.laws.proofs.Accepted.{accepted-of}
+use mathlib.Core.Path.{sym, _∙_}
 use Rattle.replayer.proofs.Calls.{answers-refused}
 use borrow.Author.Needs.{needs}
 use Rattle.replayer.proofs.replay.Statement.{statement}
@@ -18,10 +15,12 @@ enum-told : tie.Need-enum-told
 enum-told c = search needs
 
 replay-accepted-requires : tie.Need-replay-accepted-requires
-replay-accepted-requires c κs = let ok : verdict (c .before .before .before .before .before .before .before .args .case .now) ≡ Accepted = sym (c .before .before .before .accept .ensures) ∙ c .before .enum-told .given .1 in (accepted-of _ ok, ok)
+replay-accepted-requires c κs = sym (c .before .before .before .accept .ensures) ∙ c .before .enum-told .given .1
 
 returns : tie.Need-returns
-returns c = answers-refused _ _ _ _ _ (sym (c .before .before .before .accept .ensures) ∙ c .before .number .given .1)
+returns c =
+    let answer = answers-refused _ (c .before .before .before .before .before .before .before .args .schedule .now) _ _ _ (sym (c .before .before .before .accept .ensures) ∙ c .before .number .given .1) in
+    (answer .answer, answer .slice)
 
 same-length : tie.Need-same-length
 same-length c = search needs

@@ -4,6 +4,7 @@ use Prim.Native.Nat.{_+_}
 use native.Mathlib.Omega.{arith}
 use lib.Seq.{length-take-le}
 use borrow.Author.Tests.{not-true, not-false}
+use Rattle.laws.proofs.Accepted.{accepted-of}
 use Rattle.replayer.proofs.Values.{lengths-fit, places, records-have-places}
 use Rattle.replayer.proofs.Calls.{answers-10, answers-12, answers-13, answers-run}
 use borrow.Author.Needs.{needs}
@@ -11,7 +12,7 @@ use Rattle.replayer.proofs.replay_accepted.Statement.{statement}
 use Rattle.replayer.proofs.replay_accepted.Tie as tie
 
 switches-requires : tie.Need-switches-requires
-switches-requires c κs = search needs
+switches-requires c κs = let ok = accepted-of _ (c .before .before .before .pre) in search needs
 
 cast-blocks : tie.Need-cast-blocks
 cast-blocks c = search needs
@@ -20,18 +21,16 @@ add-blocks : tie.Need-add-blocks
 add-blocks c = search needs
 
 items-requires : tie.Need-items-requires
-items-requires c κs = search needs
+items-requires c κs = accepted-of _ (c .before .before .before .before .pre)
 
 returns : tie.Need-returns
-returns c = answers-10 (c .before .before .before .before .before .before .args .case .now) (c .before .before .before .before .before .before .args .schedule .now) (c .before .before .before .before .before .before .args .items .now) (c .before .before .before .before .before .before .pre .0) (c .before .before .before .before .before .before .pre .1) _ _ (c .before .before .switches .ensures) (c .before .items .ensures .0) (c .if1 .taken)
+returns c = answers-10 _ _ _ (c .before .before .before .before .before .before .pre) (c .before .before .switches .ensures) (c .before .items .ensures .0) (c .if1 .taken)
 
 inputs-of-requires : tie.Need-inputs-of-requires
-inputs-of-requires c κs = search needs
+inputs-of-requires c κs = let ok = accepted-of _ (c .before .before .before .before .before .before .before .pre) in search needs
 
 returns-2 : tie.Need-returns-2
-returns-2 c =
-    let entry = c .before .before .before .before .before .before .before .before .before .before in
-    answers-12 (entry .args .case .now) (entry .args .schedule .now) (entry .args .items .now) (entry .pre .0) (entry .pre .1) _ _ (c .before .before .before .before .before .before .switches .ensures) (c .before .before .before .before .before .items .ensures .0) (c .before .before .before .before .if1 .left) _ (c .before .before .inputs-of .ensures .values) (c .if2 .taken)
+returns-2 c = answers-12 _ _ _ (c .before .before .before .before .before .before .before .before .before .before .pre) (c .before .before .before .before .before .before .switches .ensures) (c .before .before .before .before .before .items .ensures .0) (c .before .before .before .before .if1 .left) (c .before .before .inputs-of .ensures .values) (c .if2 .taken)
 
 slice-aggregate-lengths : tie.Need-slice-aggregate-lengths
 slice-aggregate-lengths c = sym (length-take-le _ _ (lengths-fit _ _ _ _ (c .before .before .before .inputs-of .ensures .values) (c .before .if2 .left)))
@@ -39,19 +38,25 @@ slice-aggregate-lengths c = sym (length-take-le _ _ (lengths-fit _ _ _ _ (c .bef
 lengths-add-up-requires : tie.Need-lengths-add-up-requires
 lengths-add-up-requires c κs =
     let entry = c .before .before .before .before .before .before .before .before .before .before .before in
-    ((entry .pre .0, omega (arith, length-take-le (c .before .before .before .before .before .before .before .switches .result + 1) (entry .args .schedule .now) (lengths-fit _ _ _ _ (c .before .before .before .inputs-of .ensures .values) (c .before .if2 .left)), c .before .before .before .before .before .before .before .switches .ensures, entry .pre .0 .few-switches)), c .before .before .before .inputs-of .ensures .counted)
+    let ok = accepted-of _ (entry .pre) in
+    record {
+      ready = record { accepted = ok; few = omega (arith, length-take-le (c .before .before .before .before .before .before .before .switches .result + 1) (entry .args .schedule .now) (lengths-fit _ _ _ _ (c .before .before .before .inputs-of .ensures .values) (c .before .if2 .left)), c .before .before .before .before .before .before .before .switches .ensures, ok .few-switches) };
+      counted = c .before .before .before .inputs-of .ensures .counted;
+    }
 
 returns-3 : tie.Need-returns-3
 returns-3 c =
-    let entry = c .before .before .before .before .before .before .before .before .before .before .before .before .before in
-    answers-13 (entry .args .case .now) (entry .args .schedule .now) (entry .args .items .now) (entry .pre .0) (entry .pre .1) _ _ (c .before .before .before .before .before .before .before .before .before .switches .ensures) (c .before .before .before .before .before .before .before .before .items .ensures .0) (c .before .before .before .before .before .before .before .if1 .left) _ (c .before .before .before .before .before .inputs-of .ensures .values) (c .before .before .before .if2 .left) _ (c .before .lengths-add-up .ensures) (not-true _ (c .if3 .taken))
+    let at-if1 = c .before .before .before .before .before .before .before in
+    answers-13 _ _ _ (at-if1 .before .before .before .before .before .before .pre) (at-if1 .before .before .switches .ensures) (at-if1 .before .items .ensures .0) (at-if1 .if1 .left) (c .before .before .before .before .before .inputs-of .ensures .values) (c .before .before .before .if2 .left) (c .before .lengths-add-up .ensures) (not-true _ (c .if3 .taken))
 
 slice-aggregate-replay-blocks : tie.Need-slice-aggregate-replay-blocks
 slice-aggregate-replay-blocks c = sym (places _ _ _ _ (c .before .before .before .before .before .before .inputs-of .ensures .values))
 
 replay-blocks-requires : tie.Need-replay-blocks-requires
 replay-blocks-requires c κs =
-    (c .before .before .before .before .before .before .before .before .before .before .before .before .before .before .before .pre .0, (records-have-places _ _ _ _ (c .before .before .before .before .before .before .before .before .before .before .before .before .before .before .before .pre .0) (c .before .before .before .before .before .before .before .inputs-of .ensures .values), omega (arith, c .before .before .before .before .before .before .before .before .before .if1 .left, c .before .before .before .before .before .before .before .before .before .before .items .ensures .0)))
+    let at-if1 = c .before .before .before .before .before .before .before .before .before in
+    let ok = accepted-of _ (at-if1 .before .before .before .before .before .before .pre) in
+    record { accepted = ok; all-given = records-have-places _ _ _ _ ok (c .before .before .before .before .before .before .before .inputs-of .ensures .values); room = omega (arith, at-if1 .if1 .left, at-if1 .before .items .ensures .0) }
 
 same-length : tie.Need-same-length
 same-length c = search needs
@@ -60,8 +65,7 @@ returns-4 : tie.Need-returns-4
 returns-4 c =
     let at-if3 = c .before .before .before .before .before in
     let at-if1 = at-if3 .before .before .before .before .before .before .before in
-    let entry = at-if1 .before .before .before .before .before .before in
-    answers-run (entry .args .case .now) (entry .args .schedule .now) (entry .args .items .now) (entry .pre .0) (entry .pre .1) _ _ (at-if1 .before .before .switches .ensures) (at-if1 .before .items .ensures .0) (at-if1 .if1 .left) _ (at-if3 .before .before .before .before .before .inputs-of .ensures .values) (at-if3 .before .before .before .if2 .left) _ (at-if3 .before .lengths-add-up .ensures) _ _ (not-false _ (at-if3 .if3 .left)) (c .before .before .replay-blocks .ensures)
+    answers-run _ _ _ (at-if1 .before .before .before .before .before .before .pre) (at-if1 .before .before .switches .ensures) (at-if1 .before .items .ensures .0) (at-if1 .if1 .left) (at-if3 .before .before .before .before .before .inputs-of .ensures .values) (at-if3 .before .before .before .if2 .left) (at-if3 .before .lengths-add-up .ensures) (not-false _ (at-if3 .if3 .left)) (c .before .before .replay-blocks .ensures)
 
 pub replay-accepted-spec : {M : Type 1} → statement M
 replay-accepted-spec =

@@ -24,7 +24,7 @@ loop-holds : tie.Need-loop-holds Inv-loop μ-loop
 loop-holds c = adding-start _ _
 
 rem-t : tie.Need-rem-t Inv-loop μ-loop
-rem-t c = omega (arith, c .before .before .threads .ensures, c .before .before .before .before .before .pre .0 .some-threads)
+rem-t c = search needs
 
 at-requires : tie.Need-at-requires Inv-loop μ-loop
 at-requires c κs = search needs
@@ -33,19 +33,19 @@ cast-steps : tie.Need-cast-steps Inv-loop μ-loop
 cast-steps c = search needs
 
 mul-sum : tie.Need-mul-sum Inv-loop μ-loop
-mul-sum c = omega (arith, belongs _ (c .before .before .before .before .before .before .pre .0) (c .before .before .loop .i) _ (c .before .before .before .threads .ensures))
+mul-sum c = omega (arith, belongs _ (c .before .before .before .before .before .before .pre .accepted) (c .before .before .loop .i) _ (c .before .before .before .threads .ensures))
 
 array-read-sum : tie.Need-array-read-sum Inv-loop μ-loop
-array-read-sum c = omega (arith, belongs _ (c .before .before .before .before .before .before .pre .0) (c .before .before .loop .i) _ (c .before .before .before .threads .ensures))
+array-read-sum c = omega (arith, belongs _ (c .before .before .before .before .before .before .pre .accepted) (c .before .before .loop .i) _ (c .before .before .before .threads .ensures))
 
 add-sum : tie.Need-add-sum Inv-loop μ-loop
-add-sum c = omega (arith, c .before .before .loop .inv .small (c .before .before .loop .i % c .before .before .before .threads .result), c .before .before .before .before .before .before .pre .1)
+add-sum c = omega (arith, c .before .before .loop .inv .small (c .before .before .loop .i % c .before .before .before .threads .result), c .before .before .before .before .before .before .pre .few)
 
 mul-sums : tie.Need-mul-sums Inv-loop μ-loop
-mul-sums c = omega (arith, belongs _ (c .before .before .before .before .before .before .pre .0) (c .before .before .loop .i) _ (c .before .before .before .threads .ensures))
+mul-sums c = omega (arith, belongs _ (c .before .before .before .before .before .before .pre .accepted) (c .before .before .loop .i) _ (c .before .before .before .threads .ensures))
 
 array-write-sums : tie.Need-array-write-sums Inv-loop μ-loop
-array-write-sums c = omega (arith, belongs _ (c .before .before .before .before .before .before .pre .0) (c .before .before .loop .i) _ (c .before .before .before .threads .ensures))
+array-write-sums c = omega (arith, belongs _ (c .before .before .before .before .before .before .pre .accepted) (c .before .before .loop .i) _ (c .before .before .before .threads .ensures))
 
 add-i : tie.Need-add-i Inv-loop μ-loop
 add-i c = search needs
@@ -54,7 +54,7 @@ loop-less : tie.Need-loop-less Inv-loop μ-loop
 loop-less c = search needs
 
 loop-again : tie.Need-loop-again Inv-loop μ-loop
-loop-again c = adding-more _ _ _ _ (c .before .before .loop .inv) _ _ _ (c .before .loop-test .taken) (c .before .before .before .threads .ensures) refl (belongs _ (c .before .before .before .before .before .before .pre .0) (c .before .before .loop .i) _ (c .before .before .before .threads .ensures)) (c .at .ensures) (omega arith)
+loop-again c = adding-more _ _ _ _ (c .before .before .loop .inv) _ _ _ (c .before .loop-test .taken) (c .before .before .before .threads .ensures) refl (belongs _ (c .before .before .before .before .before .before .pre .accepted) (c .before .before .loop .i) _ (c .before .before .before .threads .ensures)) (c .at .ensures) (omega arith)
 
 returns : tie.Need-returns Inv-loop μ-loop
 returns c = λ t h. adding-end _ _ _ _ (c .before .loop .inv) (c .loop-test .left) t h
