@@ -7,7 +7,7 @@ use mathlib.Core.Bool.{not}
 use mathlib.Core.List.{List, [], _∷_, _++_}
 use native.Mathlib.Omega.{arith}
 use borrow.Author.Tests.{eq-eqb, ne-eqb}
-use lib.ListN.{length, length-append}
+use lib.ListN.{length}
 use Rattle.model.specs.Word.{nonzero}
 use Rattle.model.specs.Limits.{mostConstraints}
 use Rattle.model.specs.CaseFile.{caseOf}
@@ -24,7 +24,7 @@ use Rattle.value_check.specs.declared.Walk.{Walk}
 use Rattle.value_check.proofs.Breaking.{first-breaking}
 use Rattle.walk_back.specs.Blocks.{allSixes}
 use Rattle.search.specs.Search.{Searched, Room}
-use Rattle.search.proofs.Search.{Searching, searching-start, searching-found, searching-more, searching-last, one-holds, one-fails}
+use Rattle.search.proofs.Search.{Searching, searching-start, searching-fits, searching-found, searching-more, searching-last, one-holds, one-fails}
 use Rattle.checker.specs.Run.{RunSearched}
 
 module _ {bytes : List ℕ} (ok : Accepted bytes) (xs : List ℕ) where
@@ -35,15 +35,8 @@ module _ {bytes : List ℕ} (ok : Accepted bytes) (xs : List ℕ) where
   unfolding runRows
   run-split = refl
 
-  run-room : 1 + (length (allOrders bytes) + (length (allValues bytes) + length (allSixes bytes))) ≤ mostConstraints
-  run-room =
-      omega (
-        arith,
-        run-rows bytes ok,
-        ap length run-split,
-        length-append (allOrders bytes) (allValues bytes ++ allSixes bytes),
-        length-append (allValues bytes) (allSixes bytes),
-      )
+  run-fits : Room 1 run
+  run-fits = record { counted = omega arith; room = omega (arith, run-rows bytes ok) }
 
   start : Searching bytes xs 1 run 1 run
   start = searching-start bytes xs 1 run run (omega arith) refl
@@ -53,28 +46,28 @@ module _ {bytes : List ℕ} (ok : Accepted bytes) (xs : List ℕ) where
     order-fails some = searching-found start orders _ run-split some n
 
     module _ (none : f ≡ 0) where
-      pub values-start : (0 < n) × (n + length (allValues bytes) ≤ mostConstraints)
-      values-start = (omega (arith, orders .after none), omega (arith, orders .after none, run-room))
-
       pub all-ordered : AllOrdered bytes xs
       all-ordered = none-fails (caseOf bytes) (assignmentOf (caseOf bytes) xs) 1 (allOrders bytes) (sym (orders .first) ∙ none) (omega arith)
 
       after-orders : Searching bytes xs 1 run n (allValues bytes ++ allSixes bytes)
       after-orders = searching-more start orders run-split none
 
+      pub values-start : (0 < n) × (n + length (allValues bytes) ≤ mostConstraints)
+      values-start = let fits = searching-fits after-orders run-fits (allValues bytes) _ refl in (fits .counted, fits .room)
+
       module _ {f' n' : ℕ} (values : Searched bytes xs n (allValues bytes) f' n') where
         pub values-fail : f' ≢ 0 → Searched bytes xs 1 run f' n'
         values-fail some = searching-found after-orders values (allSixes bytes) refl some n'
 
         module _ (none' : f' ≡ 0) where
+          after-values : Searching bytes xs 1 run n' (allSixes bytes)
+          after-values = searching-more after-orders values refl none'
+
           pub blocks-start : Room n' (allSixes bytes)
-          blocks-start = record {
-            counted = omega (arith, orders .after none, values .after none');
-            room = omega (arith, orders .after none, values .after none', run-room);
-          }
+          blocks-start = record { counted = after-values .some; room = omega (arith, after-values .room, run-fits .room) }
 
           pub blocks-end : {f'' n'' : ℕ} → Searched bytes xs n' (allSixes bytes) f'' n'' → Searched bytes xs 1 run f'' n''
-          blocks-end blocks = searching-last (searching-more after-orders values refl none') blocks
+          blocks-end blocks = searching-last after-values blocks
 
   -- The goal, after all others.
   module _ {walk : Walk} (run-searched : RunSearched bytes xs walk) where

@@ -10,10 +10,7 @@ order-failing-requires : tie.Need-order-failing-requires
 order-failing-requires c κs = search needs
 
 returns : tie.Need-returns
-returns c = record {
-  found = order-fails (c .before .before .before .before .before .pre) _ (c .before .before .order-failing .ensures) (c .if1 .taken);
-  breaking = λ z. absurd (c .if1 .taken z);
-}
+returns c = record { found = order-fails (c .before .before .before .before .before .pre) _ (c .before .before .order-failing .ensures) (c .if1 .taken); breaking = λ z. absurd (c .if1 .taken z) }
 
 values-failing-requires : tie.Need-values-failing-requires
 values-failing-requires c κs =
@@ -26,10 +23,7 @@ values-failing-requires c κs =
     )
 
 returns-2 : tie.Need-returns-2
-returns-2 c = record {
-  found = values-fail (c .before .before .before .before .before .before .before .before .before .before .pre) _ (c .before .before .before .before .before .before .before .order-failing .ensures) (c .before .before .before .before .before .if1 .left) (c .before .before .values-failing .ensures .0) (c .if2 .taken);
-  breaking = λ z. absurd (c .if2 .taken z);
-}
+returns-2 c = record { found = values-fail (c .before .before .before .before .before .before .before .before .before .before .pre) _ (c .before .before .before .before .before .before .before .order-failing .ensures) (c .before .before .before .before .before .if1 .left) (c .before .before .values-failing .ensures .0) (c .if2 .taken); breaking = λ z. absurd (c .if2 .taken z) }
 
 slice-aggregate-blocks-failing : tie.Need-slice-aggregate-blocks-failing
 slice-aggregate-blocks-failing c = sym (c .before .before .before .values-failing .ensures .1 (c .before .if2 .left) .chains .places)

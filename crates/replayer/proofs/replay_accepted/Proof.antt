@@ -1,7 +1,6 @@
 -- `replayer::replay_accepted` meets its contract. Assumes nothing.
 use mathlib.Core.Path.{sym}
 use Prim.Native.Nat.{_+_}
-use native.Mathlib.Omega.{arith}
 use lib.Seq.{length-take-le}
 use borrow.Author.Tests.{not-true, not-false}
 use Rattle.laws.proofs.Accepted.{accepted-of}
@@ -39,10 +38,8 @@ lengths-add-up-requires : tie.Need-lengths-add-up-requires
 lengths-add-up-requires c κs =
     let entry = c .before .before .before .before .before .before .before .before .before .before .before in
     let ok = accepted-of _ (entry .pre) in
-    record {
-      ready = record { accepted = ok; few = omega (arith, length-take-le (c .before .before .before .before .before .before .before .switches .result + 1) (entry .args .schedule .now) (lengths-fit _ _ _ _ (c .before .before .before .inputs-of .ensures .values) (c .before .if2 .left)), c .before .before .before .before .before .before .before .switches .ensures, ok .few-switches) };
-      counted = c .before .before .before .inputs-of .ensures .counted;
-    }
+    let fit = length-take-le (c .before .before .before .before .before .before .before .switches .result + 1) (entry .args .schedule .now) (lengths-fit _ _ _ _ (c .before .before .before .inputs-of .ensures .values) (c .before .if2 .left)) in
+    search needs
 
 returns-3 : tie.Need-returns-3
 returns-3 c =
@@ -54,9 +51,9 @@ slice-aggregate-replay-blocks c = sym (places _ _ _ _ (c .before .before .before
 
 replay-blocks-requires : tie.Need-replay-blocks-requires
 replay-blocks-requires c κs =
-    let at-if1 = c .before .before .before .before .before .before .before .before .before in
-    let ok = accepted-of _ (at-if1 .before .before .before .before .before .before .pre) in
-    record { accepted = ok; all-given = records-have-places _ _ _ _ ok (c .before .before .before .before .before .before .before .inputs-of .ensures .values); room = omega (arith, at-if1 .if1 .left, at-if1 .before .items .ensures .0) }
+    let ok = accepted-of _ (c .before .before .before .before .before .before .before .before .before .before .before .before .before .before .before .pre) in
+    let given = records-have-places _ _ _ _ ok (c .before .before .before .before .before .before .before .inputs-of .ensures .values) in
+    search needs
 
 same-length : tie.Need-same-length
 same-length c = search needs
