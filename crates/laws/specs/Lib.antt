@@ -3,4 +3,5 @@ pub mod Order
 pub mod AllHold
 pub mod RowCounts
 pub mod Written
+pub mod Bounded
 pub mod Sizes

@@ -23,7 +23,7 @@ loop-holds : tie.Need-loop-holds Inv-loop μ-loop
 loop-holds c = putting-start _ _ _ _ (c .before .before .before .pre .0) (c .before .before .before .pre .1 .0) _ (c .first-of .ensures)
 
 kind-of-requires : tie.Need-kind-of-requires Inv-loop μ-loop
-kind-of-requires c κs = (omega arith, omega (arith, c .before .loop .inv .inside, c .before .before .before .before .before .pre .0 .size))
+kind-of-requires c κs = omega (arith, c .before .loop .inv .inside, c .before .before .before .before .before .pre .0 .size)
 
 at-requires : tie.Need-at-requires Inv-loop μ-loop
 at-requires c κs = search needs
@@ -41,7 +41,7 @@ add-lines : tie.Need-add-lines Inv-loop μ-loop
 add-lines c = omega (arith, c .before .before .before .loop .inv .counted, few-lines-from _ (c .before .before .before .before .before .before .before .pre .0) (c .before .before .before .before .before .before .before .args .t) _ (c .before .before .before .before .before .before .before .pre .0 .firsts _ (c .before .before .before .before .before .before .before .pre .1 .0)))
 
 next-of-requires : tie.Need-next-of-requires Inv-loop μ-loop
-next-of-requires c κs = (omega arith, omega (arith, c .before .before .before .loop .inv .inside, c .before .before .before .before .before .before .before .pre .0 .size))
+next-of-requires c κs = omega (arith, c .before .before .before .loop .inv .inside, c .before .before .before .before .before .before .before .pre .0 .size)
 
 loop-less : tie.Need-loop-less Inv-loop μ-loop
 loop-less c = fewer-lines _ _ _ _ (c .before .before .before .before .before .before .before .before .pre .0) (c .before .before .before .before .before .before .before .before .pre .1 .0) _ _ _ (c .before .before .before .before .loop .inv) (c .before .before .before .loop-test .taken) _ (c .next-of .ensures)

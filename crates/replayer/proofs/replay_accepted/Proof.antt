@@ -23,7 +23,7 @@ items-requires : tie.Need-items-requires
 items-requires c κs = search needs
 
 returns : tie.Need-returns
-returns c = answers-10 (c .before .before .before .before .before .before .args .case .now) (c .before .before .before .before .before .before .args .schedule .now) (c .before .before .before .before .before .before .args .items .now) (c .before .before .before .before .before .before .pre .0) (c .before .before .before .before .before .before .pre .1) _ _ (c .before .before .switches .ensures) (c .before .items .ensures .0) (c .if1 .taken)
+returns c = answers-10 (c .before .before .before .before .before .before .args .case .now) (c .before .before .before .before .before .before .args .schedule .now) (c .before .before .before .before .before .before .args .items .now) (c .before .before .before .before .before .before .pre .0) (c .before .before .before .before .before .before .pre .1) _ _ (c .before .before .switches .ensures) (c .before .items .ensures .is) (c .if1 .taken)
 
 inputs-of-requires : tie.Need-inputs-of-requires
 inputs-of-requires c κs = search needs
@@ -31,7 +31,7 @@ inputs-of-requires c κs = search needs
 returns-2 : tie.Need-returns-2
 returns-2 c =
     let entry = c .before .before .before .before .before .before .before .before .before .before in
-    answers-12 (entry .args .case .now) (entry .args .schedule .now) (entry .args .items .now) (entry .pre .0) (entry .pre .1) _ _ (c .before .before .before .before .before .before .switches .ensures) (c .before .before .before .before .before .items .ensures .0) (c .before .before .before .before .if1 .left) _ (c .before .before .inputs-of .ensures .values) (c .if2 .taken)
+    answers-12 (entry .args .case .now) (entry .args .schedule .now) (entry .args .items .now) (entry .pre .0) (entry .pre .1) _ _ (c .before .before .before .before .before .before .switches .ensures) (c .before .before .before .before .before .items .ensures .is) (c .before .before .before .before .if1 .left) _ (c .before .before .inputs-of .ensures .values) (c .if2 .taken)
 
 slice-aggregate-lengths : tie.Need-slice-aggregate-lengths
 slice-aggregate-lengths c = sym (length-take-le _ _ (lengths-fit _ _ _ _ (c .before .before .before .inputs-of .ensures .values) (c .before .if2 .left)))
@@ -44,14 +44,14 @@ lengths-add-up-requires c κs =
 returns-3 : tie.Need-returns-3
 returns-3 c =
     let entry = c .before .before .before .before .before .before .before .before .before .before .before .before .before in
-    answers-13 (entry .args .case .now) (entry .args .schedule .now) (entry .args .items .now) (entry .pre .0) (entry .pre .1) _ _ (c .before .before .before .before .before .before .before .before .before .switches .ensures) (c .before .before .before .before .before .before .before .before .items .ensures .0) (c .before .before .before .before .before .before .before .if1 .left) _ (c .before .before .before .before .before .inputs-of .ensures .values) (c .before .before .before .if2 .left) _ (c .before .lengths-add-up .ensures) (not-true _ (c .if3 .taken))
+    answers-13 (entry .args .case .now) (entry .args .schedule .now) (entry .args .items .now) (entry .pre .0) (entry .pre .1) _ _ (c .before .before .before .before .before .before .before .before .before .switches .ensures) (c .before .before .before .before .before .before .before .before .items .ensures .is) (c .before .before .before .before .before .before .before .if1 .left) _ (c .before .before .before .before .before .inputs-of .ensures .values) (c .before .before .before .if2 .left) _ (c .before .lengths-add-up .ensures) (not-true _ (c .if3 .taken))
 
 slice-aggregate-replay-blocks : tie.Need-slice-aggregate-replay-blocks
 slice-aggregate-replay-blocks c = sym (places _ _ _ _ (c .before .before .before .before .before .before .inputs-of .ensures .values))
 
 replay-blocks-requires : tie.Need-replay-blocks-requires
 replay-blocks-requires c κs =
-    (c .before .before .before .before .before .before .before .before .before .before .before .before .before .before .before .pre .0, (records-have-places _ _ _ _ (c .before .before .before .before .before .before .before .before .before .before .before .before .before .before .before .pre .0) (c .before .before .before .before .before .before .before .inputs-of .ensures .values), omega (arith, c .before .before .before .before .before .before .before .before .before .if1 .left, c .before .before .before .before .before .before .before .before .before .before .items .ensures .0)))
+    (c .before .before .before .before .before .before .before .before .before .before .before .before .before .before .before .pre .0, (records-have-places _ _ _ _ (c .before .before .before .before .before .before .before .before .before .before .before .before .before .before .before .pre .0) (c .before .before .before .before .before .before .before .inputs-of .ensures .values), omega (arith, c .before .before .before .before .before .before .before .before .before .if1 .left, c .before .before .before .before .before .before .before .before .before .before .items .ensures .is)))
 
 same-length : tie.Need-same-length
 same-length c = search needs
@@ -61,7 +61,7 @@ returns-4 c =
     let at-if3 = c .before .before .before .before .before in
     let at-if1 = at-if3 .before .before .before .before .before .before .before in
     let entry = at-if1 .before .before .before .before .before .before in
-    answers-run (entry .args .case .now) (entry .args .schedule .now) (entry .args .items .now) (entry .pre .0) (entry .pre .1) _ _ (at-if1 .before .before .switches .ensures) (at-if1 .before .items .ensures .0) (at-if1 .if1 .left) _ (at-if3 .before .before .before .before .before .inputs-of .ensures .values) (at-if3 .before .before .before .if2 .left) _ (at-if3 .before .lengths-add-up .ensures) _ _ (not-false _ (at-if3 .if3 .left)) (c .before .before .replay-blocks .ensures)
+    answers-run (entry .args .case .now) (entry .args .schedule .now) (entry .args .items .now) (entry .pre .0) (entry .pre .1) _ _ (at-if1 .before .before .switches .ensures) (at-if1 .before .items .ensures .is) (at-if1 .if1 .left) _ (at-if3 .before .before .before .before .before .inputs-of .ensures .values) (at-if3 .before .before .before .if2 .left) _ (at-if3 .before .lengths-add-up .ensures) _ _ (not-false _ (at-if3 .if3 .left)) (c .before .before .replay-blocks .ensures)
 
 pub replay-accepted-spec : {M : Type 1} → statement M
 replay-accepted-spec =

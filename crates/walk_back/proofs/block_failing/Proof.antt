@@ -26,7 +26,7 @@ cast-t : tie.Need-cast-t Inv-loop μ-loop
 cast-t c = record { fits = omega (arith, block-thread (c .before .before .before .before .before .pre .0 .0) (c .before .before .before .before .before .pre .0 .1) _ (c .threads .ensures)) }
 
 loop-holds : tie.Need-loop-holds Inv-loop μ-loop
-loop-holds c = block-start _ _ _ _ (c .before .items .ensures .0) (c .before .before .before .before .before .pre .1 .1 .0)
+loop-holds c = block-start _ _ _ _ (c .before .items .ensures .is) (c .before .before .before .before .before .pre .1 .1 .0)
 
 add-copy-of : tie.Need-add-copy-of Inv-loop μ-loop
 add-copy-of c = search needs
@@ -53,11 +53,11 @@ returns : tie.Need-returns Inv-loop μ-loop
 returns c =
     let line = c .before .before .before .before .before in
     let start = line .before .before .before .before .before .before .before in
-    block-found _ _ _ _ (line .before .before .before .items .ensures .0) (line .before .loop .inv) (line .loop-test .taken) (start .pre .0 .0) (start .pre .1 .0) _ (start .pre .0 .1) refl _ (line .before .before .threads .ensures) _
+    block-found _ _ _ _ (line .before .before .before .items .ensures .is) (line .before .loop .inv) (line .loop-test .taken) (start .pre .0 .0) (start .pre .1 .0) _ (start .pre .0 .1) refl _ (line .before .before .threads .ensures) _
     (c .before .before .before .before .copy-of .ensures) _ (c .before .before .decided-value .ensures) (c .if1 .taken) _
 
 add-at : tie.Need-add-at Inv-loop μ-loop
-add-at c = omega (arith, block-room _ _ _ _ (c .before .before .before .before .before .before .before .before .items .ensures .0) (c .before .before .before .before .before .before .loop .inv) (c .before .before .before .before .before .loop-test .taken), c .before .before .before .before .before .before .before .before .before .before .before .before .pre .1 .1 .1)
+add-at c = omega (arith, block-room _ _ _ _ (c .before .before .before .before .before .before .before .before .items .ensures .is) (c .before .before .before .before .before .before .loop .inv) (c .before .before .before .before .before .loop-test .taken), c .before .before .before .before .before .before .before .before .before .before .before .before .pre .1 .1 .1)
 
 add-g : tie.Need-add-g Inv-loop μ-loop
 add-g c = search needs
@@ -69,11 +69,11 @@ loop-again : tie.Need-loop-again Inv-loop μ-loop
 loop-again c =
     let line = c .before .before .before .before .before in
     let start = line .before .before .before .before .before .before .before in
-    block-more _ _ _ _ (line .before .before .before .items .ensures .0) (line .before .loop .inv) (line .loop-test .taken) (start .pre .0 .0) (start .pre .1 .0) _ (start .pre .0 .1) refl _ (line .before .before .threads .ensures) _
+    block-more _ _ _ _ (line .before .before .before .items .ensures .is) (line .before .loop .inv) (line .loop-test .taken) (start .pre .0 .0) (start .pre .1 .0) _ (start .pre .0 .1) refl _ (line .before .before .threads .ensures) _
     (c .before .before .before .before .copy-of .ensures) _ (c .before .before .decided-value .ensures) (c .if1 .left)
 
 returns-2 : tie.Need-returns-2 Inv-loop μ-loop
-returns-2 c = block-end _ _ _ _ (c .before .before .before .items .ensures .0) (c .before .loop .inv) (c .loop-test .left)
+returns-2 c = block-end _ _ _ _ (c .before .before .before .items .ensures .is) (c .before .loop .inv) (c .loop-test .left)
 
 pub block-failing-spec : {M : Type 1} → statement M
 block-failing-spec =
