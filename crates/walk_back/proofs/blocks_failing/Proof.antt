@@ -26,7 +26,7 @@ add-start-of-block : tie.Need-add-start-of-block Inv-loop μ-loop
 add-start-of-block c = search needs
 
 start-of-block-requires-2 : tie.Need-start-of-block-requires-2 Inv-loop μ-loop
-start-of-block-requires-2 c κs = (c .before .before .before .before .before .before .before .pre .0, omega (arith, c .loop-test .taken, c .before .before .before .switches .ensures, c .before .before .before .before .before .before .before .pre .0 .few-switches))
+start-of-block-requires-2 c κs = record { accepted = c .before .before .before .before .before .before .before .pre .0; block = omega (arith, c .loop-test .taken, c .before .before .before .switches .ensures, c .before .before .before .before .before .before .before .pre .0 .few-switches) }
 
 block-failing-requires : tie.Need-block-failing-requires Inv-loop μ-loop
 block-failing-requires c κs = (
