@@ -1,3 +1,4 @@
+pub mod Sized
 pub mod Accepted
 pub mod Order
 pub mod AllHold
