@@ -1,22 +1,19 @@
--- The checks in order: what each answer of the code says of the verdict, and what a passed check gives to the later ones.
+-- The checks in order: what each answer of the code says of the verdict.
 -- Assumes nothing.
 use mathlib.Core.Path.{_≡_, refl, sym, ap₂, _∙_}
 use mathlib.Core.Logic.{_≢_}
-use Prim.Native.Nat.{ℕ, zero, suc, _-_, _%_, _≤_}
+use Prim.Native.Nat.{ℕ, zero, suc, _-_}
 use mathlib.Core.Bool.{Bool, true, false, _&&_}
 use mathlib.Core.List.{List}
 use native.Mathlib.Omega.{arith}
-use borrow.Author.Tests.{eq-eqb, ne-eqb, leb-true, eqb-true, lt-leb}
+use borrow.Author.Tests.{eq-eqb, ne-eqb, lt-leb}
 use lib.Dec.{leb, eqb}
-use lib.ListN.{length}
-use Rattle.model.specs.Limits.{leastThreads, mostThreads, mostGlobals, mostRecords, headerBytes, recordBytes}
+use Rattle.model.specs.Limits.{mostThreads, mostGlobals}
 use Rattle.model.specs.Lists.{allFrom, unless}
-use Rattle.model.specs.CaseFile.{records, threadCount, globalCount, firstRecord, initialValue}
+use Rattle.model.specs.CaseFile.{threadCount, globalCount, firstRecord, initialValue}
 use Rattle.model.specs.Accept.{sizeOk, threadsOk, switchesOk, itemsOk, absentOk, linksOk, reachedOk, lengthsOk, brokenRecord, verdict}
 use Rattle.model.specs.declared.Verdict.{Verdict}
 use Rattle.model.specs.declared.Verdict.the-variants.{Accepted, Refused}
-use Rattle.laws.proofs.Views.{and-true}
-use Rattle.case_file.specs.Sized.{Sized}
 use Rattle.links.specs.Links.{failing6to8, linksRefusal}
 use Rattle.accept.specs.HeaderPassed.{HeaderPassed}
 
@@ -68,20 +65,6 @@ module _ (bytes : List ℕ) (h : HeaderPassed bytes) (number : ℕ) (en : number
 
     pub accepted : place ≡ 0 → Accepted ≡ verdict bytes
     accepted good = sym (from-6 ∙ rw (eq-eqb number 0 ok, ← e, eq-eqb place 0 good))
-
--- 1
-pub sized : (bytes : List ℕ) → sizeOk bytes ≡ true → Sized bytes
-sized bytes e =
-    let whole = and-true (leb headerBytes (length bytes)) _ e in
-    let rest = and-true (eqb ((length bytes - headerBytes) % recordBytes) 0) _ (whole .1) in
-    record {
-      size = omega (arith, leb-true headerBytes (length bytes) (whole .0), eqb-true ((length bytes - headerBytes) % recordBytes) 0 (rest .0));
-      few-records = leb-true (records bytes) mostRecords (rest .1);
-    }
-
--- 2
-pub few-threads : (bytes : List ℕ) → threadsOk bytes ≡ true → threadCount bytes ≤ mostThreads
-few-threads bytes e = leb-true (threadCount bytes) mostThreads (and-true (leb leastThreads (threadCount bytes)) _ e .1)
 
 -- 5
 all-of-same : (test other : ℕ → Bool) (i many : ℕ) → ((j : ℕ) → test j ≡ other j) → allFrom test i many ≡ allFrom other i many

@@ -1,7 +1,7 @@
 // Checks 1 to 5: the size of a case and its header.
 ghost use mathlib.Core.Path.{_≡_};
 ghost use Rattle.model.specs.Accept.{sizeOk, threadsOk, switchesOk, itemsOk, absentOk};
-ghost use Rattle.case_file.specs.Sized.{Sized};
+ghost use Rattle.laws.specs.Sized.{Sized};
 use case_file::FIRSTS;
 use case_file::INITIALS;
 use case_file::all_at_most;

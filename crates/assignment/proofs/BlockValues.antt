@@ -21,21 +21,31 @@ use Rattle.assignment.specs.Numbers.{Filled, initialItem, numberFrom, St
 
 -- ---- An array filled one after the other
 
-pub filled-start : (value : ℕ → ℕ) (items : List ℕ) → items ≡ replicate mostItems 0 → Filled value 0 items
-filled-start value items e = record { wide = rw e; filled = λ g h. absurd (omega arith) }
-
-pub filled-more : (value : ℕ → ℕ) (g x : ℕ) (items : List ℕ) → Filled value g items → g < mostItems → x ≡ value g → Filled value (g + 1) (set items g x)
-filled-more value g x items v h e = record {
-  wide = length-set items g x ∙ v .wide;
-  filled = λ j small. at j small (eq-view j g);
-}
-  where
-    at : (j : ℕ) → j < g + 1 → EqView j g → getD (set items g x) j 0 ≡ value j
-    at j small (same p q) = ap (λ (i : ℕ). getD (set items g x) i 0) p ∙ getD-set-same items g x 0 (omega (arith, v .wide)) ∙ e ∙ ap value (sym p)
-    at j small (diff n q) = getD-set-other items g j x 0 n ∙ v .filled j (omega arith)
-
 pub filled-all : (value : ℕ → ℕ) (g count : ℕ) (items : List ℕ) → Filled value g items → count ≤ g → Filled value count items
 filled-all value g count items v h = record { wide = v .wide; filled = λ j small. v .filled j (omega arith) }
+
+-- The first g of so many.
+pub record Filling (value : ℕ → ℕ) (count g : ℕ) (items : List ℕ) : Type 0 where
+  pub upto : g ≤ count
+  pub here : Filled value g items
+
+module _ {value : ℕ → ℕ} {count : ℕ} where
+  pub filling-start : Filling value count 0 (replicate mostItems 0)
+  filling-start = record { upto = omega arith; here = record { wide = refl; filled = λ g h. absurd (omega arith) } }
+
+  module _ {g : ℕ} {items : List ℕ} (v : Filling value count g items) where
+    pub filling-more : (x : ℕ) → g < count → count ≤ mostItems → x ≡ value g → Filling value count (g + 1) (set items g x)
+    filling-more x h few e = record {
+      upto = omega arith;
+      here = record { wide = length-set items g x ∙ v .here .wide; filled = λ j small. at j small (eq-view j g) };
+    }
+      where
+        at : (j : ℕ) → j < g + 1 → EqView j g → getD (set items g x) j 0 ≡ value j
+        at j small (same p q) = ap (λ (i : ℕ). getD (set items g x) i 0) p ∙ getD-set-same items g x 0 (omega (arith, v .here .wide)) ∙ e ∙ ap value (sym p)
+        at j small (diff n q) = getD-set-other items g j x 0 n ∙ v .here .filled j (omega arith)
+
+    pub filling-end : count ≤ g → Filled value count items
+    filling-end h = filled-all value g count items (v .here) h
 
 -- ---- The values where the run starts
 

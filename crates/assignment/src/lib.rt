@@ -1,11 +1,10 @@
 // What is read of an assignment: the block number and the value of a record, and the items' values where a block starts.
 ghost use mathlib.Core.Path.{_≡_};
-ghost use Prim.Native.Nat.{_+_, _-_, _*_, _≤_, _<_};
-ghost use lib.ListN.{length};
+ghost use Prim.Native.Nat.{_-_, _*_};
 ghost use Rattle.model.specs.Word.{wordSize};
-ghost use Rattle.model.specs.Limits.{mostSwitches, mostItems, mostVariables};
-ghost use Rattle.laws.specs.Accepted.{Accepted};
-ghost use Rattle.assignment.specs.Numbers.{recordBlock, recordValue, Filled, numberFrom, StartOf};
+ghost use Rattle.model.specs.Limits.{mostItems};
+ghost use Rattle.laws.specs.Bounded.{Bounded};
+ghost use Rattle.assignment.specs.Numbers.{recordBlock, recordValue, Filled, numberFrom, StartOf, HasItems, ItemsFrom, AtBlock};
 use case_file::first_items;
 use case_file::items;
 use case_file::records;
@@ -14,7 +13,7 @@ use numbers::at;
 
 // Where the two numbers of record k start.
 fn start_of(k: u16) -> usize
-    ensures { λ r. ⌜ (r ≡ 2 * (k - 1)) × (r < 2 * wordSize) ⌝ }
+    ensures { λ r. ⌜ Bounded (2 * (k - 1)) (2 * (wordSize - 1)) r ⌝ }
 {
     if k == 0 {
         return 0;
@@ -38,7 +37,7 @@ pub fn value_of(assignment: &[u16], k: u16) -> u16
 
 // As many numbers as there can be items, from a place on: the length is fixed, so that they are copied at once.
 fn most_items_at(assignment: &[u16], place: usize) -> [u16; ITEMS]
-    requires { ⌜ (place ≤ mostVariables) × (place + mostItems ≤ length (now assignment)) ⌝ }
+    requires { ⌜ HasItems (now assignment) place ⌝ }
     ensures { λ r. ⌜ Filled (numberFrom (now (assignment .entry)) place) mostItems r ⌝ }
 {
     let mut items = [0u16; ITEMS];
@@ -52,7 +51,7 @@ fn most_items_at(assignment: &[u16], place: usize) -> [u16; ITEMS]
 
 // So many numbers of an assignment from a place on, as items' values.
 fn items_at(assignment: &[u16], place: usize, count: usize) -> [u16; ITEMS]
-    requires { ⌜ (place ≤ mostVariables) × (count ≤ mostItems) ⌝ }
+    requires { ⌜ ItemsFrom place count ⌝ }
     ensures { λ r. ⌜ Filled (numberFrom (now (assignment .entry)) place) count r ⌝ }
 {
     if place + ITEMS <= assignment.len() {
@@ -69,7 +68,7 @@ fn items_at(assignment: &[u16], place: usize, count: usize) -> [u16; ITEMS]
 
 // The items' values where block i starts.
 pub fn start_of_block(case: &[u8], assignment: &[u16], i: u16) -> [u16; ITEMS]
-    requires { ⌜ Accepted (now case) × (i ≤ mostSwitches) ⌝ }
+    requires { ⌜ AtBlock (now case) i ⌝ }
     ensures { λ r. ⌜ StartOf (now (case .entry)) (now (assignment .entry)) i r ⌝ }
 {
     if i == 0 {

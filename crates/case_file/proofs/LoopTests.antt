@@ -1,6 +1,6 @@
 -- Tests of a range of numbers as loops meet them, and what an answer of a test, or a number that was read, says.
 -- Assumes nothing.
-use mathlib.Core.Path.{_≡_, sym, _∙_}
+use mathlib.Core.Path.{_≡_, sym, ap, _∙_}
 use Prim.Native.Nat.{ℕ, suc, _+_, _-_, _≤_, _<_}
 use mathlib.Core.Bool.{Bool, true, false, not, _&&_}
 use native.Mathlib.Omega.{arith}
@@ -27,8 +27,17 @@ module _ (test : ℕ → Bool) (i to : ℕ) where
   unfolding allFrom
   all-next h = let e : to - i ≡ suc (to - (i + 1)) = omega arith in rw (e, add-one)
 
-pub one-less : (m : ℕ) → m + 1 - 1 ≡ m
-one-less m = omega arith
+-- A walk over the numbers from 1 to `most`, at k: those that are left decide what is asked of all.
+pub record RangeLeft {A : Type 0} (asked : ℕ → ℕ → A) (most k : ℕ) : Type 0 where
+  pub counted : 1 ≤ k
+  pub left : asked k (most + 1 - k) ≡ asked 1 most
+
+module _ {A : Type 0} {asked : ℕ → ℕ → A} {most : ℕ} where
+  pub range-start : RangeLeft asked most 1
+  range-start = record { counted = omega arith; left = ap (asked 1) (omega arith) }
+
+  pub range-more : {k : ℕ} → RangeLeft asked most k → asked k (most + 1 - k) ≡ asked (k + 1) (most + 1 - (k + 1)) → RangeLeft asked most (k + 1)
+  range-more v e = record { counted = omega arith; left = sym e ∙ v .left }
 
 -- A number x that was read as r.
 pub over-leb : {r x m : ℕ} → r ≡ x → m < r → leb x m ≡ false

@@ -1,3 +1,3 @@
 pub mod Records
-pub mod Sized
+pub mod Present
 pub mod FirstItems

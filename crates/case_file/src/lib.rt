@@ -3,12 +3,14 @@ ghost use mathlib.Core.Path.{_≡_};
 ghost use Prim.Native.Nat.{_+_, _-_, _*_, _<_, _≤_};
 ghost use lib.Dec.{leb};
 ghost use lib.ListN.{length};
-ghost use Rattle.model.specs.Limits.{mostThreads, mostSwitches, mostGlobals, mostItems, mostVariables, headerBytes, recordBytes};
+ghost use Rattle.model.specs.Limits.{mostThreads, mostSwitches, mostGlobals, mostItems, mostVariables, headerBytes};
 ghost use Rattle.model.specs.CaseFile.{field, records, threadCount, switchCount, globalCount, mutexCount, firstRecord, initialValue, nextRecord, recordField, caseOf, itemCount};
 ghost use Rattle.model.specs.Lists.{allFrom};
 ghost use Rattle.model.specs.Assignment.{variables};
 ghost use Rattle.laws.specs.Accepted.{Accepted};
+ghost use Rattle.laws.specs.Bounded.{Bounded};
 ghost use Rattle.case_file.specs.FirstItems.{firstItems};
+ghost use Rattle.case_file.specs.Present.{InHeader, HasGlobals, HasFields, HasRecord, HasField};
 ghost use Rattle.case_file.specs.Records.{recordOf};
 
 // Which field of the header is thread 0's first record, and which is global 0's initial value.
@@ -37,7 +39,7 @@ pub struct Link {
 
 // A byte as half of a field.
 fn wide(x: u8) -> u16
-    ensures { λ r. ⌜ (r ≡ x) × (r < 256) ⌝ }
+    ensures { λ r. ⌜ Bounded x 255 r ⌝ }
 {
     x as u16
 }
@@ -84,7 +86,7 @@ pub fn mutexes(case: &[u8]) -> u16
 
 // The first record of thread t; 0 if it has no lines.
 pub fn first_of(case: &[u8], t: usize) -> usize
-    requires { ⌜ (t < mostThreads) × (headerBytes ≤ length (now case)) ⌝ }
+    requires { ⌜ InHeader (now case) t mostThreads ⌝ }
     ensures { λ r. ⌜ r ≡ firstRecord (now (case .entry)) t ⌝ }
 {
     field_at(case, FIRSTS + t) as usize
@@ -92,7 +94,7 @@ pub fn first_of(case: &[u8], t: usize) -> usize
 
 // The initial value of global g.
 pub fn initial_of(case: &[u8], g: usize) -> u16
-    requires { ⌜ (g < mostGlobals) × (headerBytes ≤ length (now case)) ⌝ }
+    requires { ⌜ InHeader (now case) g mostGlobals ⌝ }
     ensures { λ r. ⌜ r ≡ initialValue (now (case .entry)) g ⌝ }
 {
     field_at(case, INITIALS + g)
@@ -100,7 +102,7 @@ pub fn initial_of(case: &[u8], g: usize) -> u16
 
 // The items where a run starts: the globals at their initial values, and the rest at 0.
 pub fn first_items(case: &[u8]) -> [u16; model::ITEMS]
-    requires { ⌜ (headerBytes ≤ length (now case)) × (globalCount (now case) ≤ mostGlobals) ⌝ }
+    requires { ⌜ HasGlobals (now case) ⌝ }
     ensures { λ r. ⌜ r ≡ firstItems (now (case .entry)) (globalCount (now (case .entry))) ⌝ }
 {
     let globals = globals(case) as usize;
@@ -124,28 +126,28 @@ pub fn records(case: &[u8]) -> usize
 // How many items an accepted case has, how many block values, and how many variables in all.
 pub fn items(case: &[u8]) -> usize
     requires { ⌜ Accepted (now case) ⌝ }
-    ensures { λ r. ⌜ (r ≡ itemCount (caseOf (now (case .entry)))) × (r ≤ mostItems) ⌝ }
+    ensures { λ r. ⌜ Bounded (itemCount (caseOf (now (case .entry)))) mostItems r ⌝ }
 {
     globals(case) as usize + mutexes(case) as usize
 }
 
 pub fn block_values(case: &[u8]) -> usize
     requires { ⌜ Accepted (now case) ⌝ }
-    ensures { λ r. ⌜ (r ≡ switchCount (now (case .entry)) * itemCount (caseOf (now (case .entry)))) × (r ≤ mostSwitches * mostItems) ⌝ }
+    ensures { λ r. ⌜ Bounded (switchCount (now (case .entry)) * itemCount (caseOf (now (case .entry)))) (mostSwitches * mostItems) r ⌝ }
 {
     switches(case) as usize * items(case)
 }
 
 pub fn variables(case: &[u8]) -> usize
     requires { ⌜ Accepted (now case) ⌝ }
-    ensures { λ r. ⌜ (r ≡ variables (caseOf (now (case .entry)))) × (r ≤ mostVariables) ⌝ }
+    ensures { λ r. ⌜ Bounded (variables (caseOf (now (case .entry)))) mostVariables r ⌝ }
 {
     2 * records(case) + block_values(case)
 }
 
 // Field j of record k, from 1.
 fn field_of(case: &[u8], k: usize, j: usize) -> u16
-    requires { ⌜ (j < 8) × (headerBytes + recordBytes * k ≤ length (now case)) ⌝ }
+    requires { ⌜ HasField (now case) k j ⌝ }
     ensures { λ r. ⌜ r ≡ recordField (now (case .entry)) k j ⌝ }
 {
     field_at(case, 8 + 8 * k + j)
@@ -153,7 +155,7 @@ fn field_of(case: &[u8], k: usize, j: usize) -> u16
 
 // Record k as a line of thread t.
 pub fn record_at(case: &[u8], t: u16, k: usize) -> Record
-    requires { ⌜ (1 ≤ k) × (headerBytes + recordBytes * k ≤ length (now case)) ⌝ }
+    requires { ⌜ HasRecord (now case) k ⌝ }
     ensures { λ r. ⌜ r ≡ recordOf (now (case .entry)) t k ⌝ }
 {
     Record {
@@ -170,7 +172,7 @@ pub fn record_at(case: &[u8], t: u16, k: usize) -> Record
 
 // The kind of record k.
 pub fn kind_of(case: &[u8], k: usize) -> u16
-    requires { ⌜ (1 ≤ k) × (headerBytes + recordBytes * k ≤ length (now case)) ⌝ }
+    requires { ⌜ HasRecord (now case) k ⌝ }
     ensures { λ r. ⌜ r ≡ recordField (now (case .entry)) k 1 ⌝ }
 {
     field_of(case, k, 1)
@@ -178,7 +180,7 @@ pub fn kind_of(case: &[u8], k: usize) -> u16
 
 // The record after record k in its chain; 0 at the end.
 pub fn next_of(case: &[u8], k: usize) -> usize
-    requires { ⌜ (1 ≤ k) × (headerBytes + recordBytes * k ≤ length (now case)) ⌝ }
+    requires { ⌜ HasRecord (now case) k ⌝ }
     ensures { λ r. ⌜ r ≡ nextRecord (now (case .entry)) k ⌝ }
 {
     field_at(case, 8 + 8 * k) as usize
@@ -186,7 +188,7 @@ pub fn next_of(case: &[u8], k: usize) -> usize
 
 // Whether the header's fields from `base + from` to before `base + to` are at most a number.
 pub fn all_at_most(case: &[u8], base: usize, from: usize, to: usize, most: usize) -> bool
-    requires { ⌜ (2 * (base + to) ≤ headerBytes) × (headerBytes ≤ length (now case)) ⌝ }
+    requires { ⌜ HasFields (now case) (base + to) ⌝ }
     ensures { λ r. ⌜ r ≡ allFrom (λ j. leb (field (now (case .entry)) (base + j)) most) from (to - from) ⌝ }
 {
     let mut j = from;

@@ -28,7 +28,7 @@ nearest-line bytes t k ok low = go (eq-view k 0)
   where
     go : EqView k 0 → Nearest k (linesFrom bytes t k)
     go (same z _) = rw (lines-end bytes t k z) z
-    go (diff some _) = rw (lines-more bytes ok t k some low) (refl, some)
+    go (diff some _) = rw (lines-more bytes ok t k some low) (record { number = refl; some = some })
 
 -- Its order rows are put: it is then the nearest of the earlier lines.
 pub order-step :
@@ -37,7 +37,7 @@ pub order-step :
     → T ≡ threadCount bytes → n ≡ switchCount bytes → Walking bytes t (orders (caseOf bytes) t) (Nearest (link .line)) (link .next) out' (at + 6 * orderRowCount) x end len
 unfolding Nearest
 order-step {bytes} {t} {k} {link} puts v ok some line next eT en =
-    walking-more v ok some next (line, λ z. some (sym line ∙ z))
+    walking-more v ok some next (record { number = line; some = λ z. some (sym line ∙ z) })
     (puts (caseOf bytes) (v .earlier) (lineOf bytes t k) (linesFrom bytes t (nextRecord bytes k)) (record { before = v .known; line = line; next = nearest }) eT en) refl
   where
     nearest : Nearest (link .next) (linesFrom bytes t (nextRecord bytes k))

@@ -1,7 +1,7 @@
 -- A case that none of checks 1 to 9 refuses has everything that the record Accepted lists.
 -- Assumes nothing. Met again in every call that goes on after check 9, and in correspondence's Demand3.
 use mathlib.Core.Path.{_≡_, refl}
-use Prim.Native.Nat.{ℕ, _+_, _-_, _*_, _%_, _≤_, _<_}
+use Prim.Native.Nat.{ℕ, _-_, _%_, _≤_, _<_}
 use mathlib.Core.Bool.{Bool, true, false, cond}
 use mathlib.Core.List.{List, []}
 use native.Mathlib.Omega.{arith}
@@ -14,15 +14,19 @@ use Rattle.model.specs.CaseFile.{records, threadCount, switchCount, globalCount
 use Rattle.model.specs.Accept.{sizeOk, threadsOk, switchesOk, itemsOk, absentOk, linksOk, reachedOk, lengthsOk, timesReached, ruleOk, brokenRecord, verdict}
 use Rattle.model.specs.declared.Verdict.{Verdict}
 use Rattle.model.specs.declared.Verdict.the-variants as verdicts
+use Rattle.laws.specs.Sized.{Sized}
 use Rattle.laws.specs.Accepted.{Accepted}
 use Rattle.laws.proofs.Views.{and-true}
 use Rattle.laws.proofs.Ranges.{all-from-gives, none-failing-gives}
 use Rattle.laws.proofs.Reached.{chains-go-on}
 
 -- The test and what follows it, where the answer is no refusal.
-passes : (test : Bool) (next : Verdict) (number place : ℕ) → cond test next (verdicts.Refused number place) ≡ verdicts.Accepted
-    → (test ≡ true) × (next ≡ verdicts.Accepted)
-passes true next number place e = (refl, e)
+record Passed (test : Bool) (next : Verdict) : Type 0 where
+  here : test ≡ true
+  later : next ≡ verdicts.Accepted
+
+passes : (test : Bool) (next : Verdict) (number place : ℕ) → cond test next (verdicts.Refused number place) ≡ verdicts.Accepted → Passed test next
+passes true next number place e = record { here = refl; later = e }
 passes false next number place e = absurd (let z : _≡_ {A = ℕ} 0 1 = cc in omega arith)
 
 -- What the checks say, with the refusals taken apart.
@@ -40,24 +44,37 @@ checked-of : (bytes : List ℕ) → verdict bytes ≡ verdicts.Accepted → Chec
 unfolding verdict
 checked-of bytes e =
     let one = passes (sizeOk bytes) _ 1 0 e in
-    let two = passes (threadsOk bytes) _ 2 0 (one .1) in
-    let three = passes (switchesOk bytes) _ 3 0 (two .1) in
-    let four = passes (itemsOk bytes) _ 4 0 (three .1) in
-    let five = passes (absentOk bytes) _ 5 0 (four .1) in
-    let six = passes (linksOk bytes) _ 6 0 (five .1) in
-    let seven = passes (reachedOk bytes) _ 7 0 (six .1) in
-    let eight = passes (lengthsOk bytes) _ 8 0 (seven .1) in
-    let nine = passes (eqb (brokenRecord bytes) 0) _ 9 (brokenRecord bytes) (eight .1) in
+    let two = passes (threadsOk bytes) _ 2 0 (one .later) in
+    let three = passes (switchesOk bytes) _ 3 0 (two .later) in
+    let four = passes (itemsOk bytes) _ 4 0 (three .later) in
+    let five = passes (absentOk bytes) _ 5 0 (four .later) in
+    let six = passes (linksOk bytes) _ 6 0 (five .later) in
+    let seven = passes (reachedOk bytes) _ 7 0 (six .later) in
+    let eight = passes (lengthsOk bytes) _ 8 0 (seven .later) in
+    let nine = passes (eqb (brokenRecord bytes) 0) _ 9 (brokenRecord bytes) (eight .later) in
     record {
-      size = one .0;
-      threads = two .0;
-      switches = three .0;
-      items = four .0;
-      links = six .0;
-      reached = seven .0;
-      lengths = eight .0;
-      rules = eqb-true (brokenRecord bytes) 0 (nine .0);
+      size = one .here;
+      threads = two .here;
+      switches = three .here;
+      items = four .here;
+      links = six .here;
+      reached = seven .here;
+      lengths = eight .here;
+      rules = eqb-true (brokenRecord bytes) 0 (nine .here);
     }
+
+-- What 1 says, and half of 2.
+pub sized-of : (bytes : List ℕ) → sizeOk bytes ≡ true → Sized bytes
+sized-of bytes e =
+    let whole = and-true (leb headerBytes (length bytes)) _ e in
+    let rest = and-true (eqb ((length bytes - headerBytes) % recordBytes) 0) _ (whole .1) in
+    record {
+      size = omega (arith, leb-true headerBytes (length bytes) (whole .0), eqb-true ((length bytes - headerBytes) % recordBytes) 0 (rest .0));
+      few-records = leb-true (records bytes) mostRecords (rest .1);
+    }
+
+pub few-threads-of : (bytes : List ℕ) → threadsOk bytes ≡ true → threadCount bytes ≤ mostThreads
+few-threads-of bytes e = leb-true (threadCount bytes) mostThreads (and-true (leb leastThreads (threadCount bytes)) _ e .1)
 
 module _ (bytes : List ℕ) (checks : Checked bytes) where
   each-record : (test : ℕ → Bool) → allFrom test 1 (records bytes) ≡ true → (k : ℕ) → 0 < k → k ≤ records bytes → test k ≡ true
@@ -66,47 +83,47 @@ module _ (bytes : List ℕ) (checks : Checked bytes) where
   each-thread : (test : ℕ → Bool) → allFrom test 0 (threadCount bytes) ≡ true → (t : ℕ) → t < threadCount bytes → test t ≡ true
   each-thread test e t h = all-from-gives test 0 (threadCount bytes) e t (omega arith) (omega (arith, h))
 
-  whole-records : (length bytes ≡ headerBytes + recordBytes * records bytes) × (records bytes ≤ mostRecords)
-  whole-records =
-      let first = and-true (leb headerBytes (length bytes)) _ (checks .size) in
-      let second = and-true (eqb ((length bytes - headerBytes) % recordBytes) 0) _ (first .1) in (
-        omega (arith, leb-true headerBytes (length bytes) (first .0), eqb-true ((length bytes - headerBytes) % recordBytes) 0 (second .0)),
-        leb-true (records bytes) mostRecords (second .1),
-      )
-
   abbrev firstOk : ℕ → Bool
   firstOk t = leb (firstRecord bytes t) (records bytes)
 
   abbrev nextOk : ℕ → Bool
   nextOk k = leb (nextRecord bytes k) (records bytes)
 
-  link-tests : (allFrom firstOk 0 (threadCount bytes) ≡ true) × (allFrom nextOk 1 (records bytes) ≡ true)
-      × (allFrom (λ k. leb (timesReached bytes k) 1) 1 (records bytes) ≡ true)
+  abbrev onceOk : ℕ → Bool
+  onceOk k = leb (timesReached bytes k) 1
+
+  -- 6 in its parts
+  record LinkTests : Type 0 where
+    firsts : allFrom firstOk 0 (threadCount bytes) ≡ true
+    nexts : allFrom nextOk 1 (records bytes) ≡ true
+    once : allFrom onceOk 1 (records bytes) ≡ true
+
+  link-tests : LinkTests
   link-tests =
       let first = and-true (allFrom firstOk 0 (threadCount bytes)) _ (checks .links) in
       let second = and-true (allFrom nextOk 1 (records bytes)) _ (first .1) in
-      (first .0, second .0, second .1)
+      record { firsts = first .0; nexts = second .0; once = second .1 }
 
   first-links : (t : ℕ) → t < threadCount bytes → firstRecord bytes t ≤ records bytes
-  first-links t h = leb-true (firstRecord bytes t) (records bytes) (each-thread firstOk (link-tests .0) t h)
+  first-links t h = leb-true (firstRecord bytes t) (records bytes) (each-thread firstOk (link-tests .firsts) t h)
 
   next-links : (k : ℕ) → 0 < k → k ≤ records bytes → nextRecord bytes k ≤ records bytes
-  next-links k low high = leb-true (nextRecord bytes k) (records bytes) (each-record nextOk (link-tests .1) k low high)
+  next-links k low high = leb-true (nextRecord bytes k) (records bytes) (each-record nextOk (link-tests .nexts) k low high)
 
   reached-just-once : (k : ℕ) → 0 < k → k ≤ records bytes → timesReached bytes k ≡ 1
   reached-just-once k low high =
       omega (
         arith,
-        leb-true (timesReached bytes k) 1 (each-record (λ j. leb (timesReached bytes j) 1) (link-tests .2) k low high),
+        leb-true (timesReached bytes k) 1 (each-record onceOk (link-tests .once) k low high),
         leb-true 1 (timesReached bytes k) (each-record (λ j. leb 1 (timesReached bytes j)) (checks .reached) k low high),
       )
 
   accepted : Accepted bytes
   accepted = record {
-    size = whole-records .0;
-    few-records = whole-records .1;
+    size = sized-of bytes (checks .size) .size;
+    few-records = sized-of bytes (checks .size) .few-records;
     some-threads = leb-true leastThreads (threadCount bytes) (and-true _ _ (checks .threads) .0);
-    few-threads = leb-true (threadCount bytes) mostThreads (and-true (leb leastThreads (threadCount bytes)) _ (checks .threads) .1);
+    few-threads = few-threads-of bytes (checks .threads);
     few-switches = leb-true (switchCount bytes) mostSwitches (checks .switches);
     few-globals = leb-true (globalCount bytes) mostGlobals (and-true _ _ (checks .items) .0);
     few-mutexes = leb-true (mutexCount bytes) mostMutexes (and-true (leb (globalCount bytes) mostGlobals) _ (checks .items) .1);

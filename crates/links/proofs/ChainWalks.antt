@@ -8,7 +8,7 @@ use mathlib.Core.List.{List, []}
 use native.Mathlib.Omega.{arith}
 use native.Mathlib.Nat.{zero-add}
 use lib.Dec.{leb}
-use lib.ListN.{length, getD, set, replicate, length-set, length-replicate}
+use lib.ListN.{length, getD, set, length-set, length-replicate}
 use lib.Seq.{getD-set-same, getD-set-other}
 use Rattle.model.specs.Limits.{mostLines, mostRecords, recordPlaces}
 use Rattle.model.specs.Lists.{allFrom, unless}
@@ -17,7 +17,7 @@ use Rattle.model.specs.Accept.{lengthsOk}
 use Rattle.laws.specs.Accepted.{threadLines}
 use Rattle.laws.proofs.Views.{EqView, same, diff, eq-view}
 use Rattle.links.specs.Links.{LinksWithin, chainsRefusal}
-use Rattle.links.specs.ReachCounts.{oneMoreAt, countLines, countThreads, reachedOf, sumTo, Marks, Twice, Walked, Followed}
+use Rattle.links.specs.ReachCounts.{oneMoreAt, countLines, countThreads, reachedOf, sumTo, Marks, FollowReady, Unmarked, Twice, Walked, Followed}
 use Rattle.case_file.proofs.LoopTests.{all-at-end, all-next}
 use Rattle.laws.proofs.Chains.{threads-are}
 use Rattle.laws.proofs.Following.{chains-more, chains-end}
@@ -32,8 +32,8 @@ pub record Walking (bytes start : List ℕ) (t : ℕ) (marked : List ℕ) (k n :
   pub lines : n + length (chain bytes t (suc (records bytes) - n) k) ≡ length (threadLines bytes t)
   pub sum : sumTo marked (records bytes) ≡ sumTo start (records bytes) + n
 
-pub walking-starts : {bytes start : List ℕ} {t first : ℕ} → LinksWithin bytes → t < threadCount bytes → Marks start → first ≡ firstRecord bytes t → Walking bytes start t start first 0
-walking-starts {bytes} {start} {t} links h marks ef = record { links = links; within = rw ef (links .firsts t h); marks = marks; counts = rw (ef, e); lines = rw (ef, e) (zero-add _); sum = omega arith }
+pub walking-starts : {bytes start : List ℕ} {t first : ℕ} → FollowReady bytes t start → first ≡ firstRecord bytes t → Walking bytes start t start first 0
+walking-starts {bytes} {start} {t} ready ef = record { links = ready .links; within = rw ef (ready .links .firsts t (ready .thread)); marks = ready .marks; counts = rw (ef, e); lines = rw (ef, e) (zero-add _); sum = omega arith }
   where
     e : suc (records bytes) - 0 ≡ suc (records bytes)
     e = omega arith
@@ -55,7 +55,7 @@ module _ {bytes start : List ℕ} {t : ℕ} {marked : List ℕ} {k n : ℕ} (w :
   }
 
   long : records bytes < length marked
-  long = omega (arith, w .marks .size, w .links .sized .few-records)
+  long = omega (arith, w .marks .size, w .links .threads .sized .few-records)
 
   -- one more line is passed
   goes-on : k ≢ 0 → countLines marked (chain bytes t (suc (records bytes) - n) k) ≡ countLines (oneMoreAt marked k) (chain bytes t (suc (records bytes) - n - 1) (nextRecord bytes k))
@@ -111,13 +111,13 @@ pub record Following (bytes marked : List ℕ) (lines : ℕ) (few : Bool) (t : �
   pub sum : sumTo marked (records bytes) ≡ lines
   pub lengths : (few && allFrom (fewLines bytes) t (threadCount bytes - t)) ≡ lengthsOk bytes
 
-pub following-starts : (bytes marked : List ℕ) → LinksWithin bytes → marked ≡ replicate recordPlaces 0 → Following bytes marked 0 true 0
-following-starts bytes marked links e = record {
-  small = links .sized .few-records;
+pub following-starts : (bytes marked : List ℕ) → Unmarked bytes marked → Following bytes marked 0 true 0
+following-starts bytes marked start = record {
+  small = start .links .threads .sized .few-records;
   within = omega arith;
-  marks = rw e (record { size = length-replicate {A = ℕ} recordPlaces 0; single = λ j. omega (arith, zeros-are-0 recordPlaces j) });
-  counts = rw (e, all);
-  sum = rw e (sum-of-zeros recordPlaces (records bytes));
+  marks = rw (start .none) (record { size = length-replicate {A = ℕ} recordPlaces 0; single = λ j. omega (arith, zeros-are-0 recordPlaces j) });
+  counts = rw (start .none, all);
+  sum = rw (start .none) (sum-of-zeros recordPlaces (records bytes));
   lengths = rw all;
 }
   where

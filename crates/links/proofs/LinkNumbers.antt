@@ -1,20 +1,18 @@
 -- The first part of 6: its answer is the definition's, and what it says of 6 to 8.
 -- Assumes nothing.
 use mathlib.Core.Path.{_≡_, refl, sym, ap, ap₂, _∙_}
-use Prim.Native.Nat.{ℕ, _-_, _≤_}
+use Prim.Native.Nat.{ℕ, _-_}
 use mathlib.Core.Bool.{Bool, true, false, _&&_}
 use mathlib.Core.List.{List}
 use native.Mathlib.Omega.{arith}
 use borrow.Author.Tests.{leb-true}
 use lib.Dec.{leb}
-use Rattle.model.specs.Limits.{mostThreads}
 use Rattle.model.specs.Lists.{allFrom}
 use Rattle.model.specs.CaseFile.{records, threadCount, firstRecord, nextRecord}
 use Rattle.model.specs.Accept.{reachedOk, lengthsOk}
 use Rattle.laws.proofs.Views.{and-true}
 use Rattle.laws.proofs.Ranges.{all-from-gives}
-use Rattle.case_file.specs.Sized.{Sized}
-use Rattle.links.specs.Links.{firstsIn, nextsIn, numbersOk, onceOk, LinksWithin, failing6to8, linksRefusal, chainsRefusal}
+use Rattle.links.specs.Links.{firstsIn, nextsIn, numbersOk, onceOk, ThreadsWithin, LinksWithin, failing6to8, linksRefusal, chainsRefusal}
 
 pub numbers-are-ok :
     (bytes : List ℕ) (T most : ℕ) (firsts nexts : Bool) → T ≡ threadCount bytes → most ≡ records bytes → firsts ≡ allFrom (λ t. leb (firstRecord bytes t) most) 0 (T - 0) →
@@ -39,12 +37,11 @@ module _ (bytes : List ℕ) (r : Bool) (e : r ≡ numbersOk bytes) where
   pub numbers-pass : (n : ℕ) → r ≡ true → n ≡ chainsRefusal bytes → n ≡ linksRefusal bytes
   numbers-pass n h en = en ∙ ap with-6 (and-pass (firstsIn bytes (records bytes)) (nextsIn bytes (records bytes)) (onceOk bytes) (sym e ∙ h))
 
-  pub numbers-link : Sized bytes → threadCount bytes ≤ mostThreads → r ≡ true → LinksWithin bytes
-  numbers-link size few h =
+  pub numbers-link : ThreadsWithin bytes → r ≡ true → LinksWithin bytes
+  numbers-link threads h =
       let both = and-true (firstsIn bytes (records bytes)) (nextsIn bytes (records bytes)) (sym e ∙ h) in
       record {
-        sized = size;
-        few-threads = few;
+        threads = threads;
         firsts = λ t low. leb-true _ _ (all-from-gives (λ t. leb (firstRecord bytes t) (records bytes)) 0 (threadCount bytes) (both .0) t (omega arith) (omega (arith, low)));
         nexts = λ k a b. leb-true _ _ (all-from-gives (λ k. leb (nextRecord bytes k) (records bytes)) 1 (records bytes) (both .1) k a (omega (arith, b)));
       }

@@ -8,7 +8,7 @@ use Rattle.model.specs.Limits.{mostThreads}
 use Rattle.model.specs.Lists.{allFrom, unless}
 use Rattle.model.specs.CaseFile.{records, threadCount, firstRecord, nextRecord}
 use Rattle.model.specs.Accept.{timesReached, linksOk, reachedOk, lengthsOk}
-use Rattle.case_file.specs.Sized.{Sized}
+use Rattle.laws.specs.Sized.{Sized}
 
 -- Check 6 in its parts: no first number and no next number is over `most`; both with R; no record is reached twice.
 abbrev pub firstsIn : List ℕ → ℕ → Bool
@@ -23,10 +23,14 @@ numbersOk bytes = firstsIn bytes (records bytes) && nextsIn bytes (records bytes
 abbrev pub onceOk : List ℕ → Bool
 onceOk bytes = allFrom (λ k. leb (timesReached bytes k) 1) 1 (records bytes)
 
--- Checks 1 and 2 and the first part of 6 passed: each first and each next number is 0 or a record.
-pub record LinksWithin (bytes : List ℕ) : Type 0 where
+-- Checks 1 and 2 passed: the records are there and few, and so are the threads.
+pub record ThreadsWithin (bytes : List ℕ) : Type 0 where
   pub sized : Sized bytes
   pub few-threads : threadCount bytes ≤ mostThreads
+
+-- And the first part of 6: each first and each next number is 0 or a record.
+pub record LinksWithin (bytes : List ℕ) : Type 0 where
+  pub threads : ThreadsWithin bytes
   pub firsts : (t : ℕ) → t < threadCount bytes → firstRecord bytes t ≤ records bytes
   pub nexts : (k : ℕ) → 0 < k → k ≤ records bytes → nextRecord bytes k ≤ records bytes
 

@@ -7,6 +7,7 @@ use lib.ListN.{length, getD, set, replicate}
 use Rattle.model.specs.Limits.{recordPlaces}
 use Rattle.model.specs.CaseFile.{Line, records, threadCount, chains}
 use Rattle.laws.specs.Accepted.{threadLines}
+use Rattle.links.specs.Links.{LinksWithin}
 
 -- The counts with one more at k; for each of the lines; for each line of the threads.
 abbrev pub oneMoreAt : List ℕ → ℕ → List ℕ
@@ -33,6 +34,16 @@ sumTo counts (suc most) = sumTo counts most + getD counts (suc most) 0
 pub record Marks (counts : List ℕ) : Type 0 where
   pub size : length counts ≡ recordPlaces
   pub single : (j : ℕ) → getD counts j 0 ≤ 1
+
+-- What following the chain of thread t needs; and what following all chains does, before any record is reached.
+pub record FollowReady (bytes : List ℕ) (t : ℕ) (counts : List ℕ) : Type 0 where
+  pub links : LinksWithin bytes
+  pub thread : t < threadCount bytes
+  pub marks : Marks counts
+
+pub record Unmarked (bytes counts : List ℕ) : Type 0 where
+  pub links : LinksWithin bytes
+  pub none : counts ≡ replicate recordPlaces 0
 
 -- A record from 1 to `most` is reached twice or more.
 pub record Twice (counts : List ℕ) (most : ℕ) : Type 0 where

@@ -1,12 +1,9 @@
 // Checks 6 to 8: first and next numbers, how often each record is reached, how long the chains are.
 ghost use mathlib.Core.Path.{_≡_};
-ghost use Prim.Native.Nat.{_≤_, _<_};
-ghost use lib.ListN.{replicate};
-ghost use Rattle.model.specs.Limits.{mostThreads, recordPlaces};
-ghost use Rattle.model.specs.CaseFile.{records, threadCount};
-ghost use Rattle.case_file.specs.Sized.{Sized};
-ghost use Rattle.links.specs.Links.{nextsIn, numbersOk, LinksWithin, linksRefusal, chainsRefusal};
-ghost use Rattle.links.specs.ReachCounts.{Marks, Followed};
+ghost use Rattle.model.specs.CaseFile.{records};
+ghost use Rattle.laws.specs.Sized.{Sized};
+ghost use Rattle.links.specs.Links.{nextsIn, numbersOk, ThreadsWithin, linksRefusal, chainsRefusal};
+ghost use Rattle.links.specs.ReachCounts.{FollowReady, Unmarked, Followed};
 use case_file::FIRSTS;
 use case_file::all_at_most;
 use case_file::first_of;
@@ -32,7 +29,7 @@ fn nexts_ok(case: &[u8]) -> bool
 
 // Whether each first and each next number is a record's or 0.
 fn numbers_ok(case: &[u8]) -> bool
-    requires { ⌜ Sized (now case) × (threadCount (now case) ≤ mostThreads) ⌝ }
+    requires { ⌜ ThreadsWithin (now case) ⌝ }
     ensures { λ r. ⌜ r ≡ numbersOk (now (case .entry)) ⌝ }
 {
     let threads = threads(case) as usize;
@@ -42,8 +39,7 @@ fn numbers_ok(case: &[u8]) -> bool
 // Follows the chain of thread t and marks what it reaches, each record with 1: how many lines the chain has, or more than there
 // are records if it comes to a record that is marked.
 fn follow(case: &[u8], t: usize, reached: &mut [u8]) -> usize
-    requires { ⌜ LinksWithin (now case) ⌝ }
-    requires { ⌜ (t < threadCount (now case)) × Marks (now reached) ⌝ }
+    requires { ⌜ FollowReady (now case) t (now reached) ⌝ }
     ensures { λ r. ⌜ Followed (now (case .entry)) t (now (reached .entry)) (now (reached .exit)) r ⌝ }
 {
     let mut n = 0;
@@ -61,8 +57,7 @@ fn follow(case: &[u8], t: usize, reached: &mut [u8]) -> usize
 
 // The rest of 6, then 7 and 8, in one walk along all chains: the number of the first that fails, 0 if none does.
 fn chains_refusal(case: &[u8], reached: &mut [u8]) -> u16
-    requires { ⌜ LinksWithin (now case) ⌝ }
-    requires { ⌜ now reached ≡ replicate recordPlaces 0 ⌝ }
+    requires { ⌜ Unmarked (now case) (now reached) ⌝ }
     ensures { λ r. ⌜ r ≡ chainsRefusal (now (case .entry)) ⌝ }
 {
     let threads = threads(case) as usize;
@@ -87,7 +82,7 @@ fn chains_refusal(case: &[u8], reached: &mut [u8]) -> u16
 
 // 6 to 8: the number of the first that fails, 0 if none does.
 pub fn refusal(case: &[u8]) -> u16
-    requires { ⌜ Sized (now case) × (threadCount (now case) ≤ mostThreads) ⌝ }
+    requires { ⌜ ThreadsWithin (now case) ⌝ }
     ensures { λ r. ⌜ r ≡ linksRefusal (now (case .entry)) ⌝ }
 {
     if numbers_ok(case) {

@@ -17,7 +17,7 @@ use Rattle.laws.proofs.Following.{lines-end, lines-more, next-low, chains-more,
 use Rattle.laws.proofs.Sizes.{line-order-length, order-rows}
 use Rattle.search.specs.Search.{failingIn, Searched}
 use Rattle.search.proofs.Search.{Searching, searching-start, searching-end, searching-room, searching-found, searching-more}
-use Rattle.order_check.specs.Rows.{linkRows, threadOrders, allOrders}
+use Rattle.order_check.specs.Rows.{linkRows, threadOrders, allOrders, ThreadReady}
 use Rattle.case_file.specs.declared.Link.{Link}
 
 -- ---- A thread, at record k
@@ -27,12 +27,15 @@ pub record ThreadOrder (bytes xs : List ℕ) (t start at k : ℕ) : Type 0 where
   pub low : k ≤ records bytes
   pub seeks : Searching bytes xs start (threadOrders bytes t) at (orderRows (caseOf bytes) t earlier (linesFrom bytes t k))
 
-module _ {bytes : List ℕ} (ok : Accepted bytes) (xs : List ℕ) (t start : ℕ) where
-  pub thread-start : (k : ℕ) → t < threadCount bytes → 0 < start → k ≡ firstRecord bytes t → ThreadOrder bytes xs t start start k
-  thread-start k h some e = record {
+module _ {bytes : List ℕ} {t start : ℕ} (ready : ThreadReady bytes t start) (xs : List ℕ) where
+  ok : Accepted bytes
+  ok = ready .accepted
+
+  pub thread-start : (k : ℕ) → k ≡ firstRecord bytes t → ThreadOrder bytes xs t start start k
+  thread-start k e = record {
     earlier = [];
-    low = omega (arith, ok .firsts t h);
-    seeks = searching-start bytes xs start _ _ some (ap (λ (j : ℕ). orderRows (caseOf bytes) t [] (linesFrom bytes t j)) e);
+    low = omega (arith, ok .firsts t (ready .thread));
+    seeks = searching-start bytes xs start _ _ (ready .numbers .counted) (ap (λ (j : ℕ). orderRows (caseOf bytes) t [] (linesFrom bytes t j)) e);
   }
 
   module _ {at k : ℕ} (v : ThreadOrder bytes xs t start at k) where
@@ -61,8 +64,8 @@ module _ {bytes : List ℕ} (ok : Accepted bytes) (xs : List ℕ) (t start : ℕ
       size : length (linkRows bytes t link) ≡ orderRowCount
       size = line-order-length (caseOf bytes) t _ _ _
 
-      pub thread-room : at + orderRowCount ≤ start + length (threadOrders bytes t)
-      thread-room = omega (arith, searching-room (v .seeks) (linkRows bytes t link) _ split, size)
+      pub thread-room : at + orderRowCount ≤ mostConstraints
+      thread-room = omega (arith, searching-room (v .seeks) (linkRows bytes t link) _ split, size, ready .numbers .room)
 
       module _ (f : ℕ) (found : f ≡ failingIn bytes xs at (linkRows bytes t link)) where
         here : Searched bytes xs at (linkRows bytes t link) f (at + orderRowCount)
@@ -80,32 +83,37 @@ module _ {bytes : List ℕ} (ok : Accepted bytes) (xs : List ℕ) (t start : ℕ
 
 -- ---- The threads from t on
 
-pub record AllOrder (bytes xs : List ℕ) (to at t : ℕ) : Type 0 where
+pub record AllOrder (bytes xs : List ℕ) (to failed at t : ℕ) : Type 0 where
+  pub none : failed ≡ 0
   pub upto : t ≤ to
   pub seeks : Searching bytes xs 1 (allOrders bytes) at (allOrderRows (caseOf bytes) t (chains bytes t (to - t)))
 
 module _ (bytes xs : List ℕ) (to : ℕ) (eT : to ≡ threadCount bytes) where
-  pub all-start : AllOrder bytes xs to 1 0
+  pub all-start : AllOrder bytes xs to 0 1 0
   all-start =
       let z : to - 0 ≡ threadCount bytes = omega arith in
-      record { upto = omega arith; seeks = searching-start bytes xs 1 _ _ (omega arith) (rw z) }
+      record { none = refl; upto = omega arith; seeks = searching-start bytes xs 1 _ _ (omega arith) (rw z) }
 
-  module _ {at t : ℕ} (v : AllOrder bytes xs to at t) where
-    pub all-end : to ≤ t → (f : ℕ) → f ≡ 0 → Searched bytes xs 1 (allOrders bytes) f at
+  module _ {failed at t : ℕ} (v : AllOrder bytes xs to failed at t) where
+    pub all-end : to ≤ t → Searched bytes xs 1 (allOrders bytes) failed at
     unfolding allOrderRows
-    all-end h f z = searching-end (v .seeks) (ap (allOrderRows (caseOf bytes) t) (chains-end bytes t to h)) f z
+    all-end h = searching-end (v .seeks) (ap (allOrderRows (caseOf bytes) t) (chains-end bytes t to h)) failed (v .none)
 
     module _ (h : t < to) where
       threads-split : allOrderRows (caseOf bytes) t (chains bytes t (to - t)) ≡ threadOrders bytes t ++ allOrderRows (caseOf bytes) (t + 1) (chains bytes (t + 1) (to - (t + 1)))
       unfolding allOrderRows
       threads-split = rw (chains-more bytes t to h, add-one t)
 
-      pub all-room : Accepted bytes → at + length (threadOrders bytes t) ≤ mostConstraints
-      all-room ok = omega (arith, searching-room (v .seeks) (threadOrders bytes t) _ threads-split, order-rows bytes ok)
+      pub all-ready : Accepted bytes → ThreadReady bytes t at
+      all-ready ok = record {
+        accepted = ok;
+        thread = omega arith;
+        numbers = record { counted = v .seeks .some; room = omega (arith, searching-room (v .seeks) (threadOrders bytes t) _ threads-split, order-rows bytes ok) };
+      }
 
       module _ {f next : ℕ} (found : Searched bytes xs at (threadOrders bytes t) f next) where
         pub all-found : f ≢ 0 → Searched bytes xs 1 (allOrders bytes) f next
         all-found some = searching-found (v .seeks) found _ threads-split some next
 
-        pub all-more : f ≡ 0 → AllOrder bytes xs to next (t + 1)
-        all-more none = record { upto = omega arith; seeks = searching-more (v .seeks) found threads-split none }
+        pub all-more : f ≡ 0 → AllOrder bytes xs to f next (t + 1)
+        all-more none = record { none = none; upto = omega arith; seeks = searching-more (v .seeks) found threads-split none }

@@ -1,12 +1,14 @@
 -- The order constraints of a line, of a thread and of all threads of a case.
 -- Assumes nothing.
-use Prim.Native.Nat.{ℕ}
+use Prim.Native.Nat.{ℕ, _<_}
 use mathlib.Core.Bool.{cond}
 use mathlib.Core.List.{List, [], _∷_}
 use lib.Dec.{eqb}
-use Rattle.model.specs.CaseFile.{Line, lineOf, caseOf}
+use Rattle.model.specs.Limits.{mostConstraints}
+use Rattle.model.specs.CaseFile.{Line, threadCount, lineOf, caseOf}
 use Rattle.model.specs.Table.{Row, lineOrderRows, orderRows, allOrderRows}
-use Rattle.laws.specs.Accepted.{threadLines}
+use Rattle.laws.specs.Accepted.{Accepted, threadLines}
+use Rattle.search.specs.Search.{Room}
 use Rattle.case_file.specs.declared.Link.{Link}
 
 -- Record k as the one line that is seen of its chain on one side; 0 is none.
@@ -23,3 +25,14 @@ threadOrders bytes t = orderRows (caseOf bytes) t [] (threadLines bytes t)
 
 abbrev pub allOrders : List ℕ → List Row
 allOrders bytes = allOrderRows (caseOf bytes) 0 (caseOf bytes .threads)
+
+-- An accepted case, and a number that a constraint can have.
+pub record AtConstraint (bytes : List ℕ) (at : ℕ) : Type 0 where
+  pub accepted : Accepted bytes
+  pub number : at < mostConstraints
+
+-- A thread of an accepted case, and numbers for its order constraints.
+pub record ThreadReady (bytes : List ℕ) (t start : ℕ) : Type 0 where
+  pub accepted : Accepted bytes
+  pub thread : t < threadCount bytes
+  pub numbers : Room start (threadOrders bytes t)

@@ -1,15 +1,15 @@
 // Constraints 1 to 3: along a thread the block numbers do not fall, are at most n, and are the thread's modulo T.
 ghost use mathlib.Core.Path.{_≡_};
 ghost use mathlib.Core.Bool.{cond};
-ghost use Prim.Native.Nat.{_+_, _<_, _≤_};
+ghost use Prim.Native.Nat.{_≤_};
 ghost use lib.Dec.{eqb};
 ghost use lib.ListN.{length};
-ghost use Rattle.model.specs.Limits.{headerBytes, mostConstraints};
-ghost use Rattle.model.specs.CaseFile.{threadCount, switchCount};
+ghost use Rattle.model.specs.Limits.{headerBytes};
+ghost use Rattle.model.specs.CaseFile.{switchCount};
 ghost use Rattle.laws.specs.Accepted.{Accepted};
 ghost use Rattle.assignment.specs.Numbers.{recordBlock};
 ghost use Rattle.search.specs.Search.{failingIn, Searched};
-ghost use Rattle.order_check.specs.Rows.{linkRows, threadOrders, allOrders};
+ghost use Rattle.order_check.specs.Rows.{linkRows, threadOrders, allOrders, AtConstraint, ThreadReady};
 use assignment::block_of;
 use case_file::Link;
 use case_file::first_of;
@@ -32,7 +32,7 @@ fn most_block(case: &[u8], assignment: &[u16], next: u16) -> u16
 
 // The first of a line's order constraints that fails, its 3 having number `at`; 0 if both hold.
 fn line_order(case: &[u8], assignment: &[u16], t: u16, at: u16, link: Link) -> u16
-    requires { ⌜ Accepted (now case) × (at < mostConstraints) ⌝ }
+    requires { ⌜ AtConstraint (now case) at ⌝ }
     ensures { λ r. ⌜ r ≡ failingIn (now (case .entry)) (now (assignment .entry)) at (linkRows (now (case .entry)) t link) ⌝ }
 {
     let block = block_of(assignment, link.line);
@@ -47,8 +47,7 @@ fn line_order(case: &[u8], assignment: &[u16], t: u16, at: u16, link: Link) -> u
 
 // The order constraints of thread t, from number `start` on.
 fn thread_order(case: &[u8], assignment: &[u16], t: u16, start: u16) -> Found
-    requires { ⌜ Accepted (now case) × (t < threadCount (now case)) ⌝ }
-    requires { ⌜ (0 < start) × (start + length (threadOrders (now case) t) ≤ mostConstraints) ⌝ }
+    requires { ⌜ ThreadReady (now case) t start ⌝ }
     ensures { λ r. ⌜ Searched (now (case .entry)) (now (assignment .entry)) start (threadOrders (now (case .entry)) t) (r .failed) (r .next) ⌝ }
 {
     let mut at = start;

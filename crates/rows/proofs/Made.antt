@@ -38,12 +38,12 @@ module _ (link : Link) (case : Case) (earlier : List Line) (l : Line) where
   pub follow-last : (ls : List Line) (n : ℕ) → link .next ≡ 0 → Stands link earlier l ls → n ≡ case .n → row 2 (link .line) n 0 0 0 ≡ followRow case l ls
   unfolding followRow Nearest
   follow-last [] n z s en = rw (s .line, en)
-  follow-last (next ∷ ls) n z s en = absurd (s .next .1 z)
+  follow-last (next ∷ ls) n z s en = absurd (s .next .some z)
 
   pub follow-next : (ls : List Line) → link .next ≢ 0 → Stands link earlier l ls → row 1 (link .line) (link .next) 0 0 0 ≡ followRow case l ls
   unfolding followRow Nearest
   follow-next [] z s = absurd (z (s .next))
-  follow-next (next ∷ ls) z s = rw (s .line, s .next .0)
+  follow-next (next ∷ ls) z s = rw (s .line, s .next .number)
 
   -- both order rows
   pub order-is :

@@ -1,16 +1,15 @@
 // The rows of the table: each is made by one function, and put into the slice by one. A line's rows are made from where it stands
 // in its chain and from the latest copies of its thread.
 ghost use mathlib.Core.Path.{_≡_};
-ghost use Prim.Native.Nat.{_+_, _*_, _<_, _≤_};
+ghost use Prim.Native.Nat.{_+_, _*_, _≤_};
 ghost use mathlib.Core.List.{[], _∷_};
 ghost use lib.ListN.{length};
-ghost use Rattle.model.specs.Limits.{mostThreads, mostGlobals};
 ghost use Rattle.model.specs.CaseFile.{kindOf};
 ghost use Rattle.model.specs.Table.{row, goalRow, numbersOf};
 ghost use Rattle.laws.specs.RowCounts.{orderRowCount, valueRowCount};
 ghost use Rattle.laws.specs.Written.{numbersAt};
 ghost use Rattle.case_file.specs.Records.{asLine};
-ghost use Rattle.rows.specs.Rows.{asRow, Follows, PutsOrder, Values, PutsDemand, PutsValues};
+ghost use Rattle.rows.specs.Rows.{asRow, Follows, PutsOrder, Values, PutsDemand, PutsValues, LineFits, ValuesFit};
 use case_file::Link;
 use case_file::Record;
 use copies::copy_of;
@@ -97,7 +96,7 @@ pub fn put_order(table: &mut [u16], at: usize, link: Link, threads: u16, last: u
 
 // The 4 of a line with number k.
 fn value_row(k: u16, l: Record, globals: usize, latest: &[[u16; NAMES]; THREADS]) -> Constraint
-    requires { ⌜ (l .thread < mostThreads) × (globals ≤ mostGlobals) ⌝ }
+    requires { ⌜ LineFits l globals ⌝ }
     ensures { λ r. ⌜ Values (asLine l k) globals (now (latest .entry)) (asRow r) ⌝ }
 {
     let t = l.thread as usize;
@@ -156,8 +155,7 @@ pub fn put_values(
     globals: usize,
     latest: &[[u16; NAMES]; THREADS],
 )
-    requires { ⌜ (l .thread < mostThreads) × (globals ≤ mostGlobals) ⌝ }
-    requires { ⌜ at + 6 * valueRowCount (kindOf (l .kind)) ≤ length (now table) ⌝ }
+    requires { ⌜ ValuesFit l globals (now table) at ⌝ }
     ensures { λ x. ⌜ PutsValues (asLine l k) globals (now (latest .entry)) (now (table .entry)) at (now (table .exit)) ⌝ }
 {
     let w = value_row(k, l, globals, latest);

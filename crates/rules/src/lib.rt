@@ -1,15 +1,12 @@
 // Check 9: the rules of a record's fields.
 ghost use mathlib.Core.Path.{_≡_};
 ghost use mathlib.Core.Bool.{not, _||_};
-ghost use Prim.Native.Nat.{ℕ, _+_, _*_, _≤_};
+ghost use Prim.Native.Nat.{ℕ};
 ghost use lib.Dec.{eqb};
-ghost use lib.ListN.{length};
-ghost use Rattle.model.specs.Limits.{headerBytes, recordBytes};
-ghost use Rattle.model.specs.CaseFile.{globalCount, mutexCount};
 ghost use Rattle.model.specs.Accept.{expressionOk, onlyOperandA, noExpression, ruleOk, brokenRecord};
 ghost use Rattle.case_file.specs.Records.{asLine};
-ghost use Rattle.case_file.specs.Sized.{Sized};
-ghost use Rattle.rules.specs.KindRule.{keepsKindRule};
+ghost use Rattle.laws.specs.Sized.{Sized};
+ghost use Rattle.rules.specs.KindRule.{keepsKindRule, RuleReady};
 use case_file::Record;
 use case_file::globals;
 use case_file::mutexes;
@@ -69,8 +66,7 @@ fn kind_rule_ok(l: Record, globals: u16, mutexes: u16) -> bool
 
 // Whether record k keeps the rules of its fields, in a case with so many globals and mutexes.
 fn rule_ok(case: &[u8], k: usize, globals: u16, mutexes: u16) -> bool
-    requires { ⌜ (1 ≤ k) × (headerBytes + recordBytes * k ≤ length (now case)) ⌝ }
-    requires { ⌜ (globals ≡ globalCount (now case)) × (mutexes ≡ mutexCount (now case)) ⌝ }
+    requires { ⌜ RuleReady (now case) k globals mutexes ⌝ }
     ensures { λ r. ⌜ r ≡ ruleOk (now (case .entry)) k ⌝ }
 {
     let l = record_at(case, 0, k);

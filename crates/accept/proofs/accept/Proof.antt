@@ -1,5 +1,6 @@
+use Rattle.laws.proofs.Accepted.{sized-of}
 use Rattle.case_file.proofs.LoopTests.{failed, passed}
-use Rattle.accept.proofs.Verdicts.{sized, refused-1, refused-2, refused-3, refused-4, refused-5}
+use Rattle.accept.proofs.Verdicts.{refused-1, refused-2, refused-3, refused-4, refused-5}
 use borrow.Author.Needs.{needs}
 use Rattle.accept.proofs.accept.Statement.{statement}
 use Rattle.accept.proofs.accept.Tie as tie
@@ -11,25 +12,25 @@ returns : tie.Need-returns
 returns c = search (refused-1, failed)
 
 threads-ok-requires : tie.Need-threads-ok-requires
-threads-ok-requires c κs = search (sized, passed)
+threads-ok-requires c κs = search (sized-of, passed)
 
 returns-2 : tie.Need-returns-2
 returns-2 c = search (refused-2, failed, passed)
 
 switches-ok-requires : tie.Need-switches-ok-requires
-switches-ok-requires c κs = search (sized, passed)
+switches-ok-requires c κs = search (sized-of, passed)
 
 returns-3 : tie.Need-returns-3
 returns-3 c = search (refused-3, failed, passed)
 
 items-ok-requires : tie.Need-items-ok-requires
-items-ok-requires c κs = search (sized, passed)
+items-ok-requires c κs = search (sized-of, passed)
 
 returns-4 : tie.Need-returns-4
 returns-4 c = search (refused-4, failed, passed)
 
 absent-ok-requires : tie.Need-absent-ok-requires
-absent-ok-requires c κs = search (sized, passed)
+absent-ok-requires c κs = search (sized-of, passed)
 
 returns-5 : tie.Need-returns-5
 returns-5 c = search (refused-5, failed, passed)

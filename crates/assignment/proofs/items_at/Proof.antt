@@ -1,14 +1,13 @@
 -- `assignment::items_at` meets its contract. Assumes nothing.
-use Prim.Native.Nat.{_-_, _≤_}
-use mathlib.Core.Path.{refl}
-use Rattle.assignment.specs.Numbers.{Filled, numberFrom}
-use Rattle.assignment.proofs.BlockValues.{filled-start, filled-more, filled-all}
+use Prim.Native.Nat.{_-_}
+use Rattle.assignment.specs.Numbers.{numberFrom}
+use Rattle.assignment.proofs.BlockValues.{filled-all, Filling, filling-start, filling-more, filling-end}
 use borrow.Author.Needs.{needs}
 use Rattle.assignment.proofs.items_at.Statement.{statement}
 use Rattle.assignment.proofs.items_at.Tie as tie
 
 abbrev Inv-loop : tie.InvT-loop
-Inv-loop assignment place count items₀ g₀ items g = (g ≤ count) × Filled (numberFrom assignment place) g items
+Inv-loop assignment place count items₀ g₀ items g = Filling (numberFrom assignment place) count g items
 
 abbrev μ-loop : tie.MeasureT-loop
 μ-loop assignment place count items₀ g₀ items g = count - g
@@ -23,7 +22,7 @@ returns : tie.Need-returns Inv-loop μ-loop
 returns c = filled-all _ _ _ _ (c .most-items-at .ensures) (search needs)
 
 loop-holds : tie.Need-loop-holds Inv-loop μ-loop
-loop-holds c = (search needs, filled-start _ _ refl)
+loop-holds c = filling-start
 
 add-at : tie.Need-add-at Inv-loop μ-loop
 add-at c = search needs
@@ -44,10 +43,10 @@ loop-less : tie.Need-loop-less Inv-loop μ-loop
 loop-less c = search needs
 
 loop-again : tie.Need-loop-again Inv-loop μ-loop
-loop-again c = (search needs, filled-more _ _ _ _ (c .before .before .loop .inv .1) (search needs) (c .at .ensures))
+loop-again c = filling-more (c .before .before .loop .inv) _ (c .before .loop-test .taken) (search needs) (c .at .ensures)
 
 returns-2 : tie.Need-returns-2 Inv-loop μ-loop
-returns-2 c = filled-all _ _ _ _ (c .before .loop .inv .1) (search needs)
+returns-2 c = filling-end (c .before .loop .inv) (c .loop-test .left)
 
 pub items-at-spec : {M : Type 1} → statement M
 items-at-spec =

@@ -1,21 +1,21 @@
 -- `assignment::most_items_at` meets its contract. Assumes nothing.
-use Prim.Native.Nat.{_-_, _≤_}
+use Prim.Native.Nat.{_-_}
 use mathlib.Core.Path.{refl}
 use Rattle.model.specs.Limits.{mostItems}
-use Rattle.assignment.specs.Numbers.{Filled, numberFrom}
-use Rattle.assignment.proofs.BlockValues.{filled-start, filled-more, filled-all}
+use Rattle.assignment.specs.Numbers.{numberFrom}
+use Rattle.assignment.proofs.BlockValues.{Filling, filling-start, filling-more, filling-end}
 use borrow.Author.Needs.{needs}
 use Rattle.assignment.proofs.most_items_at.Statement.{statement}
 use Rattle.assignment.proofs.most_items_at.Tie as tie
 
 abbrev Inv-loop : tie.InvT-loop
-Inv-loop assignment place items₀ g₀ items g = (g ≤ mostItems) × Filled (numberFrom assignment place) g items
+Inv-loop assignment place items₀ g₀ items g = Filling (numberFrom assignment place) mostItems g items
 
 abbrev μ-loop : tie.MeasureT-loop
 μ-loop assignment place items₀ g₀ items g = mostItems - g
 
 loop-holds : tie.Need-loop-holds Inv-loop μ-loop
-loop-holds c = (search needs, filled-start _ _ refl)
+loop-holds c = filling-start
 
 add-items : tie.Need-add-items Inv-loop μ-loop
 add-items c = search needs
@@ -39,10 +39,10 @@ loop-less : tie.Need-loop-less Inv-loop μ-loop
 loop-less c = search needs
 
 loop-again : tie.Need-loop-again Inv-loop μ-loop
-loop-again c = (search needs, filled-more _ _ _ _ (c .before .before .loop .inv .1) (search needs) refl)
+loop-again c = filling-more (c .before .before .loop .inv) _ (c .before .loop-test .taken) (search needs) refl
 
 returns : tie.Need-returns Inv-loop μ-loop
-returns c = filled-all _ _ _ _ (c .before .loop .inv .1) (search needs)
+returns c = filling-end (c .before .loop .inv) (c .loop-test .left)
 
 pub most-items-at-spec : {M : Type 1} → statement M
 most-items-at-spec =

@@ -24,10 +24,10 @@ items-requires : tie.Need-items-requires
 items-requires c κs = search needs
 
 mul-result : tie.Need-mul-result
-mul-result c = record { fits = omega (arith, few _ (c .before .before .before .pre) _ _ (c .before .switches .ensures) (c .items .ensures .1)) }
+mul-result c = record { fits = omega (arith, few _ (c .before .before .before .pre) _ _ (c .before .switches .ensures) (c .items .ensures .most)) }
 
 returns : tie.Need-returns
-returns c = (rw (c .before .switches .ensures, c .items .ensures .0), few _ (c .before .before .before .pre) _ _ (c .before .switches .ensures) (c .items .ensures .1))
+returns c = record { is = rw (c .before .switches .ensures, c .items .ensures .is); most = few _ (c .before .before .before .pre) _ _ (c .before .switches .ensures) (c .items .ensures .most) }
 
 pub block-values-spec : {M : Type 1} → statement M
 block-values-spec =

@@ -1,16 +1,12 @@
 -- `case_file::first_items` meets its contract. The invariant: the items so far are those of the first g globals. Assumes nothing.
-use mathlib.Core.Path.{_≡_}
-use Prim.Native.Nat.{_≤_, _-_}
-use native.Mathlib.Omega.{arith}
-use Rattle.model.specs.CaseFile.{globalCount}
-use Rattle.case_file.specs.FirstItems.{firstItems}
-use Rattle.case_file.proofs.FirstItems.{items-none, items-more}
+use Prim.Native.Nat.{_-_}
+use Rattle.case_file.proofs.FirstItems.{Started, items-none, items-more, items-all}
 use borrow.Author.Needs.{needs}
 use Rattle.case_file.proofs.first_items.Statement.{statement}
 use Rattle.case_file.proofs.first_items.Tie as tie
 
 abbrev Inv-loop : tie.InvT-loop
-Inv-loop case globals items₀ g₀ items g = (g ≤ globals) × (items ≡ firstItems case g)
+Inv-loop case globals items₀ g₀ items g = Started case globals items g
 
 abbrev μ-loop : tie.MeasureT-loop
 μ-loop case globals items₀ g₀ items g = globals - g
@@ -22,7 +18,7 @@ cast-globals : tie.Need-cast-globals Inv-loop μ-loop
 cast-globals c = search needs
 
 loop-holds : tie.Need-loop-holds Inv-loop μ-loop
-loop-holds c = (search needs, items-none _)
+loop-holds c = items-none _ _
 
 initial-of-requires : tie.Need-initial-of-requires Inv-loop μ-loop
 initial-of-requires c κs = search needs
@@ -40,12 +36,10 @@ loop-less : tie.Need-loop-less Inv-loop μ-loop
 loop-less c = search needs
 
 loop-again : tie.Need-loop-again Inv-loop μ-loop
-loop-again c = (search needs, items-more _ _ _ _ (omega arith) (c .before .before .loop .inv .1) (c .initial-of .ensures))
+loop-again c = items-more _ _ _ _ _ (search needs) (c .before .loop-test .taken) (c .before .before .loop .inv) (c .initial-of .ensures)
 
 returns : tie.Need-returns Inv-loop μ-loop
-returns c =
-    let e : c .before .loop .g ≡ globalCount (c .before .before .before .before .args .case .now) = omega (arith, c .before .before .globals .ensures, c .loop-test .left) in
-    rw (← e) (c .before .loop .inv .1)
+returns c = items-all _ _ _ _ (c .before .loop .inv) (c .loop-test .left) (c .before .before .globals .ensures)
 
 pub first-items-spec : {M : Type 1} → statement M
 first-items-spec =

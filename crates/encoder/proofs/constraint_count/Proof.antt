@@ -51,7 +51,7 @@ add-result-2 : tie.Need-add-result-2 Inv-loop μ-loop
 add-result-2 c = search needs
 
 returns : tie.Need-returns Inv-loop μ-loop
-returns c = table-count _ (c .before .before .before .before .before .pre) _ _ _ (c .before .before .loop .inv) (search needs) (c .block-values .ensures .0)
+returns c = table-count _ (c .before .before .before .before .before .pre) _ _ _ (c .before .before .loop .inv) (search needs) (c .block-values .ensures .is)
 
 pub constraint-count-spec : {M : Type 1} → statement M
 constraint-count-spec =

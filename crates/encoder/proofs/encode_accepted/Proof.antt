@@ -32,7 +32,7 @@ same-length : tie.Need-same-length
 same-length c = search needs
 
 returns-2 : tie.Need-returns-2
-returns-2 c = table-answered _ (c .before .before .before .before .before .before .before .before .before .pre) _ _ (c .before .before .before .before .before .before .constraint-count .ensures) _ _ (c .before .before .before .before .before .if1 .left) (c .variables .ensures .0) (c .before .before .before .write-table .ensures)
+returns-2 c = table-answered _ (c .before .before .before .before .before .before .before .before .before .pre) _ _ (c .before .before .before .before .before .before .constraint-count .ensures) _ _ (c .before .before .before .before .before .if1 .left) (c .variables .ensures .is) (c .before .before .before .write-table .ensures)
 
 pub encode-accepted-spec : {M : Type 1} → statement M
 encode-accepted-spec =

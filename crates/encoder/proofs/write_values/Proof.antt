@@ -52,7 +52,7 @@ put-values-requires c κs =
     let v = c .before .before .before .before .before .loop .inv in
     let some = c .before .before .before .before .loop-test .taken in
     let l = c .before .before .before .record-at .ensures in
-    ((thread-low v (c .before .before .before .before .before .before .before .before .before .before .pre .0) some l (c .before .before .before .before .before .before .before .before .before .before .pre .1 .0), search needs), value-room v (c .before .before .before .before .before .before .before .before .before .before .pre .0) some l refl (c .before .before .before .before .before .before .before .before .before .before .pre .1 .1 .1))
+    record { line = record { thread = thread-low v (c .before .before .before .before .before .before .before .before .before .before .pre .0) some l (c .before .before .before .before .before .before .before .before .before .before .pre .1 .0); few-globals = search needs }; room = value-room v (c .before .before .before .before .before .before .before .before .before .before .pre .0) some l refl (c .before .before .before .before .before .before .before .before .before .before .pre .1 .1 .1) }
 
 take-copy-requires : tie.Need-take-copy-requires Inv-loop μ-loop
 take-copy-requires c κs = search needs

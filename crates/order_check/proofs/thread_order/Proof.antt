@@ -18,10 +18,10 @@ first-of-requires : tie.Need-first-of-requires Inv-loop μ-loop
 first-of-requires c κs = search needs
 
 cast-k : tie.Need-cast-k Inv-loop μ-loop
-cast-k c = record { fits = omega (arith, c .first-of .ensures, c .before .before .before .pre .0 .0 .firsts (c .before .before .before .args .t) (c .before .before .before .pre .0 .1), c .before .before .before .pre .0 .0 .few-records) }
+cast-k c = record { fits = omega (arith, c .first-of .ensures, c .before .before .before .pre .accepted .firsts (c .before .before .before .args .t) (c .before .before .before .pre .thread), c .before .before .before .pre .accepted .few-records) }
 
 loop-holds : tie.Need-loop-holds Inv-loop μ-loop
-loop-holds c = thread-start (c .before .before .before .pre .0 .0) _ _ _ _ (c .before .before .before .pre .0 .1) (c .before .before .before .pre .1 .0) (c .first-of .ensures)
+loop-holds c = thread-start (c .before .before .before .pre) _ _ (c .first-of .ensures)
 
 cast-next-of : tie.Need-cast-next-of Inv-loop μ-loop
 cast-next-of c = search needs
@@ -30,28 +30,28 @@ next-of-requires : tie.Need-next-of-requires Inv-loop μ-loop
 next-of-requires c κs = search needs
 
 cast-next : tie.Need-cast-next Inv-loop μ-loop
-cast-next c = record { fits = omega (arith, c .next-of .ensures, next-low _ (c .before .before .before .before .before .before .pre .0 .0) (c .before .before .before .before .before .before .args .t) _ (c .before .loop-test .taken) (c .before .before .loop .inv .low), c .before .before .before .before .before .before .pre .0 .0 .few-records) }
+cast-next c = record { fits = omega (arith, c .next-of .ensures, next-low _ (c .before .before .before .before .before .before .pre .accepted) (c .before .before .before .before .before .before .args .t) _ (c .before .loop-test .taken) (c .before .before .loop .inv .low), c .before .before .before .before .before .before .pre .accepted .few-records) }
 
 line-order-requires : tie.Need-line-order-requires Inv-loop μ-loop
-line-order-requires c κs = (c .before .before .before .before .before .before .pre .0 .0, omega (arith, thread-room (c .before .before .before .before .before .before .pre .0 .0) _ _ _ (c .before .before .loop .inv) (c .before .loop-test .taken) (c .before .before .loop .before) _ (c .next-of .ensures), c .before .before .before .before .before .before .pre .1 .1))
+line-order-requires c κs = record { accepted = c .before .before .before .before .before .before .pre .accepted; number = omega (arith, thread-room (c .before .before .before .before .before .before .pre) _ (c .before .before .loop .inv) (c .before .loop-test .taken) (c .before .before .loop .before) _ (c .next-of .ensures)) }
 
 returns : tie.Need-returns Inv-loop μ-loop
-returns c = thread-found (c .before .before .before .before .before .before .before .before .pre .0 .0) _ _ _ (c .before .before .before .before .loop .inv) (c .before .before .before .loop-test .taken) (c .before .before .before .before .loop .before) _ (c .before .before .next-of .ensures) _ (c .before .line-order .ensures) (c .if1 .taken) _
+returns c = thread-found (c .before .before .before .before .before .before .before .before .pre) _ (c .before .before .before .before .loop .inv) (c .before .before .before .loop-test .taken) (c .before .before .before .before .loop .before) _ (c .before .before .next-of .ensures) _ (c .before .line-order .ensures) (c .if1 .taken) _
 
 cast-at : tie.Need-cast-at Inv-loop μ-loop
 cast-at c = search needs
 
 add-at : tie.Need-add-at Inv-loop μ-loop
-add-at c = omega (arith, thread-room (c .before .before .before .before .before .before .before .before .pre .0 .0) _ _ _ (c .before .before .before .before .loop .inv) (c .before .before .before .loop-test .taken) (c .before .before .before .before .loop .before) _ (c .before .before .next-of .ensures), c .before .before .before .before .before .before .before .before .pre .1 .1)
+add-at c = omega (arith, thread-room (c .before .before .before .before .before .before .before .before .pre) _ (c .before .before .before .before .loop .inv) (c .before .before .before .loop-test .taken) (c .before .before .before .before .loop .before) _ (c .before .before .next-of .ensures))
 
 loop-less : tie.Need-loop-less Inv-loop μ-loop
-loop-less c = lines-less _ (c .before .before .before .before .before .before .before .before .pre .0 .0) _ _ (c .before .before .before .loop-test .taken) (c .before .before .before .before .loop .inv .low) _ (c .before .before .next-of .ensures)
+loop-less c = lines-less _ (c .before .before .before .before .before .before .before .before .pre .accepted) _ _ (c .before .before .before .loop-test .taken) (c .before .before .before .before .loop .inv .low) _ (c .before .before .next-of .ensures)
 
 loop-again : tie.Need-loop-again Inv-loop μ-loop
-loop-again c = thread-more (c .before .before .before .before .before .before .before .before .pre .0 .0) _ _ _ (c .before .before .before .before .loop .inv) (c .before .before .before .loop-test .taken) (c .before .before .before .before .loop .before) _ (c .before .before .next-of .ensures) _ (c .before .line-order .ensures) (c .if1 .left)
+loop-again c = thread-more (c .before .before .before .before .before .before .before .before .pre) _ (c .before .before .before .before .loop .inv) (c .before .before .before .loop-test .taken) (c .before .before .before .before .loop .before) _ (c .before .before .next-of .ensures) _ (c .before .line-order .ensures) (c .if1 .left)
 
 returns-2 : tie.Need-returns-2 Inv-loop μ-loop
-returns-2 c = thread-end (c .before .before .before .before .before .pre .0 .0) _ _ _ (c .before .loop .inv) (c .loop-test .left)
+returns-2 c = thread-end (c .before .before .before .before .before .pre) _ (c .before .loop .inv) (c .loop-test .left)
 
 pub thread-order-spec : {M : Type 1} → statement M
 thread-order-spec =

@@ -23,13 +23,13 @@ items-requires : tie.Need-items-requires
 items-requires c κs = accepted-of _ (c .before .before .before .before .pre)
 
 returns : tie.Need-returns
-returns c = answers-10 _ _ _ (c .before .before .before .before .before .before .pre) (c .before .before .switches .ensures) (c .before .items .ensures .0) (c .if1 .taken)
+returns c = answers-10 _ _ _ (c .before .before .before .before .before .before .pre) (c .before .before .switches .ensures) (c .before .items .ensures .is) (c .if1 .taken)
 
 inputs-of-requires : tie.Need-inputs-of-requires
 inputs-of-requires c κs = let ok = accepted-of _ (c .before .before .before .before .before .before .before .pre) in search needs
 
 returns-2 : tie.Need-returns-2
-returns-2 c = answers-12 _ _ _ (c .before .before .before .before .before .before .before .before .before .before .pre) (c .before .before .before .before .before .before .switches .ensures) (c .before .before .before .before .before .items .ensures .0) (c .before .before .before .before .if1 .left) (c .before .before .inputs-of .ensures .values) (c .if2 .taken)
+returns-2 c = answers-12 _ _ _ (c .before .before .before .before .before .before .before .before .before .before .pre) (c .before .before .before .before .before .before .switches .ensures) (c .before .before .before .before .before .items .ensures .is) (c .before .before .before .before .if1 .left) (c .before .before .inputs-of .ensures .values) (c .if2 .taken)
 
 slice-aggregate-lengths : tie.Need-slice-aggregate-lengths
 slice-aggregate-lengths c = sym (length-take-le _ _ (lengths-fit _ _ _ _ (c .before .before .before .inputs-of .ensures .values) (c .before .if2 .left)))
@@ -44,7 +44,7 @@ lengths-add-up-requires c κs =
 returns-3 : tie.Need-returns-3
 returns-3 c =
     let at-if1 = c .before .before .before .before .before .before .before in
-    answers-13 _ _ _ (at-if1 .before .before .before .before .before .before .pre) (at-if1 .before .before .switches .ensures) (at-if1 .before .items .ensures .0) (at-if1 .if1 .left) (c .before .before .before .before .before .inputs-of .ensures .values) (c .before .before .before .if2 .left) (c .before .lengths-add-up .ensures) (not-true _ (c .if3 .taken))
+    answers-13 _ _ _ (at-if1 .before .before .before .before .before .before .pre) (at-if1 .before .before .switches .ensures) (at-if1 .before .items .ensures .is) (at-if1 .if1 .left) (c .before .before .before .before .before .inputs-of .ensures .values) (c .before .before .before .if2 .left) (c .before .lengths-add-up .ensures) (not-true _ (c .if3 .taken))
 
 slice-aggregate-replay-blocks : tie.Need-slice-aggregate-replay-blocks
 slice-aggregate-replay-blocks c = sym (places _ _ _ _ (c .before .before .before .before .before .before .inputs-of .ensures .values))
@@ -62,7 +62,7 @@ returns-4 : tie.Need-returns-4
 returns-4 c =
     let at-if3 = c .before .before .before .before .before in
     let at-if1 = at-if3 .before .before .before .before .before .before .before in
-    answers-run _ _ _ (at-if1 .before .before .before .before .before .before .pre) (at-if1 .before .before .switches .ensures) (at-if1 .before .items .ensures .0) (at-if1 .if1 .left) (at-if3 .before .before .before .before .before .inputs-of .ensures .values) (at-if3 .before .before .before .if2 .left) (at-if3 .before .lengths-add-up .ensures) (not-false _ (at-if3 .if3 .left)) (c .before .before .replay-blocks .ensures)
+    answers-run _ _ _ (at-if1 .before .before .before .before .before .before .pre) (at-if1 .before .before .switches .ensures) (at-if1 .before .items .ensures .is) (at-if1 .if1 .left) (at-if3 .before .before .before .before .before .inputs-of .ensures .values) (at-if3 .before .before .before .if2 .left) (at-if3 .before .lengths-add-up .ensures) (not-false _ (at-if3 .if3 .left)) (c .before .before .replay-blocks .ensures)
 
 pub replay-accepted-spec : {M : Type 1} → statement M
 replay-accepted-spec =

@@ -35,7 +35,7 @@ same-length c = search needs
 returns-2 : tie.Need-returns-2
 returns-2 c =
     let entry = c .before .before .before .before .before .before .before .before .before .before .before .before in
-    ends-written (entry .args .case .now) (entry .args .lengths .now) (entry .args .given .now) _ (c .before .before .before .before .before .before .run-case .ensures) _ _ _ (c .before .before .before .before .before .before .before .items .ensures .0) (⊎-elim (λ w. writes-by _ _ (w .1 .given .1) tt) (⊎-elim (λ w. writes-by _ _ (w .1 .given .1) tt) (λ w. writes-by _ _ (w .1 .given .1) tt)) (c .before .before .before .before .match .came)) (c .before .before .write-items .ensures)
+    ends-written (entry .args .case .now) (entry .args .lengths .now) (entry .args .given .now) _ (c .before .before .before .before .before .before .run-case .ensures) _ _ _ (c .before .before .before .before .before .before .before .items .ensures .is) (⊎-elim (λ w. writes-by _ _ (w .1 .given .1) tt) (⊎-elim (λ w. writes-by _ _ (w .1 .given .1) tt) (λ w. writes-by _ _ (w .1 .given .1) tt)) (c .before .before .before .before .match .came)) (c .before .before .write-items .ensures)
 
 pub replay-blocks-spec : {M : Type 1} → statement M
 replay-blocks-spec =

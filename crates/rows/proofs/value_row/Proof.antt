@@ -36,7 +36,7 @@ returns : tie.Need-returns
 returns c = λ case earlier h eG.
     let l = asLine (c .before .before .before .before .before .before .before .before .before .args .l) (c .before .before .before .before .before .before .before .before .before .args .k) in
     let target = c .before .before .before .before .before .before .before .target-name .ensures 0 in
-    value-is case earlier l _ _ _ _ _ _ _ _ _ _ h (c .before .before .before .before .before .before .before .before .before .pre .0) (c .before .before .before .before .guard-name .ensures _) (c .before .before .before .before .before .before .operand-a .ensures 0) (c .before .before .before .before .before .operand-b .ensures 0) (rw (← eG) target)
+    value-is case earlier l _ _ _ _ _ _ _ _ _ _ h (c .before .before .before .before .before .before .before .before .before .pre .thread) (c .before .before .before .before .guard-name .ensures _) (c .before .before .before .before .before .before .operand-a .ensures 0) (c .before .before .before .before .before .operand-b .ensures 0) (rw (← eG) target)
     (c .before .before .before .copy-of .ensures) (c .before .before .copy-of2 .ensures) (c .before .copy-of3 .ensures) (c .copy-of4 .ensures)
 
 pub value-row-spec : {M : Type 1} → statement M

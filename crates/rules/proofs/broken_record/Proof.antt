@@ -1,15 +1,15 @@
-use mathlib.Core.Path.{_≡_, sym, ap, _∙_}
-use Prim.Native.Nat.{_+_, _-_, _≤_}
+use mathlib.Core.Path.{sym, ap, _∙_}
+use Prim.Native.Nat.{_+_, _-_}
 use Rattle.model.specs.Lists.{lowestFailing}
 use Rattle.model.specs.Accept.{ruleOk}
-use Rattle.case_file.proofs.LoopTests.{one-less, failed, passed}
+use Rattle.case_file.proofs.LoopTests.{RangeLeft, range-start, range-more, failed, passed}
 use Rattle.rules.proofs.FieldRules.{lowest-at-end, lowest-found, lowest-goes-on}
 use borrow.Author.Needs.{needs}
 use Rattle.rules.proofs.broken_record.Statement.{statement}
 use Rattle.rules.proofs.broken_record.Tie as tie
 
 abbrev Inv-loop : tie.InvT-loop
-Inv-loop case most globals mutexes k₀ k = (1 ≤ k) × (lowestFailing (ruleOk case) k (most + 1 - k) ≡ lowestFailing (ruleOk case) 1 most)
+Inv-loop case most globals mutexes k₀ k = RangeLeft (lowestFailing (ruleOk case)) most k
 
 abbrev μ-loop : tie.MeasureT-loop
 μ-loop case most globals mutexes k₀ k = most + 1 - k
@@ -24,7 +24,7 @@ mutexes-requires : tie.Need-mutexes-requires Inv-loop μ-loop
 mutexes-requires c κs = search needs
 
 loop-holds : tie.Need-loop-holds Inv-loop μ-loop
-loop-holds c = (search needs, ap (lowestFailing _ 1) (one-less (c .before .before .records .result)))
+loop-holds c = range-start
 
 add-loop : tie.Need-add-loop Inv-loop μ-loop
 add-loop c = search needs
@@ -36,7 +36,7 @@ cast-result : tie.Need-cast-result Inv-loop μ-loop
 cast-result c = search needs
 
 returns : tie.Need-returns Inv-loop μ-loop
-returns c = sym (lowest-found _ _ _ (c .before .before .loop-test .taken) (failed (c .before .rule-ok .ensures) (c .if1 .taken))) ∙ c .before .before .before .loop .inv .1 ∙ ap (lowestFailing _ 1) (c .before .before .before .before .before .before .records .ensures)
+returns c = sym (lowest-found _ _ _ (c .before .before .loop-test .taken) (failed (c .before .rule-ok .ensures) (c .if1 .taken))) ∙ c .before .before .before .loop .inv .left ∙ ap (lowestFailing _ 1) (c .before .before .before .before .before .before .records .ensures)
 
 add-k : tie.Need-add-k Inv-loop μ-loop
 add-k c = search needs
@@ -45,10 +45,10 @@ loop-less : tie.Need-loop-less Inv-loop μ-loop
 loop-less c = search needs
 
 loop-again : tie.Need-loop-again Inv-loop μ-loop
-loop-again c = (search needs, sym (lowest-goes-on _ _ _ (c .before .before .loop-test .taken) (passed (c .before .rule-ok .ensures) (c .if1 .left))) ∙ c .before .before .before .loop .inv .1)
+loop-again c = range-more (c .before .before .before .loop .inv) (lowest-goes-on _ _ _ (c .before .before .loop-test .taken) (passed (c .before .rule-ok .ensures) (c .if1 .left)))
 
 returns-2 : tie.Need-returns-2 Inv-loop μ-loop
-returns-2 c = sym (lowest-at-end _ _ _ (c .loop-test .left)) ∙ c .before .loop .inv .1 ∙ ap (lowestFailing _ 1) (c .before .before .before .before .records .ensures)
+returns-2 c = sym (lowest-at-end _ _ _ (c .loop-test .left)) ∙ c .before .loop .inv .left ∙ ap (lowestFailing _ 1) (c .before .before .before .before .records .ensures)
 
 pub broken-record-spec : {M : Type 1} → statement M
 broken-record-spec =

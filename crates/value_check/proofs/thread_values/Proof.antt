@@ -63,7 +63,7 @@ line-failing-requires c κs =
     let line = c .before .before .before .before .before .before .before in
     let start = line .before .before .before .before .before .before .before .before in (
       omega (arith, line .before .before .before .before .before .globals .ensures, start .pre .0 .0 .few-globals),
-      line .before .before .before .before .items .ensures .1,
+      line .before .before .before .before .items .ensures .most,
       omega (arith, walk-room (start .pre .0 .0) _ _ (start .pre .0 .1) (line .before .loop .inv) (line .loop-test .taken), start .pre .1 .0 .1),
     )
 
@@ -73,7 +73,7 @@ returns c =
     let line = read .before .before .before .before .before in
     let start = line .before .before .before .before .before .before .before .before in (
       walk-found (start .pre .0 .0) _ _ (start .pre .0 .1) (line .before .loop .inv) (line .loop-test .taken) _ (read .before .before .before .block-of .ensures) _ (read .before .before .before .before .record-at .ensures) _
-          (read .before .before .value-of .ensures) _ (read .enter-block .ensures) _ (line .before .before .before .before .before .globals .ensures) (line .before .before .before .before .items .ensures .0) _ (c .before .line-failing .ensures)
+          (read .before .before .value-of .ensures) _ (read .enter-block .ensures) _ (line .before .before .before .before .before .globals .ensures) (line .before .before .before .before .items .ensures .is) _ (c .before .line-failing .ensures)
           (c .if1 .taken) _,
       λ z. absurd (c .if1 .taken z),
     )
@@ -98,7 +98,7 @@ add-at c =
     omega (
       arith,
       walk-room-after (start .pre .0 .0) _ _ (start .pre .0 .1) (line .before .loop .inv) (line .loop-test .taken) _ (read .before .before .before .block-of .ensures) _ (read .before .before .before .before .record-at .ensures) _
-          (read .before .before .value-of .ensures) _ (read .enter-block .ensures) _ (line .before .before .before .before .before .globals .ensures) (line .before .before .before .before .items .ensures .0) _ (c .value-rows .ensures),
+          (read .before .before .value-of .ensures) _ (read .enter-block .ensures) _ (line .before .before .before .before .before .globals .ensures) (line .before .before .before .before .items .ensures .is) _ (c .value-rows .ensures),
       start .pre .1 .0 .1,
     )
 
@@ -115,7 +115,7 @@ put-local-requires : tie.Need-put-local-requires Inv-loop μ-loop
 put-local-requires c κs = search needs
 
 put-item-requires : tie.Need-put-item-requires Inv-loop μ-loop
-put-item-requires c κs = c .before .before .before .before .before .before .before .before .before .before .before .before .before .before .before .before .before .before .before .before .before .before .before .before .before .items .ensures .1
+put-item-requires c κs = c .before .before .before .before .before .before .before .before .before .before .before .before .before .before .before .before .before .before .before .before .before .before .before .before .before .items .ensures .most
 
 cast-next-of : tie.Need-cast-next-of Inv-loop μ-loop
 cast-next-of c =
@@ -127,7 +127,7 @@ next-of-requires : tie.Need-next-of-requires Inv-loop μ-loop
 next-of-requires c κs =
     let line = c .before .before .before .before .before .before .before .before .before .before .before .before .before .before .before .before .before .before .before .before .before .before in
     let start = line .before .before .before .before .before .before .before .before in
-    (omega (arith, line .loop-test .taken), omega (arith, line .before .loop .inv .low, start .pre .0 .0 .size))
+    omega (arith, line .loop-test .taken, line .before .loop .inv .low, start .pre .0 .0 .size)
 
 cast-k-3 : tie.Need-cast-k-3 Inv-loop μ-loop
 cast-k-3 c =
@@ -147,7 +147,7 @@ loop-again c =
     let line = read .before .before .before .before .before in
     let start = line .before .before .before .before .before .before .before .before in
     walk-more (start .pre .0 .0) _ _ (start .pre .0 .1) (line .before .loop .inv) (line .loop-test .taken) _ (read .before .before .before .block-of .ensures) _ (read .before .before .before .before .record-at .ensures) _
-    (read .before .before .value-of .ensures) _ (read .enter-block .ensures) _ (line .before .before .before .before .before .globals .ensures) (line .before .before .before .before .items .ensures .0) _
+    (read .before .before .value-of .ensures) _ (read .enter-block .ensures) _ (line .before .before .before .before .before .globals .ensures) (line .before .before .before .before .items .ensures .is) _
     (c .before .before .before .before .before .before .before .before .before .before .before .before .before .before .before .line-failing .ensures)
     (c .before .before .before .before .before .before .before .before .before .before .before .before .before .before .if1 .left) _ (c .before .before .before .before .before .before .before .before .before .value-rows .ensures) _
     (c .before .before .before .before .before .before .before .before .before .before .before .breaks .ensures) _ (c .before .before .before .before .before .before .before .before .before .before .noted .ensures) _

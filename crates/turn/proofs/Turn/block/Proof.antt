@@ -41,7 +41,7 @@ step-requires c κs = record {
   more = omega (arith, c .if2 .left);
   globals = c .before .before .before .before .before .before .before .globals .ensures;
   items =
-      c .before .before .before .before .before .before .items .ensures .0;
+      c .before .before .before .before .before .before .items .ensures .is;
 }
 
 sub-left : tie.Need-sub-left Inv-loop μ-loop
