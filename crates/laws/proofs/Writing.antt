@@ -60,6 +60,10 @@ put-then {xs} {ys} {d} {at = at} first second = record {
   place = omega (arith, length-append xs ys);
 }
 
+-- From the slice's start the place after the numbers says how many they are.
+pub put-size : {numbers before after : List ℕ} {r : ℕ} → Put numbers before 0 after r → r ≡ length numbers
+put-size put = omega arith
+
 -- All numbers, the slice before them and the place of the first; the slice so far, the place, and the numbers that are left.
 pub record Writing (numbers before : List ℕ) (start : ℕ) (out : List ℕ) (at : ℕ) (rest : List ℕ) : Type 0 where
   pub same : length out ≡ length before
