@@ -21,7 +21,7 @@ use Rattle.laws.proofs.OnCase.{on-accepted, on-refused}
 use Rattle.laws.proofs.Sizes.{six-a-row}
 use Rattle.laws.proofs.Views.{LeView, within, beyond, le-view}
 use Rattle.encoder.specs.Parts.{tableNumbers}
-use Rattle.encoder.specs.Writers.{Encodes}
+use Rattle.encoder.specs.Writers.{Answered}
 
 module _ (bytes : List ℕ) where
   -- The slice, by the answer.
@@ -36,7 +36,7 @@ module _ (bytes : List ℕ) where
 
   pub case-refused :
       (d : List ℕ) (v : Verdict) (number place : ℕ) → v ≡ verdict bytes → v ≡ verdicts.Refused number place
-      → Encodes bytes d (Refused number place) d
+      → Answered bytes d d (Refused number place)
   case-refused d v number place e h = let told = refused-answer (length d) v number place e h in record { answer = told; slice = slice-after d (Refused number place) told }
 
   -- An accepted case, by how many constraints it has.
@@ -53,7 +53,7 @@ module _ (bytes : List ℕ) where
       size : length (numbersOf (table (caseOf bytes))) ≡ 6 * count
       size = omega (arith, six-a-row (table (caseOf bytes)))
 
-      pub too-short : length d < 6 * count → Encodes bytes d (Refused 10 0) d
+      pub too-short : length d < 6 * count → Answered bytes d d (Refused 10 0)
       too-short h = let told = sym (short (length d) (omega (arith, size))) in record { answer = told; slice = slice-after d (Refused 10 0) told }
 
       pub table-fits : 6 * count ≤ length d → length (tableNumbers bytes) ≤ length d
@@ -62,7 +62,7 @@ module _ (bytes : List ℕ) where
 
       pub table-answered :
           (x : List ℕ) (vars : ℕ) → 6 * count ≤ length d → vars ≡ variables (caseOf bytes) → x ≡ writtenOver (tableNumbers bytes) d
-          → Encodes bytes d (Table count vars) x
+          → Answered bytes d x (Table count vars)
       table-answered x vars h ev ex =
           let told : Table count vars ≡ encoded bytes (length d) = rw (ec, ev) (sym (long (length d) (omega (arith, size)))) in
           record { answer = told; slice = ex ∙ slice-after d (Table count vars) told }

@@ -29,7 +29,7 @@ pub record PutCopies (bytes numbers before : List ℕ) (at : ℕ) (after : List 
   pub put : Put numbers before at after r
   pub held : Held (caseOf bytes) copies t []
 
--- The answer, and the slice after it.
-pub record Encodes (bytes before : List ℕ) (r : Encoded) (after : List ℕ) : Type 0 where
+-- The call's answer, and what it leaves in a slice.
+pub record Answered (bytes before after : List ℕ) (r : Encoded) : Type 0 where
   pub answer : r ≡ encoded bytes (length before)
   pub slice : after ≡ encodedInto bytes before

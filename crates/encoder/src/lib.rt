@@ -12,7 +12,7 @@ ghost use Rattle.model.specs.declared.Verdict.the-variants as verdicts;
 ghost use Rattle.laws.specs.Accepted.{Accepted};
 ghost use Rattle.laws.specs.Written.{Put, RoomFor, ThreadRoom};
 ghost use Rattle.encoder.specs.Parts.{orderNumbers, allOrderNumbers, valueNumbers, allValueNumbers, itemNumbers, blockNumbers, runNumbers, tableNumbers};
-ghost use Rattle.encoder.specs.Writers.{CopiesRoom, ThreadCopiesRoom, PutCopies, Encodes};
+ghost use Rattle.encoder.specs.Writers.{CopiesRoom, ThreadCopiesRoom, PutCopies, Answered};
 use accept::accept;
 use case_file::Link;
 use case_file::block_values;
@@ -52,7 +52,7 @@ pub fn encode(case: &[u8], table: &mut [u16]) -> Encoded
 // The table of an accepted case where it fits; refusal 10 where it does not.
 fn encode_accepted(case: &[u8], table: &mut [u16]) -> Encoded
     requires { ⌜ verdict (now case) ≡ verdicts.Accepted ⌝ }
-    ensures { λ r. ⌜ Encodes (now (case .entry)) (now (table .entry)) r (now (table .exit)) ⌝ }
+    ensures { λ r. ⌜ Answered (now (case .entry)) (now (table .entry)) (now (table .exit)) r ⌝ }
 {
     let count = constraint_count(case);
     if table.len() < ROW * count {
