@@ -68,24 +68,18 @@ module _ (bytes : List ℕ) where
   abbrev pub valueSeries : ℕ → Series
   valueSeries to = record { from = valuesFrom to; here = valueNumbers bytes; to = to; more = values-more to; none = values-end to }
 
-  -- At thread t of so many: the latest copies after all lines of the threads before it, and what is written.
+  -- At thread t: the latest copies after all lines of the threads before it, and what is written of the values of so many threads.
   pub record Taking (to : ℕ) (copies : List (List ℕ)) (t : ℕ) (before : List ℕ) (start : ℕ) (out : List ℕ) (at : ℕ) : Type 0 where
     pub held : Held (caseOf bytes) copies t []
     pub going : Going (valueSeries to) t (allValueNumbers bytes) before start out at
 
-  pub taking-more :
-      {to : ℕ} {copies : List (List ℕ)} {t : ℕ} {before : List ℕ} {start : ℕ} {out : List ℕ} {at : ℕ} {out' : List ℕ} {at' : ℕ} {copies' : List (List ℕ)}
-      → Taking to copies t before start out at → t < to → PutCopies bytes (valueNumbers bytes t) out at out' at' copies' (suc t)
-      → Taking to copies' (t + 1) before start out' at'
-  taking-more v h done = record { held = rw add-one (done .held); going = going-more (v .going) h (done .put) }
+  module _ {to : ℕ} {copies : List (List ℕ)} {t : ℕ} {before : List ℕ} {start : ℕ} {out : List ℕ} {at : ℕ} (v : Taking to copies t before start out at) where
+    pub taking-more : t < to → {out' : List ℕ} {at' : ℕ} {copies' : List (List ℕ)} → PutCopies bytes (valueNumbers bytes t) out at out' at' copies' (suc t)
+        → Taking to copies' (t + 1) before start out' at'
+    taking-more h done = record { held = rw add-one (done .held); going = going-more (v .going) h (done .put) }
 
-  pub taking-end :
-      {to : ℕ} {copies : List (List ℕ)} {t : ℕ} {before : List ℕ} {start : ℕ} {out : List ℕ} {at : ℕ}
-      → Taking to copies t before start out at → to ≡ threadCount bytes → to ≤ t → PutCopies bytes (allValueNumbers bytes) before start out at copies (threadCount bytes)
-  taking-end {copies = copies} v e h = record {
-    put = going-end (v .going) h;
-    held = subst (λ (u : ℕ). Held (caseOf bytes) copies u []) (omega arith) (v .held);
-  }
+    pub taking-end : to ≡ threadCount bytes → to ≤ t → PutCopies bytes (allValueNumbers bytes) before start out at copies (threadCount bytes)
+    taking-end e h = record { put = going-end (v .going) h; held = subst (λ (u : ℕ). Held (caseOf bytes) copies u []) (omega arith) (v .held) }
 
   -- The 6s of the blocks from i on.
   unfoldable pub blocksFrom : ℕ → ℕ → List ℕ

@@ -28,7 +28,7 @@ items-requires : tie.Need-items-requires Inv-loop μ-loop
 items-requires c κs = search needs
 
 loop-holds : tie.Need-loop-holds Inv-loop μ-loop
-loop-holds c = going-start (items-all _ _ _ (c .items .ensures .0))
+loop-holds c = going-start (items-all _ _ _ (search needs))
 
 add-copy-of : tie.Need-add-copy-of Inv-loop μ-loop
 add-copy-of c = search needs
