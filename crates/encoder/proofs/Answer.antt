@@ -21,6 +21,7 @@ use Rattle.laws.proofs.OnCase.{on-accepted, on-refused}
 use Rattle.laws.proofs.Sizes.{six-a-row}
 use Rattle.laws.proofs.Views.{LeView, within, beyond, le-view}
 use Rattle.encoder.specs.Parts.{tableNumbers}
+use Rattle.encoder.specs.Writers.{Answered}
 
 module _ (bytes : List ℕ) where
   -- The slice, by the answer.
@@ -35,8 +36,8 @@ module _ (bytes : List ℕ) where
 
   pub case-refused :
       (d : List ℕ) (v : Verdict) (number place : ℕ) → v ≡ verdict bytes → v ≡ verdicts.Refused number place
-      → (Refused number place ≡ encoded bytes (length d)) × (d ≡ encodedInto bytes d)
-  case-refused d v number place e h = let answer = refused-answer (length d) v number place e h in (answer, slice-after d (Refused number place) answer)
+      → Answered bytes d d (Refused number place)
+  case-refused d v number place e h = let told = refused-answer (length d) v number place e h in record { answer = told; slice = slice-after d (Refused number place) told }
 
   -- An accepted case, by how many constraints it has.
   module _ (accepted : verdict bytes ≡ Accepted) where
@@ -52,8 +53,8 @@ module _ (bytes : List ℕ) where
       size : length (numbersOf (table (caseOf bytes))) ≡ 6 * count
       size = omega (arith, six-a-row (table (caseOf bytes)))
 
-      pub too-short : length d < 6 * count → (Refused 10 0 ≡ encoded bytes (length d)) × (d ≡ encodedInto bytes d)
-      too-short h = let answer = sym (short (length d) (omega (arith, size))) in (answer, slice-after d (Refused 10 0) answer)
+      pub too-short : length d < 6 * count → Answered bytes d d (Refused 10 0)
+      too-short h = let told = sym (short (length d) (omega (arith, size))) in record { answer = told; slice = slice-after d (Refused 10 0) told }
 
       pub table-fits : 6 * count ≤ length d → length (tableNumbers bytes) ≤ length d
       unfolding tableNumbers
@@ -61,10 +62,10 @@ module _ (bytes : List ℕ) where
 
       pub table-answered :
           (x : List ℕ) (vars : ℕ) → 6 * count ≤ length d → vars ≡ variables (caseOf bytes) → x ≡ writtenOver (tableNumbers bytes) d
-          → (Table count vars ≡ encoded bytes (length d)) × (x ≡ encodedInto bytes d)
+          → Answered bytes d x (Table count vars)
       table-answered x vars h ev ex =
-          let answer : Table count vars ≡ encoded bytes (length d) = rw (ec, ev) (sym (long (length d) (omega (arith, size)))) in
-          (answer, ex ∙ slice-after d (Table count vars) answer)
+          let told : Table count vars ≡ encoded bytes (length d) = rw (ec, ev) (sym (long (length d) (omega (arith, size)))) in
+          record { answer = told; slice = ex ∙ slice-after d (Table count vars) told }
 
   -- For the caller: a table that was written fits.
   pub written-fits : (room : ℕ) (r : Encoded) (constraints variables : ℕ) → r ≡ encoded bytes room → r ≡ Table constraints variables → 6 * constraints ≤ room

@@ -32,9 +32,9 @@ nearest-line bytes t k ok low = go (eq-view k 0)
 
 -- Its order rows are put: it is then the nearest of the earlier lines.
 pub order-step :
-    {bytes : List ℕ} {t k : ℕ} {link : Link} {T n : ℕ} {out : List ℕ} {at : ℕ} {x : List ℕ} {end len : ℕ} {out' : List ℕ} → PutsOrder link T n t out at out'
-    → Walking bytes t (orders (caseOf bytes) t) (Nearest (link .before)) k out at x end len → Accepted bytes → k ≢ 0 → link .line ≡ k → link .next ≡ nextRecord bytes k
-    → T ≡ threadCount bytes → n ≡ switchCount bytes → Walking bytes t (orders (caseOf bytes) t) (Nearest (link .line)) (link .next) out' (at + 6 * orderRowCount) x end len
+    {bytes : List ℕ} {t k : ℕ} {link : Link} {T n : ℕ} {out : List ℕ} {at : ℕ} {numbers before : List ℕ} {start : ℕ} {out' : List ℕ} → PutsOrder link T n t out at out'
+    → Walking bytes t (orders (caseOf bytes) t) (Nearest (link .before)) k numbers before start out at → Accepted bytes → k ≢ 0 → link .line ≡ k → link .next ≡ nextRecord bytes k
+    → T ≡ threadCount bytes → n ≡ switchCount bytes → Walking bytes t (orders (caseOf bytes) t) (Nearest (link .line)) (link .next) numbers before start out' (at + 6 * orderRowCount)
 unfolding Nearest
 order-step {bytes} {t} {k} {link} puts v ok some line next eT en =
     walking-more v ok some next (record { number = line; some = λ z. some (sym line ∙ z) })
@@ -44,8 +44,8 @@ order-step {bytes} {t} {k} {link} puts v ok some line next eT en =
     nearest = rw next (nearest-line bytes t (nextRecord bytes k) ok (next-low bytes ok t k some (v .low)))
 
 -- Its 4 and its 5 are put, and it is taken as the latest copy of its target.
-module _ {bytes : List ℕ} {t k : ℕ} {copies : List (List ℕ)} {out : List ℕ} {at : ℕ} {x : List ℕ} {end len : ℕ}
-    (v : Walking bytes t (values (caseOf bytes)) (Held (caseOf bytes) copies t) k out at x end len) (ok : Accepted bytes) (some : k ≢ 0)
+module _ {bytes : List ℕ} {t k : ℕ} {copies : List (List ℕ)} {out : List ℕ} {at : ℕ} {numbers before : List ℕ} {start : ℕ}
+    (v : Walking bytes t (values (caseOf bytes)) (Held (caseOf bytes) copies t) k numbers before start out at) (ok : Accepted bytes) (some : k ≢ 0)
     {l : Record} (el : l ≡ recordOf bytes t k) where
   pub thread-low : t < threadCount bytes → l .thread < mostThreads
   thread-low few = rw el (omega (arith, ok .few-threads))
@@ -53,13 +53,13 @@ module _ {bytes : List ℕ} {t k : ℕ} {copies : List (List ℕ)} {out : List �
   width : {c : ℕ} → c ≡ valueRowCount (kindOf (l .kind)) → c ≡ valueRowCount (kindOf (recordField bytes k 1))
   width ec = rw el at ec
 
-  pub value-room : {c : ℕ} → c ≡ valueRowCount (kindOf (l .kind)) → end ≤ len → at + 6 * c ≤ length out
+  pub value-room : {c : ℕ} → c ≡ valueRowCount (kindOf (l .kind)) → start + length numbers ≤ length before → at + 6 * c ≤ length out
   value-room ec h = omega (arith, walking-room v ok some h, width ec)
 
   pub value-step :
       {G c name next : ℕ} {out' : List ℕ} {copies' : List (List ℕ)} → G ≡ globalCount bytes → PutsValues (asLine l k) G copies out at out'
       → c ≡ valueRowCount (kindOf (l .kind)) → t < threadCount bytes → ((j : ℕ) → name ≡ targetName G (asLine l j)) → copies' ≡ withCopy copies t name k
-      → next ≡ nextRecord bytes k → Walking bytes t (values (caseOf bytes)) (Held (caseOf bytes) copies' t) next out' (at + 6 * c) x end len
+      → next ≡ nextRecord bytes k → Walking bytes t (values (caseOf bytes)) (Held (caseOf bytes) copies' t) next numbers before start out' (at + 6 * c)
   value-step {name = name} {copies' = copies'} eG puts ec few en taken next =
       walking-more v ok some next held ((rw el at puts) (caseOf bytes) (v .earlier) (v .known) eG) (omega (arith, width ec))
     where

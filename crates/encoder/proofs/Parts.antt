@@ -1,6 +1,6 @@
 -- The parts of the table one by one: by thread, by block, by item, and the whole.
 -- Assumes nothing.
-use mathlib.Core.Path.{_≡_, sym, ap, _∙_, subst}
+use mathlib.Core.Path.{_≡_, refl, sym, ap, _∙_, subst}
 use Prim.Native.Nat.{ℕ, suc, _+_, _-_, _%_, _≤_, _<_}
 use mathlib.Core.List.{List, [], _∷_, _++_, reverse}
 use native.Mathlib.Omega.{arith}
@@ -14,14 +14,16 @@ use Rattle.model.specs.Lists.{writtenOver}
 use Rattle.model.specs.Copies.{latest}
 use Rattle.model.specs.Table.{Row, row, orderRows, allOrderRows, valueRows, allValueRows, itemRows, blockRows, runRows, goalRow, table, numbersOf}
 use Rattle.laws.specs.Accepted.{Accepted, threadLines}
-use Rattle.laws.specs.Written.{numbersAt}
+use Rattle.laws.specs.Written.{numbersAt, Put}
 use Rattle.laws.proofs.Following.{chains-more, chains-end}
 use Rattle.laws.proofs.RowNumbers.{numbers-of-append}
-use Rattle.laws.proofs.Writing.{numbers-append, numbers-from-start}
+use Rattle.laws.proofs.Sizes.{six-a-row}
+use Rattle.laws.proofs.Writing.{numbers-from-start, put-then}
 use Rattle.copies.specs.Held.{copyIn, Held}
 use Rattle.copies.proofs.Held.{held-last}
-use Rattle.encoder.proofs.Series.{Series}
+use Rattle.encoder.proofs.Series.{Series, Going, going-more, going-end}
 use Rattle.encoder.specs.Parts.{orderNumbers, allOrderNumbers, valueNumbers, allValueNumbers, itemNumbers, blockNumbers, runNumbers, tableNumbers}
+use Rattle.encoder.specs.Writers.{PutCopies}
 
 module _ (bytes : List ℕ) where
   -- The order rows of the threads from t on.
@@ -66,9 +68,18 @@ module _ (bytes : List ℕ) where
   abbrev pub valueSeries : ℕ → Series
   valueSeries to = record { from = valuesFrom to; here = valueNumbers bytes; to = to; more = values-more to; none = values-end to }
 
-  -- All threads have been taken.
-  pub all-taken : (copies : List (List ℕ)) (t to : ℕ) → to ≡ threadCount bytes → t ≤ to → to ≤ t → Held (caseOf bytes) copies t [] → Held (caseOf bytes) copies (threadCount bytes) []
-  all-taken copies t to e low high = subst (λ (u : ℕ). Held (caseOf bytes) copies u []) (omega arith)
+  -- At thread t: the latest copies after all lines of the threads before it, and what is written of the values of so many threads.
+  pub record Taking (to : ℕ) (copies : List (List ℕ)) (t : ℕ) (before : List ℕ) (start : ℕ) (out : List ℕ) (at : ℕ) : Type 0 where
+    pub held : Held (caseOf bytes) copies t []
+    pub going : Going (valueSeries to) t (allValueNumbers bytes) before start out at
+
+  module _ {to : ℕ} {copies : List (List ℕ)} {t : ℕ} {before : List ℕ} {start : ℕ} {out : List ℕ} {at : ℕ} (v : Taking to copies t before start out at) where
+    pub taking-more : t < to → {out' : List ℕ} {at' : ℕ} {copies' : List (List ℕ)} → PutCopies bytes (valueNumbers bytes t) out at out' at' copies' (suc t)
+        → Taking to copies' (t + 1) before start out' at'
+    taking-more h done = record { held = rw add-one (done .held); going = going-more (v .going) h (done .put) }
+
+    pub taking-end : to ≡ threadCount bytes → to ≤ t → PutCopies bytes (allValueNumbers bytes) before start out at copies (threadCount bytes)
+    taking-end e h = record { put = going-end (v .going) h; held = subst (λ (u : ℕ). Held (caseOf bytes) copies u []) (omega arith) (v .held) }
 
   -- The 6s of the blocks from i on.
   unfoldable pub blocksFrom : ℕ → ℕ → List ℕ
@@ -123,11 +134,11 @@ module _ (bytes : List ℕ) where
   pub item-put :
       Accepted bytes → (copies : List (List ℕ)) → Held (caseOf bytes) copies (threadCount bytes) [] → (d a : List ℕ) (at i g T copy : ℕ) (w : Row) → g < mostItems
       → T ≡ threadCount bytes → copy ≡ copyIn copies (i % T) (itemName g) → w ≡ row 6 g i copy 0 0 → a ≡ numbersAt d at (numbersOf (w ∷ []))
-      → a ≡ numbersAt d at (itemRow i g)
+      → Put (itemRow i g) d at a (at + 6)
   item-put ok copies held d a at i g T copy w few eT ec ew ea =
       let low : i % threadCount bytes < threadCount bytes = mod-lt i (omega (arith, ok .some-threads)) in
       let last = held-last (caseOf bytes) copies (threadCount bytes) [] held (i % threadCount bytes) (itemName g) low (omega (arith, ok .few-threads)) (omega arith) in
-      rw (← last, ← eT, ← ec, ← ew) ea
+      rw (← last, ← eT, ← ec, ← ew) (record { slice = ea; place = omega (arith, six-a-row (w ∷ [])) })
 
   -- All rows but the goal.
   pub run-parts : runNumbers bytes ≡ allOrderNumbers bytes ++ (allValueNumbers bytes ++ blockNumbers bytes)
@@ -147,22 +158,9 @@ module _ (bytes : List ℕ) where
       )
 
   pub run-written :
-      (d a b c : List ℕ) (p q r : ℕ) → a ≡ numbersAt d 0 (allOrderNumbers bytes) → p ≡ length (allOrderNumbers bytes)
-      → b ≡ numbersAt a p (allValueNumbers bytes) → q ≡ p + length (allValueNumbers bytes)
-      → c ≡ numbersAt b q (blockNumbers bytes) → r ≡ q + length (blockNumbers bytes)
-      → (c ≡ numbersAt d 0 (runNumbers bytes)) × (r ≡ length (runNumbers bytes))
-  run-written d a b c p q r ea ep eb eq ec er = (
-    rw (ec, eb, ea, run-parts, after, start)
-        (sym (numbers-append d 0 (allOrderNumbers bytes) (allValueNumbers bytes ++ blockNumbers bytes)
-        ∙ numbers-append (numbersAt d 0 (allOrderNumbers bytes)) (0 + length (allOrderNumbers bytes)) (allValueNumbers bytes) (blockNumbers bytes))),
-    omega (arith, run-size),
-  )
-    where
-      start : p ≡ 0 + length (allOrderNumbers bytes)
-      start = omega arith
-
-      after : q ≡ 0 + length (allOrderNumbers bytes) + length (allValueNumbers bytes)
-      after = omega arith
+      {d a b c : List ℕ} {p q r : ℕ} → Put (allOrderNumbers bytes) d 0 a p → Put (allValueNumbers bytes) a p b q → Put (blockNumbers bytes) b q c r
+      → Put (runNumbers bytes) d 0 c r
+  run-written orders values blocks = rw run-parts (put-then orders (put-then values blocks))
 
   -- The goal after them.
   table-parts : tableNumbers bytes ≡ runNumbers bytes ++ numbersOf (goalRow ∷ [])
@@ -174,9 +172,7 @@ module _ (bytes : List ℕ) where
   table-size = omega (arith, ap length table-parts, length-append (runNumbers bytes) (numbersOf (goalRow ∷ [])))
 
   pub table-written :
-      (d a b : List ℕ) (at : ℕ) → length (tableNumbers bytes) ≤ length d → a ≡ numbersAt d 0 (runNumbers bytes) → at ≡ length (runNumbers bytes)
-      → b ≡ numbersAt a at (numbersOf (goalRow ∷ [])) → b ≡ writtenOver (tableNumbers bytes) d
-  table-written d a b at h ea ep eb =
-      let place : at ≡ 0 + length (runNumbers bytes) = omega arith in
-      rw (eb, place, ea) (sym (numbers-append d 0 (runNumbers bytes) (numbersOf (goalRow ∷ []))) ∙ ap (numbersAt d 0) (sym table-parts))
-      ∙ numbers-from-start d (tableNumbers bytes) h
+      {d a b : List ℕ} {at : ℕ} → length (tableNumbers bytes) ≤ length d → Put (runNumbers bytes) d 0 a at → b ≡ numbersAt a at (numbersOf (goalRow ∷ []))
+      → b ≡ writtenOver (tableNumbers bytes) d
+  table-written {d} h run goal =
+      put-then run (record { slice = goal; place = refl }) .slice ∙ ap (numbersAt d 0) (sym table-parts) ∙ numbers-from-start d (tableNumbers bytes) h

@@ -10,7 +10,7 @@ use Rattle.model.specs.CaseFile.{Line, Case, records, threadCount, firstRecord,
 use Rattle.model.specs.Table.{Row, lineOrderRows, orderRows, valueRow, demandRows, valueRows, numbersOf}
 use Rattle.laws.specs.Accepted.{Accepted, linesFrom, threadLines}
 use Rattle.laws.specs.RowCounts.{orderRowCount, valueRowCount}
-use Rattle.laws.specs.Written.{numbersAt}
+use Rattle.laws.specs.Written.{numbersAt, Put}
 use Rattle.laws.proofs.Following.{lines-end, lines-more, next-low}
 use Rattle.laws.proofs.RowNumbers.{numbers-of-append}
 use Rattle.laws.proofs.Sizes.{six-a-row, line-order-length, line-value-length}
@@ -66,34 +66,35 @@ values case = record {
 }
 
 module _ (bytes : List ℕ) (t : ℕ) (rows : LineRows) where
-  -- At record k, after some lines of which this is known: the slice so far, the place, and the slice and the place at the end.
-  pub record Walking (Known : List Line → Type 0) (k : ℕ) (out : List ℕ) (at : ℕ) (x : List ℕ) (end len : ℕ) : Type 0 where
+  -- At record k, after some lines of which this is known: all numbers, the slice before them and the place of the first; the slice
+  -- so far and the place.
+  pub record Walking (Known : List Line → Type 0) (k : ℕ) (numbers before : List ℕ) (start : ℕ) (out : List ℕ) (at : ℕ) : Type 0 where
     pub earlier : List Line
     pub low : k ≤ records bytes
     pub whole : reverseAux (linesFrom bytes t k) earlier ≡ reverse (threadLines bytes t)
     pub known : Known earlier
-    pub writes : Writing out at (numbersOf (rows .all earlier (linesFrom bytes t k))) x end len
+    pub writes : Writing numbers before start out at (numbersOf (rows .all earlier (linesFrom bytes t k)))
 
 pub walking-start :
-    {bytes : List ℕ} {t : ℕ} {rows : LineRows} {Known : List Line → Type 0} {k : ℕ} {out : List ℕ} {at : ℕ}
-    → Accepted bytes → t < threadCount bytes → k ≡ firstRecord bytes t → Known [] → (numbers : List ℕ) → numbersOf (rows .all [] (threadLines bytes t)) ≡ numbers
-    → Walking bytes t rows Known k out at (numbersAt out at numbers) (at + length numbers) (length out)
-walking-start {t = t} {out = out} {at = at} ok few e known numbers all = record {
+    {bytes : List ℕ} {t : ℕ} {rows : LineRows} {Known : List Line → Type 0} {k : ℕ} {numbers out : List ℕ} {at : ℕ}
+    → Accepted bytes → t < threadCount bytes → k ≡ firstRecord bytes t → Known [] → numbersOf (rows .all [] (threadLines bytes t)) ≡ numbers
+    → Walking bytes t rows Known k numbers out at out at
+walking-start {t = t} ok few e known all = record {
   earlier = [];
   low = omega (arith, ok .firsts t few);
   whole = rw e;
   known = known;
-  writes = writing-start out at _ numbers (rw e all);
+  writes = writing-start (rw e all);
 }
 
-module _ {bytes : List ℕ} {t : ℕ} {rows : LineRows} {Known : List Line → Type 0} {k : ℕ} {out : List ℕ} {at : ℕ} {x : List ℕ} {end len : ℕ}
-    (v : Walking bytes t rows Known k out at x end len) where
-  pub walking-end : k ≡ 0 → ((out ≡ x) × (at ≡ end)) × (v .earlier ≡ reverse (threadLines bytes t))
+module _ {bytes : List ℕ} {t : ℕ} {rows : LineRows} {Known : List Line → Type 0} {k : ℕ} {numbers before : List ℕ} {start : ℕ} {out : List ℕ} {at : ℕ}
+    (v : Walking bytes t rows Known k numbers before start out at) where
+  pub walking-end : k ≡ 0 → Put numbers before start out at
   unfolding numbersOf
-  walking-end z =
-      let finished = lines-end bytes t k z in
-      let nothing = ap (rows .all (v .earlier)) finished ∙ rows .none (v .earlier) in
-      (writing-end out at _ x end len (v .writes) (ap numbersOf nothing), sym (ap (λ (ls : List Line). reverseAux ls (v .earlier)) finished) ∙ v .whole)
+  walking-end z = writing-end (v .writes) (ap (λ (ls : List Line). numbersOf (rows .all (v .earlier) ls)) (lines-end bytes t k z) ∙ ap numbersOf (rows .none (v .earlier)))
+
+  pub walking-whole : k ≡ 0 → v .earlier ≡ reverse (threadLines bytes t)
+  walking-whole z = sym (ap (λ (ls : List Line). reverseAux ls (v .earlier)) (lines-end bytes t k z)) ∙ v .whole
 
   module _ (ok : Accepted bytes) (some : k ≢ 0) where
     abbrev line : Line
@@ -119,16 +120,16 @@ module _ {bytes : List ℕ} {t : ℕ} {rows : LineRows} {Known : List Line → T
     width : length here ≡ 6 * rows .count line
     width = omega (arith, six-a-row (rows .here (v .earlier) line rest), rows .size (v .earlier) line rest)
 
-    pub walking-room : end ≤ len → at + 6 * rows .count line ≤ length out
-    walking-room h = omega (arith, writing-room out at _ x end len (v .writes) here after split, width, v .writes .same)
+    pub walking-room : start + length numbers ≤ length before → at + 6 * rows .count line ≤ length out
+    walking-room fits = omega (arith, writing-room (v .writes) here after split fits, width)
 
     pub walking-more :
         {Known' : List Line → Type 0} {next : ℕ} {out' : List ℕ} {at' : ℕ} → next ≡ nextRecord bytes k → Known' (line ∷ v .earlier)
-        → out' ≡ numbersAt out at here → at' ≡ at + 6 * rows .count line → Walking bytes t rows Known' next out' at' x end len
-    walking-more {Known'} {next} {out'} {at'} e known eo ea = rw e (record {
+        → out' ≡ numbersAt out at here → at' ≡ at + 6 * rows .count line → Walking bytes t rows Known' next numbers before start out' at'
+    walking-more e known eo ea = rw e (record {
       earlier = line ∷ v .earlier;
       low = next-low bytes ok t k some (v .low);
       whole = sym (ap (λ (ls : List Line). reverseAux ls (v .earlier)) goes-on) ∙ v .whole;
       known = known;
-      writes = writing-more out at _ x end len (v .writes) here after out' at' split eo (omega (arith, width));
+      writes = writing-more (v .writes) split (record { slice = eo; place = omega (arith, width) });
     })

@@ -1,8 +1,7 @@
 // The encoder: the table of a case's constraints. The latest copy of each name is known for every thread, and one forward walk over
 // each thread's lines keeps it up to date.
 ghost use mathlib.Core.Path.{_≡_};
-ghost use Prim.Native.Nat.{suc, _+_, _*_, _<_, _≤_};
-ghost use mathlib.Core.List.{[]};
+ghost use Prim.Native.Nat.{suc, _+_};
 ghost use lib.ListN.{length};
 ghost use Rattle.model.specs.CaseFile.{threadCount, caseOf};
 ghost use Rattle.model.specs.Lists.{writtenOver};
@@ -11,9 +10,9 @@ ghost use Rattle.model.specs.Accept.{verdict};
 ghost use Rattle.model.specs.Answers.{encoded, encodedInto};
 ghost use Rattle.model.specs.declared.Verdict.the-variants as verdicts;
 ghost use Rattle.laws.specs.Accepted.{Accepted};
-ghost use Rattle.laws.specs.Written.{numbersAt};
-ghost use Rattle.copies.specs.Held.{Held};
+ghost use Rattle.laws.specs.Written.{Put, RoomFor, ThreadRoom};
 ghost use Rattle.encoder.specs.Parts.{orderNumbers, allOrderNumbers, valueNumbers, allValueNumbers, itemNumbers, blockNumbers, runNumbers, tableNumbers};
+ghost use Rattle.encoder.specs.Writers.{CopiesRoom, ThreadCopiesRoom, PutCopies, Answered};
 use accept::accept;
 use case_file::Link;
 use case_file::block_values;
@@ -53,8 +52,7 @@ pub fn encode(case: &[u8], table: &mut [u16]) -> Encoded
 // The table of an accepted case where it fits; refusal 10 where it does not.
 fn encode_accepted(case: &[u8], table: &mut [u16]) -> Encoded
     requires { ⌜ verdict (now case) ≡ verdicts.Accepted ⌝ }
-    ensures { λ r. ⌜ r ≡ encoded (now (case .entry)) (length (now (table .entry))) ⌝ }
-    ensures { λ r. ⌜ now (table .exit) ≡ encodedInto (now (case .entry)) (now (table .entry)) ⌝ }
+    ensures { λ r. ⌜ Answered (now (case .entry)) (now (table .entry)) (now (table .exit)) r ⌝ }
 {
     let count = constraint_count(case);
     if table.len() < ROW * count {
@@ -87,8 +85,7 @@ fn constraint_count(case: &[u8]) -> usize
 
 // The table of an accepted case, from the slice's start: its rows without the goal, and the goal.
 fn write_table(case: &[u8], table: &mut [u16])
-    requires { ⌜ Accepted (now case) ⌝ }
-    requires { ⌜ length (tableNumbers (now case)) ≤ length (now table) ⌝ }
+    requires { ⌜ RoomFor (now case) (length (tableNumbers (now case))) (now table) ⌝ }
     ensures { λ x. ⌜ now (table .exit) ≡ writtenOver (tableNumbers (now (case .entry))) (now (table .entry)) ⌝ }
 {
     let at = write_run(case, table);
@@ -98,10 +95,8 @@ fn write_table(case: &[u8], table: &mut [u16])
 
 // The rows but for the goal, from the slice's start; the place after them.
 fn write_run(case: &[u8], table: &mut [u16]) -> usize
-    requires { ⌜ Accepted (now case) ⌝ }
-    requires { ⌜ length (runNumbers (now case)) ≤ length (now table) ⌝ }
-    ensures { λ r. ⌜ now (table .exit) ≡ numbersAt (now (table .entry)) 0 (runNumbers (now (case .entry))) ⌝ }
-    ensures { λ r. ⌜ r ≡ length (runNumbers (now (case .entry))) ⌝ }
+    requires { ⌜ RoomFor (now case) (length (runNumbers (now case))) (now table) ⌝ }
+    ensures { λ r. ⌜ Put (runNumbers (now (case .entry))) (now (table .entry)) 0 (now (table .exit)) r ⌝ }
 {
     let mut latest = [[0u16; NAMES]; THREADS];
     let orders = write_orders(case, table);
@@ -111,10 +106,8 @@ fn write_run(case: &[u8], table: &mut [u16]) -> usize
 
 // The 3s, 1s and 2s of all threads, from the slice's start; the place after them.
 fn write_orders(case: &[u8], table: &mut [u16]) -> usize
-    requires { ⌜ Accepted (now case) ⌝ }
-    requires { ⌜ length (allOrderNumbers (now case)) ≤ length (now table) ⌝ }
-    ensures { λ r. ⌜ now (table .exit) ≡ numbersAt (now (table .entry)) 0 (allOrderNumbers (now (case .entry))) ⌝ }
-    ensures { λ r. ⌜ r ≡ length (allOrderNumbers (now (case .entry))) ⌝ }
+    requires { ⌜ RoomFor (now case) (length (allOrderNumbers (now case))) (now table) ⌝ }
+    ensures { λ r. ⌜ Put (allOrderNumbers (now (case .entry))) (now (table .entry)) 0 (now (table .exit)) r ⌝ }
 {
     let threads = threads(case) as usize;
     let mut at = 0;
@@ -128,11 +121,8 @@ fn write_orders(case: &[u8], table: &mut [u16]) -> usize
 
 // Those of thread t, from a place on; the place after them.
 fn write_order(case: &[u8], table: &mut [u16], start: usize, t: usize) -> usize
-    requires { ⌜ Accepted (now case) ⌝ }
-    requires { ⌜ t < threadCount (now case) ⌝ }
-    requires { ⌜ start + length (orderNumbers (now case) t) ≤ length (now table) ⌝ }
-    ensures { λ r. ⌜ now (table .exit) ≡ numbersAt (now (table .entry)) start (orderNumbers (now (case .entry)) t) ⌝ }
-    ensures { λ r. ⌜ r ≡ start + length (orderNumbers (now (case .entry)) t) ⌝ }
+    requires { ⌜ ThreadRoom (now case) t (start + length (orderNumbers (now case) t)) (now table) ⌝ }
+    ensures { λ r. ⌜ Put (orderNumbers (now (case .entry)) t) (now (table .entry)) start (now (table .exit)) r ⌝ }
 {
     let threads = threads(case);
     let last = switches(case);
@@ -162,12 +152,8 @@ fn write_all_values(
     start: usize,
     latest: &mut [[u16; NAMES]; THREADS],
 ) -> usize
-    requires { ⌜ Accepted (now case) ⌝ }
-    requires { ⌜ Held (caseOf (now case)) (now latest) 0 [] ⌝ }
-    requires { ⌜ start + length (allValueNumbers (now case)) ≤ length (now table) ⌝ }
-    ensures { λ r. ⌜ now (table .exit) ≡ numbersAt (now (table .entry)) start (allValueNumbers (now (case .entry))) ⌝ }
-    ensures { λ r. ⌜ Held (caseOf (now (case .entry))) (now (latest .exit)) (threadCount (now (case .entry))) [] ⌝ }
-    ensures { λ r. ⌜ r ≡ start + length (allValueNumbers (now (case .entry))) ⌝ }
+    requires { ⌜ CopiesRoom (now case) (now latest) 0 (start + length (allValueNumbers (now case))) (now table) ⌝ }
+    ensures { λ r. ⌜ PutCopies (now (case .entry)) (allValueNumbers (now (case .entry))) (now (table .entry)) start (now (table .exit)) r (now (latest .exit)) (threadCount (now (case .entry))) ⌝ }
 {
     let threads = threads(case) as usize;
     let mut at = start;
@@ -187,13 +173,8 @@ fn write_values(
     t: usize,
     latest: &mut [[u16; NAMES]; THREADS],
 ) -> usize
-    requires { ⌜ Accepted (now case) ⌝ }
-    requires { ⌜ t < threadCount (now case) ⌝ }
-    requires { ⌜ Held (caseOf (now case)) (now latest) t [] ⌝ }
-    requires { ⌜ start + length (valueNumbers (now case) t) ≤ length (now table) ⌝ }
-    ensures { λ r. ⌜ now (table .exit) ≡ numbersAt (now (table .entry)) start (valueNumbers (now (case .entry)) t) ⌝ }
-    ensures { λ r. ⌜ Held (caseOf (now (case .entry))) (now (latest .exit)) (suc t) [] ⌝ }
-    ensures { λ r. ⌜ r ≡ start + length (valueNumbers (now (case .entry)) t) ⌝ }
+    requires { ⌜ ThreadCopiesRoom (now case) (now latest) t (start + length (valueNumbers (now case) t)) (now table) ⌝ }
+    ensures { λ r. ⌜ PutCopies (now (case .entry)) (valueNumbers (now (case .entry)) t) (now (table .entry)) start (now (table .exit)) r (now (latest .exit)) (suc t) ⌝ }
 {
     let globals = globals(case) as usize;
     let mut at = start;
@@ -217,11 +198,8 @@ fn write_blocks(
     start: usize,
     latest: &[[u16; NAMES]; THREADS],
 ) -> usize
-    requires { ⌜ Accepted (now case) ⌝ }
-    requires { ⌜ Held (caseOf (now case)) (now latest) (threadCount (now case)) [] ⌝ }
-    requires { ⌜ start + length (blockNumbers (now case)) ≤ length (now table) ⌝ }
-    ensures { λ r. ⌜ now (table .exit) ≡ numbersAt (now (table .entry)) start (blockNumbers (now (case .entry))) ⌝ }
-    ensures { λ r. ⌜ r ≡ start + length (blockNumbers (now (case .entry))) ⌝ }
+    requires { ⌜ CopiesRoom (now case) (now latest) (threadCount (now case)) (start + length (blockNumbers (now case))) (now table) ⌝ }
+    ensures { λ r. ⌜ Put (blockNumbers (now (case .entry))) (now (table .entry)) start (now (table .exit)) r ⌝ }
 {
     let last = switches(case);
     let mut at = start;
@@ -241,11 +219,8 @@ fn write_items(
     i: u16,
     latest: &[[u16; NAMES]; THREADS],
 ) -> usize
-    requires { ⌜ Accepted (now case) ⌝ }
-    requires { ⌜ Held (caseOf (now case)) (now latest) (threadCount (now case)) [] ⌝ }
-    requires { ⌜ start + length (itemNumbers (now case) i) ≤ length (now table) ⌝ }
-    ensures { λ r. ⌜ now (table .exit) ≡ numbersAt (now (table .entry)) start (itemNumbers (now (case .entry)) i) ⌝ }
-    ensures { λ r. ⌜ r ≡ start + length (itemNumbers (now (case .entry)) i) ⌝ }
+    requires { ⌜ CopiesRoom (now case) (now latest) (threadCount (now case)) (start + length (itemNumbers (now case) i)) (now table) ⌝ }
+    ensures { λ r. ⌜ Put (itemNumbers (now (case .entry)) i) (now (table .entry)) start (now (table .exit)) r ⌝ }
 {
     let t = i as usize % threads(case) as usize;
     let items = items(case);

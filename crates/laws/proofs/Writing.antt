@@ -8,7 +8,7 @@ use native.Mathlib.Nat.{zero-add}
 use lib.ListN.{length, set, take, drop, length-append}
 use lib.Seq.{sets, length-take-le, drop-at, length-sets, sets-eq}
 use Rattle.model.specs.Lists.{writtenOver}
-use Rattle.laws.specs.Written.{numbersAt}
+use Rattle.laws.specs.Written.{numbersAt, Put}
 
 pub numbers-none : (d : List ℕ) (at : ℕ) → numbersAt d at [] ≡ d
 unfolding numbersAt
@@ -47,26 +47,46 @@ numbers-before d xs ys h =
     size : length (xs ++ ys) ≡ length xs + length ys
     size = length-append xs ys
 
--- The slice so far, the place, the numbers that are left; the slice at the end, the place there, and the slice's length.
-pub record Writing (out : List ℕ) (at : ℕ) (rest x : List ℕ) (end len : ℕ) : Type 0 where
-  pub same : length out ≡ len
-  pub room : at + length rest ≡ end
-  pub left : numbersAt out at rest ≡ x
+-- Nothing is put, one number, or some numbers and then others.
+pub put-nothing : {out : List ℕ} {at : ℕ} → Put [] out at out at
+put-nothing {out} {at} = record { slice = sym (numbers-none out at); place = omega arith }
 
-pub writing-start : (out : List ℕ) (at : ℕ) (rest numbers : List ℕ) → rest ≡ numbers → Writing out at rest (numbersAt out at numbers) (at + length numbers) (length out)
-writing-start out at rest numbers e = record { same = refl; room = rw e; left = rw e }
+pub put-single : {v : ℕ} {out : List ℕ} {at : ℕ} → Put (v ∷ []) out at (set out at v) (at + 1)
+put-single {v} {out} {at} = record { slice = numbers-one out at v; place = refl }
 
-module _ (out : List ℕ) (at : ℕ) (rest x : List ℕ) (end len : ℕ) (v : Writing out at rest x end len) where
-  pub writing-room : (here after : List ℕ) → rest ≡ here ++ after → at + length here ≤ end
-  writing-room here after e = omega (arith, v .room, ap length e, length-append here after)
+pub put-then : {xs ys d a x : List ℕ} {at place end : ℕ} → Put xs d at a place → Put ys a place x end → Put (xs ++ ys) d at x end
+put-then {xs} {ys} {d} {at = at} first second = record {
+  slice = second .slice ∙ rw (first .place, first .slice) (sym (numbers-append d at xs ys));
+  place = omega (arith, length-append xs ys);
+}
 
-  pub writing-more : (here after out' : List ℕ) (at' : ℕ) → rest ≡ here ++ after → out' ≡ numbersAt out at here → at' ≡ at + length here
-      → Writing out' at' after x end len
-  writing-more here after out' at' e eo ea = record {
-    same = ap length eo ∙ length-numbers out at here ∙ v .same;
+-- From the slice's start the place after the numbers says how many they are.
+pub put-size : {numbers before after : List ℕ} {r : ℕ} → Put numbers before 0 after r → r ≡ length numbers
+put-size put = omega arith
+
+-- All numbers, the slice before them and the place of the first; the slice so far, the place, and the numbers that are left.
+pub record Writing (numbers before : List ℕ) (start : ℕ) (out : List ℕ) (at : ℕ) (rest : List ℕ) : Type 0 where
+  pub same : length out ≡ length before
+  pub room : at + length rest ≡ start + length numbers
+  pub left : numbersAt out at rest ≡ numbersAt before start numbers
+
+pub writing-start : {numbers out : List ℕ} {at : ℕ} {rest : List ℕ} → rest ≡ numbers → Writing numbers out at out at rest
+writing-start e = record { same = refl; room = rw e; left = rw e }
+
+module _ {numbers before : List ℕ} {start : ℕ} {out : List ℕ} {at : ℕ} {rest : List ℕ} (v : Writing numbers before start out at rest) where
+  pub writing-room : (here after : List ℕ) → rest ≡ here ++ after → start + length numbers ≤ length before → at + length here ≤ length out
+  writing-room here after e fits = omega (arith, v .same, v .room, ap length e, length-append here after)
+
+  pub writing-more : {here after out' : List ℕ} {at' : ℕ} → rest ≡ here ++ after → Put here out at out' at' → Writing numbers before start out' at' after
+  writing-more {here} {after} e put = record {
+    same = ap length (put .slice) ∙ length-numbers out at here ∙ v .same;
     room = omega (arith, v .room, ap length e, length-append here after);
-    left = rw (eo, ea) (sym (numbers-append out at here after) ∙ ap (numbersAt out at) (sym e) ∙ v .left);
+    left = rw (put .slice, put .place) (sym (numbers-append out at here after) ∙ ap (numbersAt out at) (sym e) ∙ v .left);
   }
 
-  pub writing-end : rest ≡ [] → (out ≡ x) × (at ≡ end)
-  writing-end e = (sym (numbers-none out at) ∙ ap (numbersAt out at) (sym e) ∙ v .left, omega (arith, v .room, ap length e))
+  -- The numbers that are left are put, or none is left.
+  pub writing-last : {here out' : List ℕ} {at' : ℕ} → rest ≡ here → Put here out at out' at' → Put numbers before start out' at'
+  writing-last e put = record { slice = put .slice ∙ ap (numbersAt out at) (sym e) ∙ v .left; place = omega (arith, v .room, ap length e) }
+
+  pub writing-end : rest ≡ [] → Put numbers before start out at
+  writing-end e = writing-last e put-nothing

@@ -9,36 +9,33 @@ use native.Mathlib.Omega.{arith}
 use borrow.Author.Tests.{le-leb}
 use lib.Dec.{leb}
 use lib.ListN.{length, length-append}
-use Rattle.model.specs.Limits.{mostTableNumbers, mostListingBytes}
+use Rattle.model.specs.Limits.{mostListingBytes}
 use Rattle.model.specs.Listing.{numbersLine}
 use Rattle.model.specs.declared.Encoded.{Encoded}
 use Rattle.model.specs.declared.Encoded.the-variants.{Table, Refused}
-use Rattle.laws.specs.Written.{numbersAt}
-use Rattle.listing_text.specs.Text.{sixAt, sixLines, rowsOf, textOf}
-use Rattle.listing_text.proofs.Numbers.{TextPut, put-then}
+use Rattle.laws.specs.Written.{Put}
+use Rattle.laws.proofs.Writing.{put-then}
+use Rattle.listing_text.specs.Text.{sixAt, sixLines, textOf, TableAnswered, TextRoom}
 use Rattle.listing_text.proofs.Rows.{line-size}
 
 pub rows-have-room :
-    (answer : Encoded) (constraints variables at first second numbers : ℕ) → answer ≡ Table constraints variables → at ≡ length (numbersLine (first ∷ (second ∷ []))) →
-    6 * rowsOf answer ≤ numbers → numbers ≤ mostTableNumbers → (6 * constraints ≤ numbers) × (at + 36 * constraints ≤ mostListingBytes)
-rows-have-room answer constraints variables at first second numbers e ea h few =
-    let some : 6 * constraints ≤ numbers = rw e at h in
-    (some, omega (arith, line-size (first ∷ (second ∷ []))))
+    {answer : Encoded} {constraints variables at : ℕ} {xs d a : List ℕ} → answer ≡ Table constraints variables → TableAnswered answer xs
+    → Put (numbersLine (constraints ∷ (variables ∷ []))) d 0 a at → TextRoom (6 * constraints) xs (at + 36 * constraints)
+rows-have-room {constraints = constraints} {variables} {xs = xs} e v put =
+    let some : 6 * constraints ≤ length xs = rw e at (v .inside) in
+    record { inside = some; room = omega (arith, line-size (constraints ∷ (variables ∷ []))) }
 
 pub table-text :
-    (answer : Encoded) (constraints variables : ℕ) → answer ≡ Table constraints variables → (d xs a x : List ℕ) (at size : ℕ) →
-    a ≡ numbersAt d 0 (numbersLine (constraints ∷ (variables ∷ []))) → at ≡ length (numbersLine (constraints ∷ (variables ∷ []))) →
-    TextPut a at (sixLines xs 0 constraints) x size → (x ≡ numbersAt d 0 (textOf answer xs)) × (size ≡ length (textOf answer xs))
+    {answer : Encoded} {constraints variables at size : ℕ} (xs : List ℕ) {d a x : List ℕ} → answer ≡ Table constraints variables
+    → Put (numbersLine (constraints ∷ (variables ∷ []))) d 0 a at → Put (sixLines xs 0 constraints) a at x size → Put (textOf answer xs) d 0 x size
 unfolding textOf
-table-text answer constraints variables e d xs a x at size ed ea put =
-    let whole = put-then d a x (numbersLine (constraints ∷ (variables ∷ []))) (sixLines xs 0 constraints) 0 at size (ed, omega arith) put in
-    rw e (whole .0, omega (arith, whole .1))
+table-text xs e counts rows = rw e (put-then counts rows)
 
 pub refusal-text :
-    (answer : Encoded) (number place : ℕ) → answer ≡ Refused number place → (d xs x : List ℕ) (size : ℕ) → x ≡ numbersAt d 0 (numbersLine (number ∷ (place ∷ []))) →
-    size ≡ length (numbersLine (number ∷ (place ∷ []))) → (x ≡ numbersAt d 0 (textOf answer xs)) × (size ≡ length (textOf answer xs))
+    {answer : Encoded} {number place size : ℕ} (xs : List ℕ) {d x : List ℕ} → answer ≡ Refused number place → Put (numbersLine (number ∷ (place ∷ []))) d 0 x size
+    → Put (textOf answer xs) d 0 x size
 unfolding textOf
-refusal-text answer number place e d xs x size ex es = rw e (ex, es)
+refusal-text xs e put = rw e put
 
 -- No text is longer than the longest.
 pub lines-size : (xs : List ℕ) (from many : ℕ) → length (sixLines xs from many) ≤ 36 * many
@@ -47,17 +44,16 @@ lines-size xs from zero = omega arith
 lines-size xs from (suc many) =
     omega (arith, length-append (numbersLine (sixAt xs from)) (sixLines xs (from + 6) many), line-size (sixAt xs from), lines-size xs (from + 6) many)
 
-text-size : (answer : Encoded) (xs : List ℕ) → 6 * rowsOf answer ≤ length xs → length xs ≤ mostTableNumbers → length (textOf answer xs) ≤ mostListingBytes
+text-size : (answer : Encoded) (xs : List ℕ) → TableAnswered answer xs → length (textOf answer xs) ≤ mostListingBytes
 unfolding textOf
-text-size (Table constraints variables) xs h few =
+text-size (Table constraints variables) xs v =
     omega (
       arith,
       length-append (numbersLine (constraints ∷ (variables ∷ []))) (sixLines xs 0 constraints),
       line-size (constraints ∷ (variables ∷ [])),
       lines-size xs 0 constraints,
     )
-text-size (Refused number place) xs h few = omega (arith, line-size (number ∷ (place ∷ [])))
+text-size (Refused number place) xs v = omega (arith, line-size (number ∷ (place ∷ [])))
 
-pub largest-room-fits : (answer : Encoded) (xs : List ℕ) (room : ℕ) → (6 * rowsOf answer ≤ length xs) × (length xs ≤ mostTableNumbers) → mostListingBytes ≤ room
-    → true ≡ leb (length (textOf answer xs)) room
-largest-room-fits answer xs room (h, few) large = sym (le-leb (length (textOf answer xs)) room (omega (arith, text-size answer xs h few)))
+pub largest-room-fits : (answer : Encoded) (xs : List ℕ) (room : ℕ) → TableAnswered answer xs → mostListingBytes ≤ room → true ≡ leb (length (textOf answer xs)) room
+largest-room-fits answer xs room v large = sym (le-leb (length (textOf answer xs)) room (omega (arith, text-size answer xs v)))

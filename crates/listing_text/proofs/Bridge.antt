@@ -25,13 +25,13 @@ use Rattle.model.specs.declared.Encoded.the-variants.{Table}
 use Rattle.model.specs.declared.Encoded.the-variants as encodeds
 use Rattle.model.specs.declared.Listed.{Listed}
 use Rattle.model.specs.declared.Listed.the-variants.{Text, Refused}
-use Rattle.laws.specs.Written.{numbersAt}
+use Rattle.laws.specs.Written.{numbersAt, Put}
 use Rattle.laws.proofs.OnCase.{on-accepted, on-refused}
 use Rattle.laws.proofs.Views.{LeView, within, beyond, le-view}
 use Rattle.laws.proofs.Accepted.{accepted-of}
-use Rattle.laws.proofs.Writing.{numbers-from-start}
+use Rattle.laws.proofs.Writing.{numbers-from-start, put-size}
 use Rattle.laws.proofs.Sizes.{table-rows, table-numbers}
-use Rattle.listing_text.specs.Text.{sixAt, sixLines, rowsOf, textOf}
+use Rattle.listing_text.specs.Text.{sixAt, sixLines, rowsOf, textOf, WholeText}
 use Rattle.listing_text.proofs.Rows.{line-size}
 use Rattle.listing_text.proofs.Answer.{lines-size}
 
@@ -147,13 +147,13 @@ module _ (bytes slice text : List ℕ) (same : text ≡ listingText bytes) (fits
       (answer, ap (λ (q : Listed). afterListed q (listingText bytes) slice) answer)
 
   pub long-enough :
-      fits ≡ true → (x : List ℕ) (size : ℕ) → x ≡ numbersAt slice 0 text → size ≡ length text → (Text size ≡ listed bytes (length slice)) × (x ≡ listedInto bytes slice)
+      fits ≡ true → {x : List ℕ} {size : ℕ} → Put text slice 0 x size → (Text size ≡ listed bytes (length slice)) × (x ≡ listedInto bytes slice)
   unfolding listedInto
-  long-enough has-room x size ex es =
+  long-enough has-room put =
       let room : length (listingText bytes) ≤ length slice = omega (arith, leb-true (length text) (length slice) (sym told ∙ has-room), ap length same) in
       let answer = sym (answer-long bytes (length slice) room) in (
-        ap Text (es ∙ ap length same) ∙ answer,
-        ex ∙ ap (numbersAt slice 0) same ∙ numbers-from-start slice (listingText bytes) (omega arith)
+        ap Text (put-size put ∙ ap length same) ∙ answer,
+        put .slice ∙ ap (numbersAt slice 0) same ∙ numbers-from-start slice (listingText bytes) (omega arith)
             ∙ ap (λ (q : Listed). afterListed q (listingText bytes) slice) answer,
       )
 
@@ -163,7 +163,8 @@ no-refusal bytes room r er h number place e = let z : _≡_ {A = ℕ} 0 1 = cc (
 
 pub whole-text :
     (bytes slice x : List ℕ) (r : Listed) (size : ℕ) → r ≡ listed bytes (length slice) → mostListingBytes ≤ length slice → r ≡ Text size → x ≡ listedInto bytes slice →
-    (size ≡ length (listingText bytes)) × (x ≡ writtenOver (listingText bytes) slice)
+    WholeText bytes slice x size
 unfolding listedInto
 whole-text bytes slice x r size er h e ex =
-    (cc (never-refused bytes (length slice) h), ex ∙ ap (λ (q : Listed). afterListed q (listingText bytes) slice) (never-refused bytes (length slice) h))
+    let long = never-refused bytes (length slice) h in
+    record { size = cc; text = ex ∙ ap (λ (q : Listed). afterListed q (listingText bytes) slice) long }

@@ -1,10 +1,13 @@
 -- The listing's text as the code writes it: from the encoder's answer and the numbers of the table. That this is the text of
 -- `model` is proved in proofs/Bridge.antt.
 -- Assumes nothing.
-use Prim.Native.Nat.{ℕ, zero, suc, _+_}
+use mathlib.Core.Path.{_≡_}
+use Prim.Native.Nat.{ℕ, zero, suc, _+_, _*_, _≤_}
 use mathlib.Core.List.{List, [], _∷_, _++_}
-use lib.ListN.{getD}
-use Rattle.model.specs.Listing.{decimal, numbersLine}
+use lib.ListN.{length, getD}
+use Rattle.model.specs.Limits.{mostTableNumbers, mostListingBytes}
+use Rattle.model.specs.Lists.{writtenOver}
+use Rattle.model.specs.Listing.{decimal, numbersLine, listingText}
 use Rattle.model.specs.declared.Encoded.{Encoded}
 use Rattle.model.specs.declared.Encoded.the-variants.{Table, Refused}
 
@@ -29,3 +32,18 @@ rowsOf (Refused number place) = 0
 unfoldable pub textOf : Encoded → List ℕ → List ℕ
 textOf (Table constraints variables) xs = numbersLine (constraints ∷ (variables ∷ [])) ++ sixLines xs 0 constraints
 textOf (Refused number place) xs = numbersLine (number ∷ (place ∷ []))
+
+-- The rows of the answer are in the table, which is no larger than any table.
+pub record TableAnswered (answer : Encoded) (xs : List ℕ) : Type 0 where
+  pub inside : 6 * rowsOf answer ≤ length xs
+  pub few : length xs ≤ mostTableNumbers
+
+-- So many numbers are there to be put, and their text ends within the longest listing.
+pub record TextRoom (many : ℕ) (xs : List ℕ) (end : ℕ) : Type 0 where
+  pub inside : many ≤ length xs
+  pub room : end ≤ mostListingBytes
+
+-- The whole listing from the slice's start: r is how many bytes it has.
+pub record WholeText (bytes before after : List ℕ) (r : ℕ) : Type 0 where
+  pub size : r ≡ length (listingText bytes)
+  pub text : after ≡ writtenOver (listingText bytes) before

@@ -5,10 +5,10 @@ ghost use Prim.Native.Nat.{_+_, _*_, _<_, _≤_};
 ghost use mathlib.Core.List.{[], _∷_};
 ghost use lib.Dec.{leb};
 ghost use lib.ListN.{length};
-ghost use Rattle.model.specs.Limits.{mostTableNumbers, mostListingBytes};
+ghost use Rattle.model.specs.Limits.{mostListingBytes};
 ghost use Rattle.model.specs.Listing.{digit, decimal, numbersLine, listed, listedInto};
-ghost use Rattle.laws.specs.Written.{numbersAt};
-ghost use Rattle.listing_text.specs.Text.{ended, sixAt, sixLines, rowsOf, textOf};
+ghost use Rattle.laws.specs.Written.{numbersAt, Put};
+ghost use Rattle.listing_text.specs.Text.{ended, sixAt, sixLines, textOf, TableAnswered, TextRoom};
 use model::Encoded;
 use model::ITEMS;
 use model::Listed;
@@ -43,7 +43,7 @@ pub fn listing_text(case: &[u8], text: &mut [u8]) -> Listed
 
 // Whether the text of what the encoder answered has at most so many bytes. It is not measured where every text has.
 fn fits(room: usize, answer: Encoded, table: &[u16]) -> bool
-    requires { ⌜ (6 * rowsOf answer ≤ length (now table)) × (length (now table) ≤ mostTableNumbers) ⌝ }
+    requires { ⌜ TableAnswered answer (now table) ⌝ }
     ensures { λ r. ⌜ r ≡ leb (length (textOf answer (now (table .entry)))) room ⌝ }
 {
     if MOST_BYTES <= room {
@@ -55,9 +55,8 @@ fn fits(room: usize, answer: Encoded, table: &[u16]) -> bool
 
 // The text of what the encoder answered, from the start as far as the slice goes; how many bytes the text has.
 fn write_text(text: &mut [u8], answer: Encoded, table: &[u16]) -> usize
-    requires { ⌜ (6 * rowsOf answer ≤ length (now table)) × (length (now table) ≤ mostTableNumbers) ⌝ }
-    ensures { λ r. ⌜ now (text .exit) ≡ numbersAt (now (text .entry)) 0 (textOf answer (now (table .entry))) ⌝ }
-    ensures { λ r. ⌜ r ≡ length (textOf answer (now (table .entry))) ⌝ }
+    requires { ⌜ TableAnswered answer (now table) ⌝ }
+    ensures { λ r. ⌜ Put (textOf answer (now (table .entry))) (now (text .entry)) 0 (now (text .exit)) r ⌝ }
 {
     match answer {
         Encoded::Table {
@@ -73,9 +72,8 @@ fn write_text(text: &mut [u8], answer: Encoded, table: &[u16]) -> usize
 
 // So many constraints of the table, a line each, from a place on; the place after them.
 fn put_rows(text: &mut [u8], start: usize, table: &[u16], count: usize) -> usize
-    requires { ⌜ (6 * count ≤ length (now table)) × (start + 36 * count ≤ mostListingBytes) ⌝ }
-    ensures { λ r. ⌜ now (text .exit) ≡ numbersAt (now (text .entry)) start (sixLines (now (table .entry)) 0 count) ⌝ }
-    ensures { λ r. ⌜ r ≡ start + length (sixLines (now (table .entry)) 0 count) ⌝ }
+    requires { ⌜ TextRoom (6 * count) (now table) (start + 36 * count) ⌝ }
+    ensures { λ r. ⌜ Put (sixLines (now (table .entry)) 0 count) (now (text .entry)) start (now (text .exit)) r ⌝ }
 {
     let mut at = start;
     let mut i = 0;
@@ -88,9 +86,8 @@ fn put_rows(text: &mut [u8], start: usize, table: &[u16], count: usize) -> usize
 
 // The constraint whose numbers stand in the table from `from` on, on a line of its own; the place after it.
 fn put_row(text: &mut [u8], at: usize, table: &[u16], from: usize) -> usize
-    requires { ⌜ (from + 6 ≤ length (now table)) × (at + 36 ≤ mostListingBytes) ⌝ }
-    ensures { λ r. ⌜ now (text .exit) ≡ numbersAt (now (text .entry)) at (numbersLine (sixAt (now (table .entry)) from)) ⌝ }
-    ensures { λ r. ⌜ r ≡ at + length (numbersLine (sixAt (now (table .entry)) from)) ⌝ }
+    requires { ⌜ TextRoom (from + 6) (now table) (at + 36) ⌝ }
+    ensures { λ r. ⌜ Put (numbersLine (sixAt (now (table .entry)) from)) (now (text .entry)) at (now (text .exit)) r ⌝ }
 {
     let row = [
         table[from],
@@ -105,8 +102,7 @@ fn put_row(text: &mut [u8], at: usize, table: &[u16], from: usize) -> usize
 
 // A first line: two numbers.
 fn put_two(text: &mut [u8], first: u16, second: u16) -> usize
-    ensures { λ r. ⌜ now (text .exit) ≡ numbersAt (now (text .entry)) 0 (numbersLine (first ∷ (second ∷ []))) ⌝ }
-    ensures { λ r. ⌜ r ≡ length (numbersLine (first ∷ (second ∷ []))) ⌝ }
+    ensures { λ r. ⌜ Put (numbersLine (first ∷ (second ∷ []))) (now (text .entry)) 0 (now (text .exit)) r ⌝ }
 {
     let two = [first, second];
     put_line(text, 0, &two)
@@ -114,9 +110,8 @@ fn put_two(text: &mut [u8], first: u16, second: u16) -> usize
 
 // Some numbers on a line, from a place on; the place after them.
 fn put_line(text: &mut [u8], start: usize, numbers: &[u16]) -> usize
-    requires { ⌜ (0 < length (now numbers)) × (start + 6 * length (now numbers) ≤ mostListingBytes) ⌝ }
-    ensures { λ r. ⌜ now (text .exit) ≡ numbersAt (now (text .entry)) start (numbersLine (now (numbers .entry))) ⌝ }
-    ensures { λ r. ⌜ r ≡ start + length (numbersLine (now (numbers .entry))) ⌝ }
+    requires { ⌜ TextRoom 1 (now numbers) (start + 6 * length (now numbers)) ⌝ }
+    ensures { λ r. ⌜ Put (numbersLine (now (numbers .entry))) (now (text .entry)) start (now (text .exit)) r ⌝ }
 {
     let last = numbers.len() - 1;
     let mut at = start;
@@ -131,8 +126,7 @@ fn put_line(text: &mut [u8], start: usize, numbers: &[u16]) -> usize
 // A number and the byte that ends it. Most numbers of a table have one digit.
 fn put_number(text: &mut [u8], at: usize, n: u16, end: u8) -> usize
     requires { ⌜ at + 6 ≤ mostListingBytes ⌝ }
-    ensures { λ r. ⌜ now (text .exit) ≡ numbersAt (now (text .entry)) at (ended n end) ⌝ }
-    ensures { λ r. ⌜ r ≡ at + length (ended n end) ⌝ }
+    ensures { λ r. ⌜ Put (ended n end) (now (text .entry)) at (now (text .exit)) r ⌝ }
 {
     if n < 10 {
         put_byte(text, at, digit_of(n));
@@ -148,8 +142,7 @@ fn put_number(text: &mut [u8], at: usize, n: u16, end: u8) -> usize
 // A number's digits: those of its tenth, and the last one.
 fn put_digits(text: &mut [u8], at: usize, n: u16) -> usize
     requires { ⌜ at + 6 ≤ mostListingBytes ⌝ }
-    ensures { λ r. ⌜ now (text .exit) ≡ numbersAt (now (text .entry)) at (decimal n) ⌝ }
-    ensures { λ r. ⌜ r ≡ at + length (decimal n) ⌝ }
+    ensures { λ r. ⌜ Put (decimal n) (now (text .entry)) at (now (text .exit)) r ⌝ }
 {
     if n < 10 {
         put_byte(text, at, digit_of(n));

@@ -1,11 +1,9 @@
 // Reads a case on standard input and prints its listing, the text that `listing_text` makes of it. Where reading fails it
 // prints `read error`; where the listing cannot be written it says so on standard error.
-ghost use mathlib.Core.Path.{_≡_};
 ghost use Prim.Native.Nat.{_≤_};
 ghost use lib.ListN.{length};
 ghost use Rattle.model.specs.Limits.{mostListingBytes};
-ghost use Rattle.model.specs.Lists.{writtenOver};
-ghost use Rattle.model.specs.Listing.{listingText};
+ghost use Rattle.listing_text.specs.Text.{WholeText};
 use libc::STDERR_FILENO;
 use libc::STDIN_FILENO;
 use libc::STDOUT_FILENO;
@@ -56,8 +54,7 @@ fn read_case(buffer: &mut [u8]) -> Input
 // that the call does not answer with refusal 10 here.
 fn listing_of(case: &[u8], text: &mut [u8]) -> usize
     requires { ⌜ mostListingBytes ≤ length (now text) ⌝ }
-    ensures { λ r. ⌜ r ≡ length (listingText (now (case .entry))) ⌝ }
-    ensures { λ r. ⌜ now (text .exit) ≡ writtenOver (listingText (now (case .entry))) (now (text .entry)) ⌝ }
+    ensures { λ r. ⌜ WholeText (now (case .entry)) (now (text .entry)) (now (text .exit)) r ⌝ }
 {
     let Listed::Text { bytes } = listing_text(case, text) else {
         return 0;

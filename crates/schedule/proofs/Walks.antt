@@ -6,7 +6,7 @@ use Prim.Native.Nat.{ℕ, _+_, _-_, _≤_, _<_}
 use mathlib.Core.Bool.{Bool, true, false, cond}
 use mathlib.Core.List.{List, [], _∷_, _++_}
 use native.Mathlib.Omega.{arith}
-use lib.ListN.{getD, set, length, replicate, length-set, length-append}
+use lib.ListN.{getD, set, length, replicate, length-set}
 use lib.Seq.{getD-set-same, getD-set-other}
 use Rattle.model.specs.Limits.{mostThreads, mostLines, mostBlocks, localCount}
 use Rattle.model.specs.CaseFile.{Line, records, threadCount, globalCount, firstRecord, nextRecord, lineOf, chains, caseOf}
@@ -16,16 +16,17 @@ use Rattle.model.specs.Assignment.{assignmentOf}
 use Rattle.model.specs.Copies.{readsAfter}
 use Rattle.model.specs.Schedule.{decodedValues, allDecodedValues}
 use Rattle.laws.specs.Accepted.{Accepted, linesFrom, threadLines}
-use Rattle.laws.specs.Written.{numbersAt, Put}
+use Rattle.laws.specs.Written.{Put}
 use Rattle.laws.proofs.Following.{lines-end, lines-more, next-low, lines-less, chains-more, chains-end}
 use Rattle.laws.proofs.Lines.{few-lines-from}
 use Rattle.laws.proofs.Views.{EqView, same, diff, eq-view}
-use Rattle.laws.proofs.Writing.{numbers-none, numbers-one, Writing, writing-start, writing-more, writing-end}
+use Rattle.laws.proofs.Writing.{put-nothing, put-single, Writing, writing-start, writing-room, writing-more, writing-end}
 use Rattle.case_file.specs.declared.Record.{Record}
 use Rattle.case_file.specs.Records.{recordOf, asLine}
 use Rattle.line.proofs.KindNumbers.{kind-4, input-other}
 use Rattle.assignment.specs.Numbers.{recordBlock, recordValue}
-use Rattle.schedule.specs.Schedules.{valuesOf, threadValues, CountsOf, AllCounts, withLine, inputNumber, ownNumbers}
+use Rattle.schedule.specs.Schedules.{valuesOf, threadValues, CountsOf, ThreadWritten, AllWritten, withLine, inputNumber, ownNumbers}
+use Rattle.schedule.specs.declared.Walked.{Walked}
 use Rattle.schedule.proofs.Locals.{LocalsAre, locals-start, locals-step, guard-same}
 use Rattle.schedule.proofs.Counts.{Counting, counting-start, counting-few, counting-more, counting-end}
 
@@ -43,7 +44,7 @@ pub record Walk (bytes xs : List ℕ) (t : ℕ) (before : List ℕ) (start : ℕ
   pub within : k ≤ records bytes
   pub earlier : List Line
   pub held : LocalsAre (caseOf bytes) xs locals earlier
-  pub writing : Writing out at (valuesFrom bytes xs t earlier k) (numbersAt before start (threadValues bytes xs t)) (start + length (threadValues bytes xs t)) (length before)
+  pub writing : Writing (threadValues bytes xs t) before start out at (valuesFrom bytes xs t earlier k)
   pub counting : Counting counts (recordBlock xs) (linesFrom bytes t k) (threadLines bytes t)
 
 pub walk-start : {bytes xs : List ℕ} {t : ℕ} {before : List ℕ} {start k : ℕ} → Accepted bytes → t < threadCount bytes → k ≡ firstRecord bytes t
@@ -54,7 +55,7 @@ walk-start {bytes} {xs} {t} {before} {start} {k} ok thread e = record {
   within = rw e (ok .firsts t thread);
   earlier = [];
   held = locals-start (caseOf bytes) xs;
-  writing = writing-start before start _ _ (ap (valuesFrom bytes xs t []) e);
+  writing = writing-start (ap (valuesFrom bytes xs t []) e);
   counting = rw e (counting-start (recordBlock xs) (threadLines bytes t));
 }
 
@@ -65,11 +66,11 @@ own-one l locals value e = rw (kind-4 (l .kind) e)
 
 pub put-one : (l : Record) (locals : List ℕ) (value : ℕ) (out : List ℕ) (at r : ℕ) → l .kind ≡ 4 → r ≡ inputNumber l locals value
     → Put (ownNumbers l locals value) out at (set out at r) (at + 1)
-put-one l locals value out at r e er = rw (own-one l locals value e, ← er) (record { slice = numbers-one out at r; place = refl })
+put-one l locals value out at r e er = rw (own-one l locals value e, ← er) put-single
 
 pub put-none : (l : Record) (locals : List ℕ) (value : ℕ) (out : List ℕ) (at : ℕ) → Unit {0} × l .kind ≢ 4 → Put (ownNumbers l locals value) out at out at
 unfolding ownNumbers
-put-none l locals value out at n = rw (input-other (l .kind) n) (record { slice = sym (numbers-none out at); place = omega arith })
+put-none l locals value out at n = rw (input-other (l .kind) n) put-nothing
 
 -- The numbers of record k, and then those of the records after it.
 own-and-rest : (bytes xs : List ℕ) → Accepted bytes → (t k : ℕ) → k ≢ 0 → k ≤ records bytes → (locals : List ℕ) (earlier : List Line)
@@ -94,11 +95,12 @@ module _ {bytes xs : List ℕ} {t : ℕ} {before : List ℕ} {start : ℕ} {out 
   walk-few i =
       omega (arith, counting-few counts (recordBlock xs) _ _ (v .counting) i, few-lines-from bytes (v .ok) t (firstRecord bytes t) (v .ok .firsts t (v .thread)))
 
-  pub walk-end : k ≡ 0 → Put (threadValues bytes xs t) before start out at × CountsOf bytes xs t counts
+  pub walk-end : k ≡ 0 → ThreadWritten bytes xs t before start out (record { at = at; counts = counts })
   unfolding decodedValues
-  walk-end e =
-      let done = writing-end _ _ _ _ _ _ (v .writing) (rw (lines-end bytes t k e)) in
-      (record { slice = done .0; place = done .1 }, counting-end counts (recordBlock xs) _ (rw (lines-end bytes t k e) at (v .counting)))
+  walk-end e = record {
+    values = writing-end (v .writing) (rw (lines-end bytes t k e));
+    counts = counting-end counts (recordBlock xs) _ (rw (lines-end bytes t k e) at (v .counting));
+  }
 
   module _ (low : k ≢ 0) where
     pub walk-less : {next : ℕ} → next ≡ nextRecord bytes k → length (linesFrom bytes t next) < length (linesFrom bytes t k)
@@ -109,7 +111,7 @@ module _ {bytes xs : List ℕ} {t : ℕ} {before : List ℕ} {start : ℕ} {out 
       go-on = own-and-rest bytes xs (v .ok) t k low (v .within) locals (v .earlier) (v .held) l el value ev
 
       pub walk-room : start + length (threadValues bytes xs t) ≤ length before → at + length (ownNumbers l locals value) ≤ length out
-      walk-room room = omega (arith, v .writing .same, v .writing .room, simp length-append at (ap length go-on))
+      walk-room room = writing-room (v .writing) (ownNumbers l locals value) (valuesFrom bytes xs t (lineOf bytes t k ∷ v .earlier) (nextRecord bytes k)) go-on room
 
       pub walk-more : {out' : List ℕ} {at' : ℕ} {locals' counts' : List ℕ} {globals name block next : ℕ} → Put (ownNumbers l locals value) out at out' at'
           → globals ≡ globalCount bytes → ((j : ℕ) → name ≡ targetName globals (asLine l j)) → locals' ≡ putLocal true name value locals
@@ -120,21 +122,21 @@ module _ {bytes xs : List ℕ} {t : ℕ} {before : List ℕ} {start : ℕ} {out 
         within = rw ek (next-low bytes (v .ok) t k low (v .within));
         earlier = lineOf bytes t k ∷ v .earlier;
         held = rw (elocals, en k, eg, el, ev) (locals-step (caseOf bytes) xs locals (v .earlier) (v .held) (lineOf bytes t k) (omega arith));
-        writing = rw ek (writing-more _ _ _ _ _ _ (v .writing) _ _ _ _ go-on (put .slice) (put .place));
+        writing = rw ek (writing-more (v .writing) go-on put);
         counting = rw (ecounts, eb, ek)
             (counting-more counts (recordBlock xs) (lineOf bytes t k) _ _ (rw (lines-more bytes (v .ok) t k low (v .within)) at (v .counting)));
       }
 
 -- Before thread t: the slice and the place so far, and the counts of the threads before it; the slice and the place at the start.
 pub record Threads (bytes xs before : List ℕ) (start : ℕ) (out : List ℕ) (at : ℕ) (counts : List (List ℕ)) (t : ℕ) : Type 0 where
-  pub writing : Writing out at (threadsFrom bytes xs t) (numbersAt before start (valuesOf bytes xs)) (start + length (valuesOf bytes xs)) (length before)
+  pub writing : Writing (valuesOf bytes xs) before start out at (threadsFrom bytes xs t)
   pub rows : length counts ≡ mostThreads
   pub counted : (u : ℕ) → u < t → CountsOf bytes xs u (getD counts u [])
 
 pub threads-start : {bytes xs before : List ℕ} {start : ℕ} → Threads bytes xs before start before start (replicate mostThreads (replicate mostBlocks 0)) 0
 threads-start {bytes} {xs} {before} {start} =
     let all : threadCount bytes - 0 ≡ threadCount bytes = omega arith in
-    record { writing = writing-start before start _ _ (rw all); rows = refl; counted = λ u under. absurd (omega arith) }
+    record { writing = writing-start (rw all); rows = refl; counted = λ u under. absurd (omega arith) }
 
 module _ {bytes xs before : List ℕ} {start : ℕ} {out : List ℕ} {at : ℕ} {counts : List (List ℕ)} {t : ℕ} (v : Threads bytes xs before start out at counts t) where
   threads-go-on : t < threadCount bytes → threadsFrom bytes xs t ≡ threadValues bytes xs t ++ threadsFrom bytes xs (t + 1)
@@ -142,20 +144,20 @@ module _ {bytes xs before : List ℕ} {start : ℕ} {out : List ℕ} {at : ℕ} 
   threads-go-on h = rw (chains-more bytes t (threadCount bytes) h)
 
   pub threads-room : t < threadCount bytes → start + length (valuesOf bytes xs) ≤ length before → at + length (threadValues bytes xs t) ≤ length out
-  threads-room h room = omega (arith, v .writing .same, v .writing .room, simp length-append at (ap length (threads-go-on h)))
+  threads-room h room = writing-room (v .writing) (threadValues bytes xs t) (threadsFrom bytes xs (t + 1)) (threads-go-on h) room
 
-  pub threads-more : {out' : List ℕ} {at' : ℕ} → t < threadCount bytes → t < mostThreads → Put (threadValues bytes xs t) out at out' at'
-      → (own : List ℕ) → CountsOf bytes xs t own → Threads bytes xs before start out' at' (set counts t own) (t + 1)
-  threads-more h few put own counts-own = record {
-    writing = writing-more _ _ _ _ _ _ (v .writing) _ _ _ _ (threads-go-on h) (put .slice) (put .place);
-    rows = length-set counts t own ∙ v .rows;
+  pub threads-more : {out' : List ℕ} {r : Walked} → t < threadCount bytes → t < mostThreads → ThreadWritten bytes xs t out at out' r
+      → Threads bytes xs before start out' (r .at) (set counts t (r .counts)) (t + 1)
+  threads-more {r = r} h few written = record {
+    writing = writing-more (v .writing) (threads-go-on h) (written .values);
+    rows = length-set counts t (r .counts) ∙ v .rows;
     counted = λ u under. row u under (eq-view t u);
   }
     where
-      row : (u : ℕ) → u < t + 1 → EqView t u → CountsOf bytes xs u (getD (set counts t own) u [])
-      row u under (same e s) = rw (← e, getD-set-same counts t own [] (omega (arith, v .rows))) counts-own
-      row u under (diff n s) = rw (getD-set-other counts t u own [] (λ z. n (sym z))) (v .counted u (omega arith))
+      row : (u : ℕ) → u < t + 1 → EqView t u → CountsOf bytes xs u (getD (set counts t (r .counts)) u [])
+      row u under (same e s) = rw (← e, getD-set-same counts t (r .counts) [] (omega (arith, v .rows))) (written .counts)
+      row u under (diff n s) = rw (getD-set-other counts t u (r .counts) [] (λ z. n (sym z))) (v .counted u (omega arith))
 
-  pub threads-end : threadCount bytes ≤ t → (out ≡ numbersAt before start (valuesOf bytes xs)) × AllCounts bytes xs counts
+  pub threads-end : threadCount bytes ≤ t → AllWritten bytes xs before start out counts
   unfolding allDecodedValues
-  threads-end h = (writing-end _ _ _ _ _ _ (v .writing) (rw (chains-end bytes t (threadCount bytes) h)) .0, λ u under. v .counted u (omega arith))
+  threads-end h = record { values = writing-end (v .writing) (rw (chains-end bytes t (threadCount bytes) h)) .slice; counts = λ u under. v .counted u (omega arith) }

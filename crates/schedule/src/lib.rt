@@ -1,16 +1,17 @@
 // The schedule of an assignment: how many numbers it has, and its numbers, written into a lent slice.
 ghost use mathlib.Core.Path.{_≡_};
-ghost use Prim.Native.Nat.{_+_, _<_, _≤_};
+ghost use Prim.Native.Nat.{_+_, _≤_};
 ghost use lib.ListN.{length, getD};
 ghost use Rattle.model.specs.Word.{bit};
-ghost use Rattle.model.specs.Limits.{mostLines, mostScheduleNumbers};
+ghost use Rattle.model.specs.Limits.{mostLines};
 ghost use Rattle.model.specs.Lists.{writtenOver};
-ghost use Rattle.model.specs.CaseFile.{kindOf, threadCount, switchCount, caseOf};
+ghost use Rattle.model.specs.CaseFile.{kindOf, switchCount, caseOf};
 ghost use Rattle.model.specs.Line.{isInput};
 ghost use Rattle.model.specs.Schedule.{scheduleSize};
 ghost use Rattle.laws.specs.Accepted.{Accepted};
-ghost use Rattle.laws.specs.Written.{numbersAt, Put};
-ghost use Rattle.schedule.specs.Schedules.{scheduleOf, valuesOf, threadValues, CountsOf, AllCounts, lengthsIn, withLine, inputNumber, ownNumbers};
+ghost use Rattle.laws.specs.Written.{numbersAt, Put, RoomFor, ThreadRoom};
+ghost use Rattle.schedule.specs.Schedules.{scheduleOf, valuesOf, threadValues, lengthsIn, withLine, inputNumber, ownNumbers};
+ghost use Rattle.schedule.specs.Schedules.{SizeOf, ThreadWritten, AllWritten};
 use assignment::block_of;
 use assignment::value_of;
 use case_file::Record;
@@ -32,7 +33,7 @@ use model::THREADS;
 // The size of a schedule of an accepted case: each of its records is one line, so no chain is followed.
 pub fn schedule_size(case: &[u8]) -> usize
     requires { ⌜ Accepted (now case) ⌝ }
-    ensures { λ r. ⌜ (r ≡ scheduleSize (caseOf (now (case .entry)))) × (r ≤ mostScheduleNumbers) ⌝ }
+    ensures { λ r. ⌜ SizeOf (now (case .entry)) r ⌝ }
 {
     let last = records(case);
     let mut n = switches(case) as usize + 1;
@@ -56,8 +57,7 @@ fn inputs_of(kind: u16) -> usize
 
 // The schedule of an assignment, from the slice's start.
 pub fn write_schedule(case: &[u8], assignment: &[u16], schedule: &mut [u16])
-    requires { ⌜ Accepted (now case) ⌝ }
-    requires { ⌜ scheduleSize (caseOf (now case)) ≤ length (now schedule) ⌝ }
+    requires { ⌜ RoomFor (now case) (scheduleSize (caseOf (now case))) (now schedule) ⌝ }
     ensures { λ r. ⌜ now (schedule .exit) ≡ writtenOver (scheduleOf (now (case .entry)) (now (assignment .entry))) (now (schedule .entry)) ⌝ }
 {
     let last = switches(case) as usize;
@@ -67,8 +67,7 @@ pub fn write_schedule(case: &[u8], assignment: &[u16], schedule: &mut [u16])
 
 // The lengths of the blocks, from the slice's start: block i's is the count of thread i modulo T.
 fn write_lengths(case: &[u8], schedule: &mut [u16], counts: &[[u16; BLOCKS]; THREADS])
-    requires { ⌜ Accepted (now case) ⌝ }
-    requires { ⌜ switchCount (now case) + 1 ≤ length (now schedule) ⌝ }
+    requires { ⌜ RoomFor (now case) (switchCount (now case) + 1) (now schedule) ⌝ }
     ensures { λ r. ⌜ now (schedule .exit) ≡ numbersAt (now (schedule .entry)) 0 (lengthsIn (now (case .entry)) (now (counts .entry))) ⌝ }
 {
     let many = threads(case) as usize;
@@ -134,11 +133,8 @@ fn write_values(
     start: usize,
     t: u16,
 ) -> Walked
-    requires { ⌜ Accepted (now case) ⌝ }
-    requires { ⌜ t < threadCount (now case) ⌝ }
-    requires { ⌜ start + length (threadValues (now case) (now assignment) t) ≤ length (now schedule) ⌝ }
-    ensures { λ r. ⌜ Put (threadValues (now (case .entry)) (now (assignment .entry)) t) (now (schedule .entry)) start (now (schedule .exit)) (r .at) ⌝ }
-    ensures { λ r. ⌜ CountsOf (now (case .entry)) (now (assignment .entry)) t (r .counts) ⌝ }
+    requires { ⌜ ThreadRoom (now case) t (start + length (threadValues (now case) (now assignment) t)) (now schedule) ⌝ }
+    ensures { λ r. ⌜ ThreadWritten (now (case .entry)) (now (assignment .entry)) t (now (schedule .entry)) start (now (schedule .exit)) r ⌝ }
 {
     let many = globals(case) as usize;
     let mut locals = [0u16; LOCALS];
@@ -164,10 +160,8 @@ fn write_all_values(
     schedule: &mut [u16],
     start: usize,
 ) -> [[u16; BLOCKS]; THREADS]
-    requires { ⌜ Accepted (now case) ⌝ }
-    requires { ⌜ start + length (valuesOf (now case) (now assignment)) ≤ length (now schedule) ⌝ }
-    ensures { λ r. ⌜ now (schedule .exit) ≡ numbersAt (now (schedule .entry)) start (valuesOf (now (case .entry)) (now (assignment .entry))) ⌝ }
-    ensures { λ r. ⌜ AllCounts (now (case .entry)) (now (assignment .entry)) r ⌝ }
+    requires { ⌜ RoomFor (now case) (start + length (valuesOf (now case) (now assignment))) (now schedule) ⌝ }
+    ensures { λ r. ⌜ AllWritten (now (case .entry)) (now (assignment .entry)) (now (schedule .entry)) start (now (schedule .exit)) r ⌝ }
 {
     let many = threads(case);
     let mut counts = [[0u16; BLOCKS]; THREADS];

@@ -24,7 +24,7 @@ returns : tie.Need-returns
 returns c = search needs
 
 returns-2 : tie.Need-returns-2
-returns-2 c = case-refused _ _ _ _ _ (c .before .before .before .accept .ensures) (c .before .number .given .1)
+returns-2 c = let told = case-refused _ _ _ _ _ (c .before .before .before .accept .ensures) (c .before .number .given .1) in (told .answer, told .slice)
 
 pub encode-spec : {M : Type 1} → statement M
 encode-spec =

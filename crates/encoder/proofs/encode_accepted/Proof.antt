@@ -17,7 +17,10 @@ returns : tie.Need-returns
 returns c = too-short _ (c .before .before .before .before .pre) _ _ (c .before .constraint-count .ensures) (c .if1 .taken)
 
 write-table-requires : tie.Need-write-table-requires
-write-table-requires c κs = (accepted-of _ (c .before .before .before .before .before .pre), table-fits _ (c .before .before .before .before .before .pre) (c .before .before .before .before .before .args .table .now) _ (c .before .before .constraint-count .ensures) (c .before .if1 .left))
+write-table-requires c κs = record {
+  accepted = accepted-of _ (c .before .before .before .before .before .pre);
+  room = table-fits _ (c .before .before .before .before .before .pre) (c .before .before .before .before .before .args .table .now) _ (c .before .before .constraint-count .ensures) (c .before .if1 .left);
+}
 
 cast-t10 : tie.Need-cast-t10
 cast-t10 c = omega (arith, c .before .before .before .before .before .constraint-count .ensures, table-rows _ (accepted-of _ (c .before .before .before .before .before .before .before .before .pre)))

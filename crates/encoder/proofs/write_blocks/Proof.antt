@@ -1,8 +1,6 @@
 -- `write_blocks` writes the 6s, a block at a time. Assumes nothing.
 use borrow.Author.Needs.{needs}
-use Prim.Native.Nat.{_+_, _-_}
-use lib.ListN.{length}
-use Rattle.laws.specs.Written.{numbersAt}
+use Prim.Native.Nat.{_-_}
 use Rattle.encoder.specs.Parts.{blockNumbers}
 use Rattle.encoder.proofs.Series.{Going, going-start, going-fits, going-more, going-end}
 use Rattle.encoder.proofs.Parts.{blocks-all, blockSeries}
@@ -10,7 +8,7 @@ use Rattle.encoder.proofs.write_blocks.Statement.{statement}
 use Rattle.encoder.proofs.write_blocks.Tie as tie
 
 abbrev Inv-loop : tie.InvT-loop
-Inv-loop case table₀ start latest last at₀ i₀ table at i = Going (blockSeries case last) i table at (numbersAt table₀ start (blockNumbers case)) (start + length (blockNumbers case)) (length table₀)
+Inv-loop case table₀ start latest last at₀ i₀ table at i = Going (blockSeries case last) i (blockNumbers case) table₀ start table at
 
 abbrev μ-loop : tie.MeasureT-loop
 μ-loop case table₀ start latest last at₀ i₀ table at i = last - i
@@ -19,10 +17,10 @@ switches-requires : tie.Need-switches-requires Inv-loop μ-loop
 switches-requires c κs = search needs
 
 loop-holds : tie.Need-loop-holds Inv-loop μ-loop
-loop-holds c = going-start _ _ (blocks-all _ _ (c .switches .ensures))
+loop-holds c = going-start (blocks-all _ _ (c .switches .ensures))
 
 write-items-requires : tie.Need-write-items-requires Inv-loop μ-loop
-write-items-requires c κs = (c .before .before .before .before .before .before .pre .0, (c .before .before .before .before .before .before .pre .1 .0, going-fits (c .before .before .loop .inv) (c .before .loop-test .taken) (c .before .before .before .before .before .before .pre .1 .1)))
+write-items-requires c κs = let room = going-fits (c .before .before .loop .inv) (c .before .loop-test .taken) (c .before .before .before .before .before .before .pre .room) in search needs
 
 add-i : tie.Need-add-i Inv-loop μ-loop
 add-i c = search needs
@@ -31,7 +29,7 @@ loop-less : tie.Need-loop-less Inv-loop μ-loop
 loop-less c = search needs
 
 loop-again : tie.Need-loop-again Inv-loop μ-loop
-loop-again c = going-more (c .before .before .before .before .before .loop .inv) (c .before .before .before .before .loop-test .taken) (c .before .before .write-items .ensures .0) (c .before .before .write-items .ensures .1)
+loop-again c = going-more (c .before .before .before .before .before .loop .inv) (c .before .before .before .before .loop-test .taken) (c .before .before .write-items .ensures)
 
 same-length : tie.Need-same-length Inv-loop μ-loop
 same-length c = c .before .loop .inv .writes .same

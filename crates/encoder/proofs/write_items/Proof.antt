@@ -1,11 +1,8 @@
 -- `write_items` writes the 6s of a block, an item at a time. Assumes nothing.
 use borrow.Author.Needs.{needs}
-use mathlib.Core.Path.{refl}
-use Prim.Native.Nat.{_+_, _-_}
+use Prim.Native.Nat.{_-_}
 use native.Mathlib.Omega.{arith}
-use lib.ListN.{length}
 use Rattle.model.specs.Table.{numbersOf}
-use Rattle.laws.specs.Written.{numbersAt}
 use Rattle.encoder.specs.Parts.{itemNumbers}
 use Rattle.encoder.proofs.Series.{Going, going-start, going-fits, going-more, going-end}
 use Rattle.encoder.proofs.Parts.{items-all, itemSeries, block-thread, item-put}
@@ -13,7 +10,7 @@ use Rattle.encoder.proofs.write_items.Statement.{statement}
 use Rattle.encoder.proofs.write_items.Tie as tie
 
 abbrev Inv-loop : tie.InvT-loop
-Inv-loop case table₀ start i latest t items at₀ g₀ table at g = Going (itemSeries case i items) g table at (numbersAt table₀ start (itemNumbers case i)) (start + length (itemNumbers case i)) (length table₀)
+Inv-loop case table₀ start i latest t items at₀ g₀ table at g = Going (itemSeries case i items) g (itemNumbers case i) table₀ start table at
 
 abbrev μ-loop : tie.MeasureT-loop
 μ-loop case table₀ start i latest t items at₀ g₀ table at g = items - g
@@ -31,13 +28,13 @@ items-requires : tie.Need-items-requires Inv-loop μ-loop
 items-requires c κs = search needs
 
 loop-holds : tie.Need-loop-holds Inv-loop μ-loop
-loop-holds c = going-start _ _ (items-all _ _ _ (c .items .ensures .is))
+loop-holds c = going-start (items-all _ _ _ (c .items .ensures .is))
 
 add-copy-of : tie.Need-add-copy-of Inv-loop μ-loop
 add-copy-of c = search needs
 
 copy-of-requires : tie.Need-copy-of-requires Inv-loop μ-loop
-copy-of-requires c κs = block-thread _ (c .before .before .before .before .before .before .pre .0) _ _ (c .before .before .before .threads .ensures)
+copy-of-requires c κs = block-thread _ (c .before .before .before .before .before .before .pre .accepted) _ _ (c .before .before .before .threads .ensures)
 
 cast-item-row : tie.Need-cast-item-row Inv-loop μ-loop
 cast-item-row c = search needs
@@ -47,11 +44,11 @@ item-row-requires c κs = search needs
 
 put-row-requires : tie.Need-put-row-requires Inv-loop μ-loop
 unfolding numbersOf
-put-row-requires c κs = going-fits (c .before .before .before .before .loop .inv) (c .before .before .before .loop-test .taken) (c .before .before .before .before .before .before .before .before .before .pre .1 .1)
+put-row-requires c κs = going-fits (c .before .before .before .before .loop .inv) (c .before .before .before .loop-test .taken) (c .before .before .before .before .before .before .before .before .before .pre .room)
 
 add-at : tie.Need-add-at Inv-loop μ-loop
 unfolding numbersOf
-add-at c = let fits = going-fits (c .before .before .before .before .before .before .before .loop .inv) (c .before .before .before .before .before .before .loop-test .taken) (c .before .before .before .before .before .before .before .before .before .before .before .before .pre .1 .1) in omega arith
+add-at c = let fits = going-fits (c .before .before .before .before .before .before .before .loop .inv) (c .before .before .before .before .before .before .loop-test .taken) (c .before .before .before .before .before .before .before .before .before .before .before .before .pre .room) in omega arith
 
 add-g : tie.Need-add-g Inv-loop μ-loop
 add-g c = search needs
@@ -60,10 +57,9 @@ loop-less : tie.Need-loop-less Inv-loop μ-loop
 loop-less c = search needs
 
 loop-again : tie.Need-loop-again Inv-loop μ-loop
-unfolding numbersOf
 loop-again c =
-    let row = item-put _ (c .before .before .before .before .before .before .before .before .before .before .before .before .pre .0) _ (c .before .before .before .before .before .before .before .before .before .before .before .before .pre .1 .0) _ _ _ _ _ _ _ _ (search needs) (c .before .before .before .before .before .before .before .before .before .threads .ensures) (c .before .before .before .before .before .copy-of .ensures) (c .before .before .before .before .item-row .ensures) (c .before .before .put-row .ensures) in
-    going-more (c .before .before .before .before .before .before .before .loop .inv) (c .before .before .before .before .before .before .loop-test .taken) row refl
+    let row = item-put _ (c .before .before .before .before .before .before .before .before .before .before .before .before .pre .accepted) _ (c .before .before .before .before .before .before .before .before .before .before .before .before .pre .held) _ _ _ _ _ _ _ _ (search needs) (c .before .before .before .before .before .before .before .before .before .threads .ensures) (c .before .before .before .before .before .copy-of .ensures) (c .before .before .before .before .item-row .ensures) (c .before .before .put-row .ensures) in
+    going-more (c .before .before .before .before .before .before .before .loop .inv) (c .before .before .before .before .before .before .loop-test .taken) row
 
 same-length : tie.Need-same-length Inv-loop μ-loop
 same-length c = c .before .loop .inv .writes .same

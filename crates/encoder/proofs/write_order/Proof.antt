@@ -1,12 +1,10 @@
 -- `write_order` writes a thread's order rows: what is left of its chain is what is left to write. Assumes nothing.
 use borrow.Author.Needs.{needs}
 use mathlib.Core.Path.{refl}
-use Prim.Native.Nat.{_+_}
 use native.Mathlib.Omega.{arith}
 use lib.ListN.{length}
 use Rattle.model.specs.CaseFile.{caseOf}
 use Rattle.laws.specs.Accepted.{linesFrom}
-use Rattle.laws.specs.Written.{numbersAt}
 use Rattle.laws.proofs.Following.{lines-less, next-low}
 use Rattle.rows.specs.Rows.{Nearest}
 use Rattle.encoder.specs.Parts.{orderNumbers}
@@ -16,7 +14,7 @@ use Rattle.encoder.proofs.write_order.Statement.{statement}
 use Rattle.encoder.proofs.write_order.Tie as tie
 
 abbrev Inv-loop : tie.InvT-loop
-Inv-loop case table₀ start t threads last at₀ previous₀ k₀ table at previous k = Walking case t (orders (caseOf case) t) (Nearest previous) k table at (numbersAt table₀ start (orderNumbers case t)) (start + length (orderNumbers case t)) (length table₀)
+Inv-loop case table₀ start t threads last at₀ previous₀ k₀ table at previous k = Walking case t (orders (caseOf case) t) (Nearest previous) k (orderNumbers case t) table₀ start table at
 
 abbrev μ-loop : tie.MeasureT-loop
 μ-loop case table₀ start t threads last at₀ previous₀ k₀ table at previous k = length (linesFrom case t k)
@@ -32,7 +30,7 @@ first-of-requires c κs = search needs
 
 loop-holds : tie.Need-loop-holds Inv-loop μ-loop
 unfolding orderNumbers Nearest
-loop-holds c = walking-start (c .before .before .before .before .before .pre .0) (c .before .before .before .before .before .pre .1 .0) (c .first-of .ensures) refl _ refl
+loop-holds c = walking-start (c .before .before .before .before .before .pre .accepted) (c .before .before .before .before .before .pre .thread) (c .first-of .ensures) refl refl
 
 next-of-requires : tie.Need-next-of-requires Inv-loop μ-loop
 next-of-requires c κs = search needs
@@ -41,31 +39,31 @@ cast-line : tie.Need-cast-line Inv-loop μ-loop
 cast-line c = search needs
 
 cast-put-order : tie.Need-cast-put-order Inv-loop μ-loop
-cast-put-order c = omega (arith, next-low _ (c .before .before .before .before .before .before .before .before .pre .0) (c .before .before .before .before .before .before .before .before .args .t) _ (c .before .loop-test .taken) (c .before .before .loop .inv .low), c .next-of .ensures)
+cast-put-order c = omega (arith, next-low _ (c .before .before .before .before .before .before .before .before .pre .accepted) (c .before .before .before .before .before .before .before .before .args .t) _ (c .before .loop-test .taken) (c .before .before .loop .inv .low), c .next-of .ensures)
 
 cast-put-order-2 : tie.Need-cast-put-order-2 Inv-loop μ-loop
 cast-put-order-2 c = search needs
 
 put-order-requires : tie.Need-put-order-requires Inv-loop μ-loop
-put-order-requires c κs = walking-room (c .before .before .before .loop .inv) (c .before .before .before .before .before .before .before .before .before .pre .0) (c .before .before .loop-test .taken) (c .before .before .before .before .before .before .before .before .before .pre .1 .1)
+put-order-requires c κs = walking-room (c .before .before .before .loop .inv) (c .before .before .before .before .before .before .before .before .before .pre .accepted) (c .before .before .loop-test .taken) (c .before .before .before .before .before .before .before .before .before .pre .room)
 
 mul-at : tie.Need-mul-at Inv-loop μ-loop
 mul-at c = search needs
 
 add-at : tie.Need-add-at Inv-loop μ-loop
-add-at c = let room = walking-room (c .before .before .before .before .before .before .loop .inv) (c .before .before .before .before .before .before .before .before .before .before .before .before .pre .0) (c .before .before .before .before .before .loop-test .taken) (c .before .before .before .before .before .before .before .before .before .before .before .before .pre .1 .1) in omega arith
+add-at c = let room = walking-room (c .before .before .before .before .before .before .loop .inv) (c .before .before .before .before .before .before .before .before .before .before .before .before .pre .accepted) (c .before .before .before .before .before .loop-test .taken) (c .before .before .before .before .before .before .before .before .before .before .before .before .pre .room) in omega arith
 
 loop-less : tie.Need-loop-less Inv-loop μ-loop
-loop-less c = lines-less _ (c .before .before .before .before .before .before .before .before .before .before .before .before .pre .0) _ _ (c .before .before .before .before .before .loop-test .taken) (c .before .before .before .before .before .before .loop .inv .low) _ (c .before .before .before .before .next-of .ensures)
+loop-less c = lines-less _ (c .before .before .before .before .before .before .before .before .before .before .before .before .pre .accepted) _ _ (c .before .before .before .before .before .loop-test .taken) (c .before .before .before .before .before .before .loop .inv .low) _ (c .before .before .before .before .next-of .ensures)
 
 loop-again : tie.Need-loop-again Inv-loop μ-loop
-loop-again c = order-step (c .before .before .put-order .ensures) (c .before .before .before .before .before .before .loop .inv) (c .before .before .before .before .before .before .before .before .before .before .before .before .pre .0) (c .before .before .before .before .before .loop-test .taken) refl (c .before .before .before .before .next-of .ensures) (c .before .before .before .before .before .before .before .before .before .threads .ensures) (c .before .before .before .before .before .before .before .before .switches .ensures)
+loop-again c = order-step (c .before .before .put-order .ensures) (c .before .before .before .before .before .before .loop .inv) (c .before .before .before .before .before .before .before .before .before .before .before .before .pre .accepted) (c .before .before .before .before .before .loop-test .taken) refl (c .before .before .before .before .next-of .ensures) (c .before .before .before .before .before .before .before .before .before .threads .ensures) (c .before .before .before .before .before .before .before .before .switches .ensures)
 
 same-length : tie.Need-same-length Inv-loop μ-loop
 same-length c = c .before .loop .inv .writes .same
 
 returns : tie.Need-returns Inv-loop μ-loop
-returns c = walking-end (c .before .loop .inv) (c .loop-test .left) .0
+returns c = walking-end (c .before .loop .inv) (c .loop-test .left)
 
 pub write-order-spec : {M : Type 1} → statement M
 write-order-spec =

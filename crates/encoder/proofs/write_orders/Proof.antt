@@ -1,9 +1,7 @@
 -- `write_orders` writes the order rows, a thread at a time. Assumes nothing.
 use borrow.Author.Needs.{needs}
-use Prim.Native.Nat.{_+_, _-_}
+use Prim.Native.Nat.{_-_}
 use native.Mathlib.Omega.{arith}
-use lib.ListN.{length}
-use Rattle.laws.specs.Written.{numbersAt}
 use Rattle.encoder.specs.Parts.{allOrderNumbers}
 use Rattle.encoder.proofs.Series.{Going, going-start, going-fits, going-more, going-end}
 use Rattle.encoder.proofs.Parts.{orders-all, orderSeries}
@@ -11,7 +9,7 @@ use Rattle.encoder.proofs.write_orders.Statement.{statement}
 use Rattle.encoder.proofs.write_orders.Tie as tie
 
 abbrev Inv-loop : tie.InvT-loop
-Inv-loop case table₀ threads at₀ t₀ table at t = Going (orderSeries case threads) t table at (numbersAt table₀ 0 (allOrderNumbers case)) (0 + length (allOrderNumbers case)) (length table₀)
+Inv-loop case table₀ threads at₀ t₀ table at t = Going (orderSeries case threads) t (allOrderNumbers case) table₀ 0 table at
 
 abbrev μ-loop : tie.MeasureT-loop
 μ-loop case table₀ threads at₀ t₀ table at t = threads - t
@@ -23,10 +21,10 @@ cast-threads : tie.Need-cast-threads Inv-loop μ-loop
 cast-threads c = search needs
 
 loop-holds : tie.Need-loop-holds Inv-loop μ-loop
-loop-holds c = going-start _ _ (orders-all _ _ (c .threads .ensures))
+loop-holds c = going-start (orders-all _ _ (c .threads .ensures))
 
 write-order-requires : tie.Need-write-order-requires Inv-loop μ-loop
-write-order-requires c κs = (c .before .before .before .before .before .before .pre .0, (search needs, going-fits (c .before .before .loop .inv) (c .before .loop-test .taken) (omega (arith, c .before .before .before .before .before .before .pre .1))))
+write-order-requires c κs = let room = going-fits (c .before .before .loop .inv) (c .before .loop-test .taken) (omega (arith, c .before .before .before .before .before .before .pre .room)) in search needs
 
 add-t : tie.Need-add-t Inv-loop μ-loop
 add-t c = search needs
@@ -35,15 +33,13 @@ loop-less : tie.Need-loop-less Inv-loop μ-loop
 loop-less c = search needs
 
 loop-again : tie.Need-loop-again Inv-loop μ-loop
-loop-again c = going-more (c .before .before .before .before .before .loop .inv) (c .before .before .before .before .loop-test .taken) (c .before .before .write-order .ensures .0) (c .before .before .write-order .ensures .1)
+loop-again c = going-more (c .before .before .before .before .before .loop .inv) (c .before .before .before .before .loop-test .taken) (c .before .before .write-order .ensures)
 
 same-length : tie.Need-same-length Inv-loop μ-loop
 same-length c = c .before .loop .inv .writes .same
 
 returns : tie.Need-returns Inv-loop μ-loop
-returns c =
-    let done = going-end (c .before .loop .inv) (c .loop-test .left) in
-    (done .0, omega arith)
+returns c = going-end (c .before .loop .inv) (c .loop-test .left)
 
 pub write-orders-spec : {M : Type 1} → statement M
 write-orders-spec =

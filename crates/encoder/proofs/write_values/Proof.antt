@@ -1,23 +1,21 @@
 -- `write_values` writes a thread's 4s and 5s and takes each line as the latest copy of its target. Assumes nothing.
 use borrow.Author.Needs.{needs}
 use mathlib.Core.Path.{refl}
-use Prim.Native.Nat.{_+_}
 use native.Mathlib.Omega.{arith}
 use lib.ListN.{length}
 use Rattle.model.specs.CaseFile.{kindOf, caseOf}
 use Rattle.laws.specs.Accepted.{linesFrom}
-use Rattle.laws.specs.Written.{numbersAt}
 use Rattle.laws.proofs.Following.{lines-less}
 use Rattle.laws.proofs.Sizes.{value-count-at-most}
 use Rattle.copies.specs.Held.{Held}
 use Rattle.encoder.specs.Parts.{valueNumbers}
-use Rattle.encoder.proofs.Walking.{values, Walking, walking-start, walking-end}
+use Rattle.encoder.proofs.Walking.{values, Walking, walking-start, walking-end, walking-whole}
 use Rattle.encoder.proofs.Lines.{thread-low, value-room, value-step, thread-taken}
 use Rattle.encoder.proofs.write_values.Statement.{statement}
 use Rattle.encoder.proofs.write_values.Tie as tie
 
 abbrev Inv-loop : tie.InvT-loop
-Inv-loop case table₀ start t latest₀ globals at₀ k₀ table latest at k = Walking case t (values (caseOf case)) (Held (caseOf case) latest t) k table at (numbersAt table₀ start (valueNumbers case t)) (start + length (valueNumbers case t)) (length table₀)
+Inv-loop case table₀ start t latest₀ globals at₀ k₀ table latest at k = Walking case t (values (caseOf case)) (Held (caseOf case) latest t) k (valueNumbers case t) table₀ start table at
 
 abbrev μ-loop : tie.MeasureT-loop
 μ-loop case table₀ start t latest₀ globals at₀ k₀ table latest at k = length (linesFrom case t k)
@@ -33,7 +31,7 @@ first-of-requires c κs = search needs
 
 loop-holds : tie.Need-loop-holds Inv-loop μ-loop
 unfolding valueNumbers
-loop-holds c = walking-start (c .before .before .before .before .pre .0) (c .before .before .before .before .pre .1 .0) (c .first-of .ensures) (c .before .before .before .before .pre .1 .1 .0) _ refl
+loop-holds c = walking-start (c .before .before .before .before .pre .accepted) (c .before .before .before .before .pre .thread) (c .first-of .ensures) (c .before .before .before .before .pre .held) refl
 
 cast-record-at : tie.Need-cast-record-at Inv-loop μ-loop
 cast-record-at c = search needs
@@ -52,7 +50,10 @@ put-values-requires c κs =
     let v = c .before .before .before .before .before .loop .inv in
     let some = c .before .before .before .before .loop-test .taken in
     let l = c .before .before .before .record-at .ensures in
-    record { line = record { thread = thread-low v (c .before .before .before .before .before .before .before .before .before .before .pre .0) some l (c .before .before .before .before .before .before .before .before .before .before .pre .1 .0); few-globals = search needs }; room = value-room v (c .before .before .before .before .before .before .before .before .before .before .pre .0) some l refl (c .before .before .before .before .before .before .before .before .before .before .pre .1 .1 .1) }
+    let pre = c .before .before .before .before .before .before .before .before .before .before .pre in
+    let low = thread-low v (pre .accepted) some l (pre .thread) in
+    let room = value-room v (pre .accepted) some l refl (pre .room) in
+    search needs
 
 take-copy-requires : tie.Need-take-copy-requires Inv-loop μ-loop
 take-copy-requires c κs = search needs
@@ -66,14 +67,14 @@ mul-at c = omega (arith, value-count-at-most (kindOf (c .before .before .before 
 add-at : tie.Need-add-at Inv-loop μ-loop
 add-at c =
     let v = c .before .before .before .before .before .before .before .before .before .before .before .loop .inv in
-    let room = value-room v (c .before .before .before .before .before .before .before .before .before .before .before .before .before .before .before .before .pre .0) (c .before .before .before .before .before .before .before .before .before .before .loop-test .taken) (c .before .before .before .before .before .before .before .before .before .record-at .ensures) (c .value-rows .ensures) (c .before .before .before .before .before .before .before .before .before .before .before .before .before .before .before .before .pre .1 .1 .1) in
+    let room = value-room v (c .before .before .before .before .before .before .before .before .before .before .before .before .before .before .before .before .pre .accepted) (c .before .before .before .before .before .before .before .before .before .before .loop-test .taken) (c .before .before .before .before .before .before .before .before .before .record-at .ensures) (c .value-rows .ensures) (c .before .before .before .before .before .before .before .before .before .before .before .before .before .before .before .before .pre .room) in
     omega arith
 
 next-of-requires : tie.Need-next-of-requires Inv-loop μ-loop
 next-of-requires c κs = search needs
 
 loop-less : tie.Need-loop-less Inv-loop μ-loop
-loop-less c = lines-less _ (c .before .before .before .before .before .before .before .before .before .before .before .before .before .before .before .before .before .pre .0) _ _ (c .before .before .before .before .before .before .before .before .before .before .before .loop-test .taken) (c .before .before .before .before .before .before .before .before .before .before .before .before .loop .inv .low) _ (c .next-of .ensures)
+loop-less c = lines-less _ (c .before .before .before .before .before .before .before .before .before .before .before .before .before .before .before .before .before .pre .accepted) _ _ (c .before .before .before .before .before .before .before .before .before .before .before .loop-test .taken) (c .before .before .before .before .before .before .before .before .before .before .before .before .loop .inv .low) _ (c .next-of .ensures)
 
 loop-again : tie.Need-loop-again Inv-loop μ-loop
 loop-again c =
@@ -84,15 +85,15 @@ loop-again c =
     let width = c .before .value-rows .ensures in
     let taken = c .before .before .take-copy .ensures in
     let pre = c .before .before .before .before .before .before .before .before .before .before .before .before .before .before .before .before .before .pre in
-    value-step v (pre .0) (c .before .before .before .before .before .before .before .before .before .before .before .loop-test .taken) l (c .before .before .before .before .before .before .before .before .before .before .before .before .before .before .globals .ensures) rows width (pre .1 .0) target taken (c .next-of .ensures)
+    value-step v (pre .accepted) (c .before .before .before .before .before .before .before .before .before .before .before .loop-test .taken) l (c .before .before .before .before .before .before .before .before .before .before .before .before .before .before .globals .ensures) rows width (pre .thread) target taken (c .next-of .ensures)
 
 same-length : tie.Need-same-length Inv-loop μ-loop
 same-length c = c .before .loop .inv .writes .same
 
 returns : tie.Need-returns Inv-loop μ-loop
 returns c =
-    let done = walking-end (c .before .loop .inv) (c .loop-test .left) in
-    (done .0 .0, (thread-taken _ _ _ _ (c .before .before .before .before .before .before .pre .1 .0) (c .before .loop .inv .known) (done .1), done .0 .1))
+    let done = c .loop-test .left in
+    record { put = walking-end (c .before .loop .inv) done; held = thread-taken _ _ _ _ (c .before .before .before .before .before .before .pre .thread) (c .before .loop .inv .known) (walking-whole (c .before .loop .inv) done) }
 
 pub write-values-spec : {M : Type 1} → statement M
 write-values-spec =

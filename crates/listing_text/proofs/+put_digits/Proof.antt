@@ -74,7 +74,7 @@ put-digits-returns : (t : ℕ) → put-digits-lts.Need-returns (
   put-digits.Post,
 ) (put-digits-at t) put-digits.Post
 put-digits-returns t c =
-    put-one-digit _ _ _ _ _ (c .before .before .before .before .before .if1 .taken) (c .before .before .put-byte .ensures) (c .before .before .before .digit-of .ensures)
+    put-one-digit (c .before .before .before .before .before .if1 .taken) (c .before .before .put-byte .ensures) (c .before .before .before .digit-of .ensures)
 
 put-digits-put-digits-requires : (t : ℕ) → put-digits-lts.Need-put-digits-requires (
   digit-of-reads.Asked,
@@ -117,7 +117,7 @@ put-digits-add-result-2 : (t : ℕ) → put-digits-lts.Need-add-result-2 (
 put-digits-add-result-2 t c =
     omega (
       arith,
-      within-five _ _ _ (c .before .before .before .before .before .before .before .put-digits .ensures .1),
+      within-five _ _ _ (c .before .before .before .before .before .before .before .put-digits .ensures .place),
       c .before .before .before .before .before .before .before .before .before .before .before .pre .1,
     )
 
@@ -141,13 +141,6 @@ put-digits-returns-2 : (t : ℕ) → put-digits-lts.Need-returns-2 (
 ) (put-digits-at t) put-digits.Post
 put-digits-returns-2 t c =
     put-last-digit
-    _
-    _
-    _
-    _
-    _
-    _
-    _
     (c .before .before .before .before .before .before .before .before .before .if1 .left)
     (omega arith)
     (c .before .before .before .before .before .before .before .put-digits .ensures)

@@ -1,7 +1,6 @@
 -- `listing_text` writes the text where the slice has room for it. Assumes nothing.
 use borrow.Author.Needs.{needs}
 use mathlib.Core.Path.{refl}
-use native.Mathlib.Omega.{arith}
 use Rattle.listing_text.proofs.Bridge.{rows-fit, answer-text, too-short, long-enough}
 use Rattle.listing_text.proofs.listing_text.Statement.{statement}
 use Rattle.listing_text.proofs.listing_text.Tie as tie
@@ -16,13 +15,13 @@ slice-aggregate-fits : tie.Need-slice-aggregate-fits
 slice-aggregate-fits c = search needs
 
 fits-requires : tie.Need-fits-requires
-fits-requires c κs = (omega (arith, rows-fit _ _ refl _ (c .before .before .encode .ensures .0), c .before .before .encode .kept .1 .0), omega (arith, c .before .before .encode .kept .1 .0))
+fits-requires c κs = let rows = rows-fit _ _ refl _ (c .before .before .encode .ensures .0) in search needs
 
 slice-aggregate-write-text : tie.Need-slice-aggregate-write-text
 slice-aggregate-write-text c = search needs
 
 write-text-requires : tie.Need-write-text-requires
-write-text-requires c κs = (omega (arith, rows-fit _ _ refl _ (c .before .before .before .before .before .before .encode .ensures .0), c .before .before .before .before .before .before .encode .kept .1 .0), omega (arith, c .before .before .before .before .before .before .encode .kept .1 .0))
+write-text-requires c κs = let rows = rows-fit _ _ refl _ (c .before .before .before .before .before .before .encode .ensures .0) in search needs
 
 same-length : tie.Need-same-length
 same-length c = search needs
@@ -30,7 +29,7 @@ same-length c = search needs
 returns : tie.Need-returns
 returns c =
     long-enough _ _ _ (answer-text _ _ refl _ _ (c .before .before .before .before .before .before .before .before .before .encode .ensures .0) (c .before .before .before .before .before .before .before .before .before .encode .ensures .1)) _ (c .before .before .before .before .before .before .fits2 .ensures) (c .before .before .before .before .before .if1 .taken)
-    _ _ (c .before .before .write-text .ensures .0) (c .before .before .write-text .ensures .1)
+    (c .before .before .write-text .ensures)
 
 returns-2 : tie.Need-returns-2
 returns-2 c = too-short _ _ _ (answer-text _ _ refl _ _ (c .before .before .before .before .encode .ensures .0) (c .before .before .before .before .encode .ensures .1)) _ (c .before .fits2 .ensures) (c .if1 .left)

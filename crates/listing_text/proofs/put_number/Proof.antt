@@ -25,7 +25,7 @@ same-length : tie.Need-same-length
 same-length c = search needs
 
 returns : tie.Need-returns
-returns c = put-ended _ _ _ _ _ _ _ (put-one-digit _ _ _ _ _ (c .before .before .before .before .before .before .before .before .before .if1 .taken) (c .before .before .before .before .before .before .put-byte .ensures) (c .before .before .before .before .before .before .before .digit-of .ensures)) (c .before .before .put-byte2 .ensures)
+returns c = put-ended _ _ (put-one-digit (c .before .before .before .before .before .before .before .before .before .if1 .taken) (c .before .before .before .before .before .before .put-byte .ensures) (c .before .before .before .before .before .before .before .digit-of .ensures)) (c .before .before .put-byte2 .ensures)
 
 put-digits-requires : tie.Need-put-digits-requires
 put-digits-requires c κs = search needs
@@ -34,13 +34,13 @@ put-byte-requires-3 : tie.Need-put-byte-requires-3
 put-byte-requires-3 c κs = search needs
 
 add-result-2 : tie.Need-add-result-2
-add-result-2 c = omega (arith, within-five _ _ _ (c .before .before .before .before .before .before .put-digits .ensures .1), c .before .before .before .before .before .before .before .before .before .before .pre)
+add-result-2 c = omega (arith, within-five _ _ _ (c .before .before .before .before .before .before .put-digits .ensures .place), c .before .before .before .before .before .before .before .before .before .before .pre)
 
 same-length-2 : tie.Need-same-length-2
 same-length-2 c = search needs
 
 returns-2 : tie.Need-returns-2
-returns-2 c = put-ended _ _ _ _ _ _ _ (c .before .before .before .before .before .before .put-digits .ensures) (c .before .before .put-byte3 .ensures)
+returns-2 c = put-ended _ _ (c .before .before .before .before .before .before .put-digits .ensures) (c .before .before .put-byte3 .ensures)
 
 pub put-number-spec : {M : Type 1} → statement M
 put-number-spec =

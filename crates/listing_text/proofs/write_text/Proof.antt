@@ -15,7 +15,7 @@ cast-put-rows c = search needs
 
 put-rows-requires : tie.Need-put-rows-requires
 put-rows-requires c κs =
-    rows-have-room _ _ _ _ _ _ _ (c .before .before .before .before .before .before .answer .given .1) (c .before .before .before .put-two .ensures .1) (c .before .before .before .before .before .before .before .before .before .before .pre .0) (c .before .before .before .before .before .before .before .before .before .before .pre .1)
+    rows-have-room (c .before .before .before .before .before .before .answer .given .1) (c .before .before .before .before .before .before .before .before .before .before .pre) (c .before .before .before .put-two .ensures)
 
 enum-known-answer-2 : tie.Need-enum-known-answer-2
 enum-known-answer-2 c = search needs
@@ -28,13 +28,13 @@ same-length c = search needs
 
 returns : tie.Need-returns
 returns c =
-    table-text _ _ _ (c .before .before .before .before .before .before .before .before .before .answer .given .1) _ _ _ _ _ _ (c .before .before .before .before .before .before .put-two .ensures .0) (c .before .before .before .before .before .before .put-two .ensures .1) (c .before .before .put-rows .ensures)
+    table-text _ (c .before .before .before .before .before .before .before .before .before .answer .given .1) (c .before .before .before .before .before .before .put-two .ensures) (c .before .before .put-rows .ensures)
 
 same-length-2 : tie.Need-same-length-2
 same-length-2 c = search needs
 
 returns-2 : tie.Need-returns-2
-returns-2 c = refusal-text _ _ _ (c .before .before .before .before .before .answer2 .given .1) _ _ _ _ (c .before .before .put-two2 .ensures .0) (c .before .before .put-two2 .ensures .1)
+returns-2 c = refusal-text _ (c .before .before .before .before .before .answer2 .given .1) (c .before .before .put-two2 .ensures)
 
 pub write-text-spec : {M : Type 1} → statement M
 write-text-spec =

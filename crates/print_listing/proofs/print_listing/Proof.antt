@@ -36,11 +36,11 @@ listing-of-requires c κs = search needs
 
 array-share-prefix-text : tie.Need-array-share-prefix-text
 array-share-prefix-text c =
-    omega (arith, c .before .listing-of .ensures .0, c .before .listing-of .kept .1 .0, text-fits (take (c .before .before .before .before .before .before .read-case .result .bytes) (c .before .before .before .before .before .before .read-case .last .0)))
+    omega (arith, c .before .listing-of .ensures .size, c .before .listing-of .kept .1 .0, text-fits (take (c .before .before .before .before .before .before .read-case .result .bytes) (c .before .before .before .before .before .before .read-case .last .0)))
 
 slice-aggregate-write-all-2 : tie.Need-slice-aggregate-write-all-2
 slice-aggregate-write-all-2 c =
-    front _ _ (omega (arith, c .before .before .listing-of .ensures .0, c .before .before .listing-of .kept .1 .0, text-fits (take (c .before .before .before .before .before .before .before .read-case .result .bytes) (c .before .before .before .before .before .before .before .read-case .last .0))))
+    front _ _ (omega (arith, c .before .before .listing-of .ensures .size, c .before .before .listing-of .kept .1 .0, text-fits (take (c .before .before .before .before .before .before .before .read-case .result .bytes) (c .before .before .before .before .before .before .before .read-case .last .0))))
 
 write-all-requires-2 : tie.Need-write-all-requires-2
 write-all-requires-2 c κs = search needs

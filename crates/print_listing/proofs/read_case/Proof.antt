@@ -1,14 +1,20 @@
 -- `read_case` counts the bytes that it has read, and each read that it goes on after has read some. It rests
 -- on the contract of C's read, which is assumed.
 use borrow.Author.Needs.{needs}
-use Prim.Native.Nat.{_≤_, _-_}
+use Prim.Native.Nat.{ℕ, _≤_, _-_}
 use mathlib.Core.Path.{_≡_}
+use mathlib.Core.List.{List}
 use lib.ListN.{length}
 use Rattle.print_listing.proofs.read_case.Statement.{statement}
 use Rattle.print_listing.proofs.read_case.Tie as tie
 
+-- So many bytes of the buffer are read, and it is as long as before.
+record Reading (before buffer : List ℕ) (bytes : ℕ) : Type 0 where
+  inside : bytes ≤ length buffer
+  same : length buffer ≡ length before
+
 abbrev Inv-loop : tie.InvT-loop
-Inv-loop buffer₀ bytes₀ buffer bytes = (bytes ≤ length buffer) × (length buffer ≡ length buffer₀)
+Inv-loop buffer₀ bytes₀ buffer bytes = Reading buffer₀ buffer bytes
 
 abbrev μ-loop : tie.MeasureT-loop
 μ-loop buffer₀ bytes₀ buffer bytes = length buffer - bytes

@@ -19,16 +19,16 @@ loop-holds : tie.Need-loop-holds Inv-loop μ-loop
 loop-holds c = threads-start
 
 write-values-requires : tie.Need-write-values-requires Inv-loop μ-loop
-write-values-requires c κs = (c .before .before .before .before .before .before .before .pre .0, (omega (arith, c .before .before .before .threads .ensures), threads-room (c .before .before .loop .inv) (omega (arith, c .before .before .before .threads .ensures)) (c .before .before .before .before .before .before .before .pre .1)))
+write-values-requires c κs = let room = threads-room (c .before .before .loop .inv) (omega (arith, c .before .before .before .threads .ensures)) (c .before .before .before .before .before .before .before .pre .room) in search needs
 
 cast-counts : tie.Need-cast-counts Inv-loop μ-loop
 cast-counts c = search needs
 
 mul-counts : tie.Need-mul-counts Inv-loop μ-loop
-mul-counts c = record { fits = omega (arith, c .before .before .before .before .before .before .before .threads .ensures, c .before .before .before .before .before .before .before .before .before .before .before .pre .0 .few-threads) }
+mul-counts c = search needs
 
 array-set-from-counts : tie.Need-array-set-from-counts Inv-loop μ-loop
-array-set-from-counts c = omega (arith, c .before .before .before .before .before .before .before .threads .ensures, c .before .before .before .before .before .before .before .before .before .before .before .pre .0 .few-threads)
+array-set-from-counts c = search needs
 
 add-t : tie.Need-add-t Inv-loop μ-loop
 add-t c = search needs
@@ -38,8 +38,8 @@ loop-less c = omega arith
 
 loop-again : tie.Need-loop-again Inv-loop μ-loop
 loop-again c =
-    threads-more (c .before .before .before .before .before .before .loop .inv) (omega (arith, c .before .before .before .before .before .before .before .threads .ensures)) (omega (arith, c .before .before .before .before .before .before .before .threads .ensures, c .before .before .before .before .before .before .before .before .before .before .before .pre .0 .few-threads))
-    (c .before .before .before .write-values .ensures .0) _ (c .before .before .before .write-values .ensures .1)
+    threads-more (c .before .before .before .before .before .before .loop .inv) (omega (arith, c .before .before .before .before .before .before .before .threads .ensures)) (omega (arith, c .before .before .before .before .before .before .before .threads .ensures, c .before .before .before .before .before .before .before .before .before .before .before .pre .accepted .few-threads))
+    (c .before .before .before .write-values .ensures)
 
 same-length : tie.Need-same-length Inv-loop μ-loop
 same-length c = c .before .loop .inv .writing .same

@@ -1,5 +1,4 @@
 -- `schedule::write_schedule` meets its contract. Assumes nothing.
-use native.Mathlib.Omega.{arith}
 use borrow.Author.Needs.{needs}
 use Rattle.schedule.proofs.Whole.{length-values, schedule-written}
 use Rattle.schedule.proofs.write_schedule.Statement.{statement}
@@ -15,7 +14,7 @@ add-write-all-values : tie.Need-add-write-all-values
 add-write-all-values c = search needs
 
 write-all-values-requires : tie.Need-write-all-values-requires
-write-all-values-requires c κs = (c .before .before .before .before .before .pre .0, omega (arith, c .before .before .before .before .before .pre .1, c .before .switches .ensures, length-values (c .before .before .before .before .before .args .case .now) (c .before .before .before .before .before .args .assignment .now)))
+write-all-values-requires c κs = let size = length-values (c .before .before .before .before .before .args .case .now) (c .before .before .before .before .before .args .assignment .now) in search needs
 
 write-lengths-requires : tie.Need-write-lengths-requires
 write-lengths-requires c κs = search needs
@@ -25,11 +24,9 @@ same-length c = search needs
 
 returns : tie.Need-returns
 returns c =
-    schedule-written (c .before .before .before .before .before .before .before .before .before .before .before .before .before .args .case .now) (c .before .before .before .before .before .before .before .before .before .before .before .before .before .args .assignment .now) _ _ _ (c .before .before .before .before .before .before .before .write-all-values .result) _
-    (c .before .before .before .before .before .before .before .before .before .before .before .before .before .pre .0)
-    (c .before .before .before .before .before .before .before .before .before .before .before .before .before .pre .1)
+    schedule-written (c .before .before .before .before .before .before .before .before .before .before .before .before .before .pre)
     (c .before .before .before .before .before .before .before .before .before .switches .ensures)
-    (c .before .before .before .before .before .before .before .write-all-values .ensures .0) (c .before .before .before .before .before .before .before .write-all-values .ensures .1) (c .before .before .write-lengths .ensures)
+    (c .before .before .before .before .before .before .before .write-all-values .ensures) (c .before .before .write-lengths .ensures)
 
 pub write-schedule-spec : {M : Type 1} → statement M
 write-schedule-spec =

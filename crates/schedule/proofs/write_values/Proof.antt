@@ -20,13 +20,13 @@ cast-many : tie.Need-cast-many Inv-loop μ-loop
 cast-many c = search needs
 
 first-of-requires : tie.Need-first-of-requires Inv-loop μ-loop
-first-of-requires c κs = omega (arith, c .before .before .before .before .pre .1 .0, c .before .before .before .before .pre .0 .few-threads, c .before .before .before .before .pre .0 .size)
+first-of-requires c κs = search needs
 
 loop-holds : tie.Need-loop-holds Inv-loop μ-loop
-loop-holds c = walk-start (c .before .before .before .before .before .pre .0) (c .before .before .before .before .before .pre .1 .0) (c .first-of .ensures)
+loop-holds c = walk-start (c .before .before .before .before .before .pre .accepted) (c .before .before .before .before .before .pre .thread) (c .first-of .ensures)
 
 record-at-requires : tie.Need-record-at-requires Inv-loop μ-loop
-record-at-requires c κs = omega (arith, c .before .loop .inv .ok .size)
+record-at-requires c κs = search needs
 
 cast-number : tie.Need-cast-number Inv-loop μ-loop
 cast-number c = record { fits = omega (arith, c .before .before .loop .inv .ok .few-records) }
@@ -35,10 +35,10 @@ value-of-requires : tie.Need-value-of-requires Inv-loop μ-loop
 value-of-requires c κs = search needs
 
 put-number-requires : tie.Need-put-number-requires Inv-loop μ-loop
-put-number-requires c κs = walk-room (c .before .before .before .before .before .loop .inv) (c .before .before .before .before .loop-test .taken) (c .before .before .before .record-at .ensures) (c .before .before .value-of .ensures) (c .before .before .before .before .before .before .before .before .before .before .before .pre .1 .1)
+put-number-requires c κs = walk-room (c .before .before .before .before .before .loop .inv) (c .before .before .before .before .loop-test .taken) (c .before .before .before .record-at .ensures) (c .before .before .value-of .ensures) (c .before .before .before .before .before .before .before .before .before .before .before .pre .room)
 
 target-name-requires : tie.Need-target-name-requires Inv-loop μ-loop
-target-name-requires c κs = omega (arith, c .before .before .before .before .before .before .before .before .before .before .before .globals .ensures, c .before .before .before .before .before .before .before .before .before .loop .inv .ok .few-globals)
+target-name-requires c κs = search needs
 
 put-local-requires : tie.Need-put-local-requires Inv-loop μ-loop
 put-local-requires c κs = search needs
@@ -50,7 +50,7 @@ count-line-requires : tie.Need-count-line-requires Inv-loop μ-loop
 count-line-requires c κs = walk-few (c .before .before .before .before .before .before .before .before .before .before .before .before .before .loop .inv) _
 
 next-of-requires : tie.Need-next-of-requires Inv-loop μ-loop
-next-of-requires c κs = omega (arith, c .before .before .before .before .before .before .before .before .before .before .before .before .before .before .loop .inv .ok .size)
+next-of-requires c κs = search needs
 
 loop-less : tie.Need-loop-less Inv-loop μ-loop
 loop-less c = walk-less (c .before .before .before .before .before .before .before .before .before .before .before .before .before .before .before .loop .inv) (c .before .before .before .before .before .before .before .before .before .before .before .before .before .before .loop-test .taken) (c .next-of .ensures)
