@@ -1,15 +1,15 @@
 -- A case that none of checks 1 to 9 refuses has everything that the record Accepted lists.
 -- Assumes nothing. Met again in every call that goes on after check 9, and in correspondence's Demand3.
-use mathlib.Core.Path.{_≡_, refl}
+use mathlib.Core.Path.{_≡_}
 use Prim.Native.Nat.{ℕ, _-_, _%_, _≤_, _<_}
-use mathlib.Core.Bool.{Bool, true, false, cond}
+use mathlib.Core.Bool.{Bool, true}
 use mathlib.Core.List.{List, []}
 use native.Mathlib.Omega.{arith}
 use borrow.Author.Tests.{leb-true, eqb-true}
 use lib.Dec.{leb, eqb}
 use lib.ListN.{getD, length}
 use Rattle.model.specs.Limits.{leastThreads, mostThreads, mostSwitches, mostGlobals, mostMutexes, mostLines, mostRecords, headerBytes, recordBytes}
-use Rattle.model.specs.Lists.{allFrom}
+use Rattle.model.specs.Lists.{allFrom, unless}
 use Rattle.model.specs.CaseFile.{records, threadCount, switchCount, globalCount, mutexCount, firstRecord, nextRecord, chains}
 use Rattle.model.specs.Accept.{sizeOk, threadsOk, switchesOk, itemsOk, absentOk, linksOk, reachedOk, lengthsOk, timesReached, ruleOk, brokenRecord, verdict}
 use Rattle.model.specs.declared.Verdict.{Verdict}
@@ -17,17 +17,14 @@ use Rattle.model.specs.declared.Verdict.the-variants as verdicts
 use Rattle.laws.specs.Sized.{Sized}
 use Rattle.laws.specs.Accepted.{Accepted}
 use Rattle.laws.proofs.Views.{and-true}
+use Rattle.laws.proofs.OnCase.{Passed, past-unless}
 use Rattle.laws.proofs.Ranges.{all-from-gives, none-failing-gives}
 use Rattle.laws.proofs.Reached.{chains-go-on}
 
 -- The test and what follows it, where the answer is no refusal.
-record Passed (test : Bool) (next : Verdict) : Type 0 where
-  here : test ≡ true
-  later : next ≡ verdicts.Accepted
-
-passes : (test : Bool) (next : Verdict) (number place : ℕ) → cond test next (verdicts.Refused number place) ≡ verdicts.Accepted → Passed test next
-passes true next number place e = record { here = refl; later = e }
-passes false next number place e = absurd (let z : _≡_ {A = ℕ} 0 1 = cc in omega arith)
+passes : (test : Bool) (next : Verdict) (number place : ℕ) → unless test (verdicts.Refused number place) next ≡ verdicts.Accepted
+    → Passed (test ≡ true) (next ≡ verdicts.Accepted)
+passes test next number place e = past-unless (λ v. v ≡ verdicts.Accepted) test _ next (λ e'. let z : _≡_ {A = ℕ} 0 1 = cc in omega arith) e
 
 -- What the checks say, with the refusals taken apart.
 record Checked (bytes : List ℕ) : Type 0 where
