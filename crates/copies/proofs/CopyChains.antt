@@ -112,7 +112,7 @@ module _ (bytes : List ℕ) (ok : Accepted bytes) {copies : List (List ℕ)} {pr
         places = length-set previous (l .number) p ∙ v .places;
         done = λ u h. has-before-kept (case .G) previous (l .number) p (reverse (linesOf case u)) (elsewhere-none u h) (v .done u h);
         own = (
-          getD-set-same previous (l .number) p 0 (omega (arith, within .1, v .places, ok .few-records)) ∙ held-copy case copies t earlier (v .latest) (targetName (case .G) l) few,
+          getD-set-same previous (l .number) p 0 (omega (arith, within .low, v .places, ok .few-records)) ∙ held-copy case copies t earlier (v .latest) (targetName (case .G) l) few,
           has-before-kept (case .G) previous (l .number) p earlier not-earlier (v .own),
         );
       }

@@ -130,7 +130,7 @@ never-adds-up : (schedule : List ℕ) → length schedule ≡ scheduleSize (case
     → lengthsAddUp (caseOf (caseA 0)) (blockLengths (caseOf (caseA 0)) schedule) ≡ true → ⊥
 unfolding computing caseA
 never-adds-up [] sized sums = absurd (omega (arith, sized))
-never-adds-up (x ∷ []) sized sums = true≢false (sym (and-true (eqb (x + 0) 4) false sums .1))
+never-adds-up (x ∷ []) sized sums = true≢false (sym (and-true (eqb (x + 0) 4) false sums .rest))
 never-adds-up (x ∷ (y ∷ ys)) sized sums = absurd (omega (arith, sized))
 
 adds-up-once : (schedule : List ℕ) → length schedule ≡ scheduleSize (caseOf (caseA 1))
@@ -140,8 +140,8 @@ adds-up-once [] sized sums = absurd (omega (arith, sized))
 adds-up-once (x ∷ []) sized sums = absurd (omega (arith, sized))
 adds-up-once (x ∷ (y ∷ [])) sized sums =
     let both = and-true (eqb (x + (0 + 0)) 4) (eqb (0 + (y + 0)) 1 && true) sums in
-    ap₂ (λ (a b : ℕ). a ∷ (b ∷ [])) (omega (arith, eqb-true (x + (0 + 0)) 4 (both .0)))
-    (omega (arith, eqb-true (0 + (y + 0)) 1 (and-true (eqb (0 + (y + 0)) 1) true (both .1) .0)))
+    ap₂ (λ (a b : ℕ). a ∷ (b ∷ [])) (omega (arith, eqb-true (x + (0 + 0)) 4 (both .first)))
+    (omega (arith, eqb-true (0 + (y + 0)) 1 (and-true (eqb (0 + (y + 0)) 1) true (both .rest) .first)))
 adds-up-once (x ∷ (y ∷ (z ∷ zs))) sized sums = absurd (omega (arith, sized))
 
 -- The run of a schedule, where it is complete, has block lengths that add up.

@@ -83,7 +83,7 @@ module _ (case : Case) (wf : WellFormed case) where
         let agrees = traced-agrees case wf (blockLengths case schedule) (givenIn case schedule) in (
           agrees-transfer α filled (eventsOf case schedule)
               (λ k some. let w = wf .within k (rw (counted case wf (hasNumber k) (blockLengths case schedule) (givenIn case schedule)) at some) in
-              let own = record-of-numbers case α k (w .0) (w .1) in
+              let own = record-of-numbers case α k (w .some) (w .low) in
               (sym (own .0), sym (own .1)))
               (agrees .0),
           items-transfer α filled case 0 (itemsOf case schedule) (λ i g hi hg. sym (block-value-of-numbers case α i g hi hg)) (agrees .1),

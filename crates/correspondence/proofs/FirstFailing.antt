@@ -9,20 +9,17 @@ use native.Mathlib.Omega.{arith}
 use native.Mathlib.Nat.{zero-add}
 use lib.ListN.{length}
 use lib.Dec.{eqb}
-use borrow.Author.Tests.{eqb-true, eqb-false, eq-eqb, ne-eqb}
-use Rattle.model.specs.Lists.{unless}
+use borrow.Author.Tests.{eqb-true, eq-eqb, ne-eqb}
 use Rattle.model.specs.CaseFile.{Case, caseOf}
 use Rattle.model.specs.Accept.{verdict}
 use Rattle.model.specs.Assignment.{Assignment, variables, assignmentOf}
 use Rattle.model.specs.Table.{Row, table, numbersOf}
 use Rattle.model.specs.Holds.{holds, firstFailing}
-use Rattle.model.specs.Answers.{onCase, failedIn, checked}
-use Rattle.model.specs.declared.Verdict.{Verdict}
+use Rattle.model.specs.Answers.{answerOfCheck, failedIn, checked}
 use Rattle.model.specs.declared.Verdict.the-variants.{Accepted}
-use Rattle.model.specs.declared.Verdict.the-variants as verdicts
 use Rattle.model.specs.declared.Checked.the-variants.{Meets, Fails}
-use Rattle.model.specs.declared.Checked.the-variants as checkeds
-use Rattle.laws.proofs.OnCase.{on-accepted}
+use Rattle.laws.proofs.OnCase.{on-accepted, past-unless, past-refusals}
+use Rattle.laws.proofs.Views.{EqView, same, diff, eq-view}
 use Rattle.laws.specs.AllHold.{AllHold}
 use Rattle.correspondence.specs.ReadBack.{rowsOf, FirstFails}
 
@@ -68,16 +65,16 @@ module _ (case : Case) (α : Assignment) where
 
 failed-of-fails : (bytes xs : List ℕ) (k : ℕ) → checked bytes xs ≡ Fails k
     → (length xs ≡ variables (caseOf bytes)) × (failedIn bytes xs ≡ k) × (failedIn bytes xs ≢ 0)
-unfolding checked onCase
-failed-of-fails bytes xs k e = go (verdict bytes) (eqb (length xs) (variables (caseOf bytes))) refl (eqb (failedIn bytes xs) 0) refl e
+unfolding checked
+failed-of-fails bytes xs k e =
+    let case = past-refusals (λ r. r ≡ Fails k) (verdict bytes) _ _ (λ number place e'. let z : _≡_ {A = ℕ} 0 1 = cc in omega arith) e in
+    let size = past-unless (λ r. r ≡ Fails k) (eqb (length xs) (variables (caseOf bytes))) _ _ (λ e'. let z : _≡_ {A = ℕ} 0 1 = cc in omega arith) (case .later) in
+    let failed = go (eq-view (failedIn bytes xs) 0) (size .later) in
+    (eqb-true _ _ (size .here), failed .0, failed .1)
   where
-    go : (v : Verdict) (q : Bool) → eqb (length xs) (variables (caseOf bytes)) ≡ q → (r : Bool) → eqb (failedIn bytes xs) 0 ≡ r
-        → onCase v checkeds.Refused (unless q (checkeds.Refused 11 0) (unless r (Fails (failedIn bytes xs)) Meets)) ≡ Fails k
-        → (length xs ≡ variables (caseOf bytes)) × (failedIn bytes xs ≡ k) × (failedIn bytes xs ≢ 0)
-    go Accepted true b false c e' = (eqb-true _ _ b, let z : failedIn bytes xs ≡ k = cc in z, eqb-false (failedIn bytes xs) 0 c)
-    go Accepted true b true c e' = absurd (let z : _≡_ {A = ℕ} 0 1 = cc in omega arith)
-    go Accepted false b r c e' = absurd (let z : _≡_ {A = ℕ} 0 1 = cc in omega arith)
-    go (verdicts.Refused number place) q b r c e' = absurd (let z : _≡_ {A = ℕ} 0 1 = cc in omega arith)
+    go : EqView (failedIn bytes xs) 0 → answerOfCheck (failedIn bytes xs) ≡ Fails k → (failedIn bytes xs ≡ k) × (failedIn bytes xs ≢ 0)
+    go (same z q) e' = absurd (let y : Meets ≡ Fails k = rw q at e' in let z : _≡_ {A = ℕ} 0 1 = cc in omega arith)
+    go (diff some q) e' = (let y : Fails (failedIn bytes xs) ≡ Fails k = rw q at e' in cc, some)
 
 -- The number that the checker answers is that of a row that fails, and all rows before it hold.
 pub checker-names-the-first : (bytes xs : List ℕ) (k : ℕ) → checked bytes xs ≡ Fails k

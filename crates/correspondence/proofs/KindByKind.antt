@@ -61,9 +61,9 @@ module _ (l : Line) (m : Memory) where
       small : (l .a ≤ localCount) × (l .b ≤ localCount)
       small =
           let one = and-true (leb (l .op) 6) _ rule in
-          let two = and-true (leb (l .a) localCount) _ (one .1) in
-          let three = and-true (leb (l .b) localCount) _ (two .1) in
-          (leb-true (l .a) localCount (two .0), leb-true (l .b) localCount (three .0))
+          let two = and-true (leb (l .a) localCount) _ (one .rest) in
+          let three = and-true (leb (l .b) localCount) _ (two .rest) in
+          (leb-true (l .a) localCount (two .first), leb-true (l .b) localCount (three .first))
 
       go : EqView (l .op) 0 → expression l reads ≡ expressionIn l m
       go (same z q) = rw (q, ea) (operand-is m (l .a) (l .c) (small .0))
@@ -105,16 +105,16 @@ module _ (case : Case) (given : ℕ → ℕ) (l : Line) (m : Memory) where
   Rule kind = kindRule kind (case .G) (case .M) l ≡ true
 
   local-target : (rest : Bool) → (ltb (l .target) localCount && rest) ≡ true → l .target < localCount
-  local-target rest r = ltb-true (l .target) localCount (and-true (ltb (l .target) localCount) rest r .0)
+  local-target rest r = ltb-true (l .target) localCount (and-true (ltb (l .target) localCount) rest r .first)
 
   done-is : (kind : Kind) → Rule kind → length (m .items) ≤ mostGlobals + mostMutexes
       → put true (nameOfTarget (case .G) kind (l .target)) (guardedInValue kind l (readsFor kind)) m ≡ doneByKind kind case given l m
   unfolding kindRule nameOfA nameOfB nameOfTarget guardedInValue
   done-is compute r h =
-      rw (expression-is l m (readsFor compute) (and-true (ltb (l .target) localCount) (expressionOk l) r .1) refl refl)
+      rw (expression-is l m (readsFor compute) (and-true (ltb (l .target) localCount) (expressionOk l) r .rest) refl refl)
       (put-local (l .target) (expressionIn l m) m (local-target _ r))
   done-is store r h =
-      rw (expression-is l m (readsFor store) (and-true (ltb (l .target) (case .G)) (expressionOk l) r .1) refl refl)
+      rw (expression-is l m (readsFor store) (and-true (ltb (l .target) (case .G)) (expressionOk l) r .rest) refl refl)
       (put-item (l .target) (expressionIn l m) m)
   done-is load r h = rw (look-item m (l .a)) (put-local (l .target) (globalIn m (l .a)) m (local-target _ r))
   done-is input r h = put-local (l .target) (given (l .number)) m (local-target _ r)
@@ -132,7 +132,7 @@ module _ (case : Case) (given : ℕ → ℕ) (l : Line) (m : Memory) where
     ends-is input r = sym (and-false (guardHolds l m))
     ends-is assert r = sym (and-false (guardHolds l m))
     ends-is assume r =
-        rw (guard-is l m (readsFor assume) small refl, expression-is l m (readsFor assume) (and-true (eqb (l .target) 0) (expressionOk l) r .1) refl refl)
+        rw (guard-is l m (readsFor assume) small refl, expression-is l m (readsFor assume) (and-true (eqb (l .target) 0) (expressionOk l) r .rest) refl refl)
     ends-is lock r = rw (guard-is l m (readsFor lock) small refl, look-item m (case .G + l .target))
     ends-is unlock r = sym (and-false (guardHolds l m))
 
@@ -143,7 +143,7 @@ module _ (case : Case) (given : ℕ → ℕ) (l : Line) (m : Memory) where
     noted-is load r = sym (and-false (guardHolds l m))
     noted-is input r = sym (and-false (guardHolds l m))
     noted-is assert r =
-        rw (guard-is l m (readsFor assert) small refl, expression-is l m (readsFor assert) (and-true (eqb (l .target) 0) (expressionOk l) r .1) refl refl)
+        rw (guard-is l m (readsFor assert) small refl, expression-is l m (readsFor assert) (and-true (eqb (l .target) 0) (expressionOk l) r .rest) refl refl)
         (zero-and (guardHolds l m) (eqb (expressionIn l m) 0))
     noted-is assume r = sym (and-false (guardHolds l m))
     noted-is lock r = sym (and-false (guardHolds l m))

@@ -1,27 +1,24 @@
 -- What an answer of a call says of the tests before it, and the other way round: laws of the call-level definitions.
 -- Assumes nothing. Met again in Demand3 and CaseA.
-use mathlib.Core.Path.{_≡_, refl}
+use mathlib.Core.Path.{_≡_}
 use Prim.Native.Nat.{ℕ, _≤_, _<_}
-use mathlib.Core.Bool.{Bool, true, false}
+use mathlib.Core.Bool.{true}
 use mathlib.Core.List.{List}
+use native.Mathlib.Omega.{arith}
 use lib.Dec.{leb, eqb}
 use lib.ListN.{length}
 use borrow.Author.Tests.{leb-true, le-leb, lt-leb, eqb-true, eq-eqb}
-use Rattle.model.specs.Lists.{unless, writtenOver}
+use Rattle.model.specs.Lists.{writtenOver}
 use Rattle.model.specs.CaseFile.{caseOf, itemCount}
 use Rattle.model.specs.Accept.{verdict}
 use Rattle.model.specs.Assignment.{variables, assignmentOf}
 use Rattle.model.specs.Table.{table, numbersOf}
 use Rattle.model.specs.Schedule.{scheduleSize, blockLengths, lengthsAddUp, runOf, decode}
-use Rattle.model.specs.Answers.{onCase, answerOfRun, failedIn, encoded, encodedInto, checked, decoded, decodedInto, replayed}
-use Rattle.laws.proofs.OnCase.{on-accepted}
-use Rattle.model.specs.declared.Verdict.{Verdict}
+use Rattle.model.specs.Answers.{answerOfRun, failedIn, encoded, encodedInto, checked, decoded, decodedInto, replayed}
+use Rattle.laws.proofs.OnCase.{on-accepted, past-unless, past-refusals}
 use Rattle.model.specs.declared.Verdict.the-variants.{Accepted}
-use Rattle.model.specs.declared.Verdict.the-variants as verdicts
 use Rattle.model.specs.declared.Encoded.the-variants as encodeds
-use Rattle.model.specs.declared.Checked.{Checked}
 use Rattle.model.specs.declared.Checked.the-variants.{Meets}
-use Rattle.model.specs.declared.Checked.the-variants as checkeds
 use Rattle.model.specs.declared.Decoded.the-variants as decodeds
 use Rattle.model.specs.declared.Replayed.the-variants as replayeds
 use Rattle.correspondence.specs.Demand3.{NotRefused}
@@ -34,22 +31,13 @@ pub record Fits (bytes schedule : List ℕ) (room : ℕ) : Type 0 where
   pub adds-up : lengthsAddUp (caseOf bytes) (blockLengths (caseOf bytes) schedule) ≡ true
 
 pub fits-of-answered : (bytes schedule : List ℕ) (room : ℕ) → NotRefused (replayed bytes schedule room) → Fits bytes schedule room
-unfolding replayed onCase
+unfolding replayed
 fits-of-answered bytes schedule room taken =
-    go (verdict bytes) refl (leb (itemCount (caseOf bytes)) room) refl (eqb (length schedule) (scheduleSize (caseOf bytes))) refl
-    (lengthsAddUp (caseOf bytes) (blockLengths (caseOf bytes) schedule)) refl taken
-  where
-    go : (v : Verdict) → verdict bytes ≡ v → (q : Bool) → leb (itemCount (caseOf bytes)) room ≡ q
-        → (r : Bool) → eqb (length schedule) (scheduleSize (caseOf bytes)) ≡ r
-        → (s : Bool) → lengthsAddUp (caseOf bytes) (blockLengths (caseOf bytes) schedule) ≡ s
-        → NotRefused (onCase v replayeds.Refused (unless q (replayeds.Refused 10 0) (unless r (replayeds.Refused 12 0)
-        (unless s (replayeds.Refused 13 0) (answerOfRun (runOf (caseOf bytes) schedule))))))
-        → Fits bytes schedule room
-    go Accepted a true b true c true d t = record { accepted = a; has-room = leb-true _ _ b; has-size = eqb-true _ _ c; adds-up = d }
-    go (verdicts.Refused number place) a q b r c s d t = absurd t
-    go Accepted a false b r c s d t = absurd t
-    go Accepted a true b false c s d t = absurd t
-    go Accepted a true b true c false d t = absurd t
+    let case = past-refusals NotRefused (verdict bytes) _ _ (λ number place t. t) taken in
+    let items = past-unless NotRefused (leb (itemCount (caseOf bytes)) room) _ _ (λ t. t) (case .later) in
+    let size = past-unless NotRefused (eqb (length schedule) (scheduleSize (caseOf bytes))) _ _ (λ t. t) (items .later) in
+    let sums = past-unless NotRefused (lengthsAddUp (caseOf bytes) (blockLengths (caseOf bytes) schedule)) _ _ (λ t. t) (size .later) in
+    record { accepted = case .here; has-room = leb-true _ _ (items .here); has-size = eqb-true _ _ (size .here); adds-up = sums .here }
 
 pub replayed-fits : (bytes schedule : List ℕ) (room : ℕ) → Fits bytes schedule room
     → replayed bytes schedule room ≡ answerOfRun (runOf (caseOf bytes) schedule)
@@ -62,28 +50,13 @@ pub record PassesCheck (bytes xs : List ℕ) : Type 0 where
   pub has-size : length xs ≡ variables (caseOf bytes)
   pub none-failed : failedIn bytes xs ≡ 0
 
-IsMeets : Checked → Type 0
-IsMeets Meets = Unit
-IsMeets (checkeds.Fails k) = ⊥
-IsMeets (checkeds.Refused number place) = ⊥
-
-is-meets : (r : Checked) → r ≡ Meets → IsMeets r
-unfolding IsMeets
-is-meets r e = rw e tt
-
 pub passes-of-meets : (bytes xs : List ℕ) → checked bytes xs ≡ Meets → PassesCheck bytes xs
-unfolding checked onCase IsMeets
+unfolding checked
 passes-of-meets bytes xs e =
-    go (verdict bytes) refl (eqb (length xs) (variables (caseOf bytes))) refl (eqb (failedIn bytes xs) 0) refl (is-meets (checked bytes xs) e)
-  where
-    go : (v : Verdict) → verdict bytes ≡ v → (q : Bool) → eqb (length xs) (variables (caseOf bytes)) ≡ q
-        → (r : Bool) → eqb (failedIn bytes xs) 0 ≡ r
-        → IsMeets (onCase v checkeds.Refused (unless q (checkeds.Refused 11 0) (unless r (checkeds.Fails (failedIn bytes xs)) Meets)))
-        → PassesCheck bytes xs
-    go Accepted a true b true c t = record { accepted = a; has-size = eqb-true _ _ b; none-failed = eqb-true _ _ c }
-    go (verdicts.Refused number place) a q b r c t = absurd t
-    go Accepted a false b r c t = absurd t
-    go Accepted a true b false c t = absurd t
+    let case = past-refusals (λ r. r ≡ Meets) (verdict bytes) _ _ (λ number place e'. let z : _≡_ {A = ℕ} 0 1 = cc in omega arith) e in
+    let size = past-unless (λ r. r ≡ Meets) (eqb (length xs) (variables (caseOf bytes))) _ _ (λ e'. let z : _≡_ {A = ℕ} 0 1 = cc in omega arith) (case .later) in
+    let none = past-unless (λ r. r ≡ Meets) (eqb (failedIn bytes xs) 0) _ _ (λ e'. let z : _≡_ {A = ℕ} 0 1 = cc in omega arith) (size .later) in
+    record { accepted = case .here; has-size = eqb-true _ _ (size .here); none-failed = eqb-true _ _ (none .here) }
 
 pub meets-of-passes : (bytes xs : List ℕ) → PassesCheck bytes xs → checked bytes xs ≡ Meets
 unfolding checked

@@ -87,7 +87,7 @@ module _ (case : Case) (α : Assignment) where
   blocks-of-rows first zero h i low high g few = absurd (omega arith)
   blocks-of-rows first (suc many) h i low high g few =
       let parts = all-hold-split case α (itemRows case (blockLines first) first 0 (itemCount case)) (blockRows case (suc first) many) h in
-      go (eq-view first i) (parts .0) (λ low' high'. blocks-of-rows (suc first) many (parts .1) i low' high' g few)
+      go (eq-view first i) (parts .front) (λ low' high'. blocks-of-rows (suc first) many (parts .back) i low' high' g few)
     where
       go : EqView first i → AllHold case α (itemRows case (blockLines first) first 0 (itemCount case))
           → (suc first ≤ i → i < suc first + many → BlockMet case α i g) → BlockMet case α i g
@@ -153,11 +153,11 @@ module _ (case : Case) (wf : WellFormed case) (α : Assignment) where
   unfolding runRows
   meets-of-rows h =
       let after = all-hold-split case α (allOrderRows case 0 (case .threads)) _ h in
-      let later = all-hold-split case α (allValueRows case (case .threads)) (blockRows case 0 (case .n)) (after .1) in
+      let later = all-hold-split case α (allValueRows case (case .threads)) (blockRows case 0 (case .n)) (after .back) in
       record {
-        order = λ t few. rw (zero-add t) at (order-of-all-rows case α 0 (case .threads) (after .0) t (omega (arith, wf .thread-count)));
-        lines = λ t few. lines-of-all-rows case (wf .few-items) α (case .threads) (line-found case (wf .once)) (later .0) t;
-        blocks = λ i few g some. blocks-of-rows case α 0 (case .n) (later .1) i (omega arith) (omega arith) g some;
+        order = λ t few. rw (zero-add t) at (order-of-all-rows case α 0 (case .threads) (after .front) t (omega (arith, wf .thread-count)));
+        lines = λ t few. lines-of-all-rows case (wf .few-items) α (case .threads) (line-found case (wf .once)) (later .front) t;
+        blocks = λ i few g some. blocks-of-rows case α 0 (case .n) (later .back) i (omega arith) (omega arith) g some;
       }
 
   pub rows-of-meets : Meets case α → AllHold case α (runRows case)
@@ -171,7 +171,7 @@ module _ (case : Case) (wf : WellFormed case) (α : Assignment) where
 
   pub meets-of-table : AllHold case α (table case) → Meets case α × (0 < breakCount case α)
   unfolding table holds
-  meets-of-table h = let parts = all-hold-split case α (runRows case) (goalRow ∷ []) h in (meets-of-rows (parts .0), count-of-goal (parts .1 .0))
+  meets-of-table h = let parts = all-hold-split case α (runRows case) (goalRow ∷ []) h in (meets-of-rows (parts .front), count-of-goal (parts .back .0))
 
   pub table-of-meets : Meets case α → 0 < breakCount case α → AllHold case α (table case)
   unfolding table holds

@@ -74,8 +74,8 @@ module _ (case : Case) (few : localCount + itemCount case ≤ noName) (α : Assi
   met-of-rows earlier [] found h = tt
   met-of-rows earlier (l ∷ ls) found h =
       let parts = all-hold-split case α (demandRows (l .kind) case earlier l) (valueRows case (l ∷ earlier) ls) (h .1) in (
-        record { value = value-of-row earlier l (found .0) (h .0); demand = demand-of-rows (l .kind) earlier l refl (found .0) (parts .0) },
-        met-of-rows (l ∷ earlier) ls (found .1) (parts .1),
+        record { value = value-of-row earlier l (found .0) (h .0); demand = demand-of-rows (l .kind) earlier l refl (found .0) (parts .front) },
+        met-of-rows (l ∷ earlier) ls (found .1) (parts .back),
       )
 
   rows-of-met : (earlier ls : List Line) → AllLines (λ l. lineAt case (l .number) ≡ l) ls → LinesMet case α earlier ls
@@ -92,9 +92,9 @@ module _ (case : Case) (few : localCount + itemCount case ≤ noName) (α : Assi
       → AllHold case α (allValueRows case threads) → (t : ℕ) → LinesMet case α [] (getD threads t [])
   unfolding allValueRows
   lines-of-all-rows [] found h t = tt
-  lines-of-all-rows (ls ∷ threads) found h zero = met-of-rows [] ls (found 0) (all-hold-split case α (valueRows case [] ls) (allValueRows case threads) h .0)
+  lines-of-all-rows (ls ∷ threads) found h zero = met-of-rows [] ls (found 0) (all-hold-split case α (valueRows case [] ls) (allValueRows case threads) h .front)
   lines-of-all-rows (ls ∷ threads) found h (suc t) =
-      lines-of-all-rows threads (λ j. found (suc j)) (all-hold-split case α (valueRows case [] ls) (allValueRows case threads) h .1) t
+      lines-of-all-rows threads (λ j. found (suc j)) (all-hold-split case α (valueRows case [] ls) (allValueRows case threads) h .back) t
 
   pub all-rows-of-lines : (threads : List (List Line)) → ((t : ℕ) → AllLines (λ l. lineAt case (l .number) ≡ l) (getD threads t []))
       → ((t : ℕ) → t < length threads → LinesMet case α [] (getD threads t [])) → AllHold case α (allValueRows case threads)

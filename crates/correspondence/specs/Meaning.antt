@@ -13,6 +13,7 @@ use Rattle.model.specs.Line.{noName, Reads, guardTrue, valueOf, breaks, isInput
 use Rattle.model.specs.Assignment.{Assignment}
 use Rattle.model.specs.Copies.{readsAfter, walkBack}
 use Rattle.model.specs.Schedule.{linesInBlock}
+use Rattle.laws.specs.RecordNumber.{RecordNumber}
 use Rattle.laws.specs.Order.{AllLines, Positive, Ordered}
 
 -- What the theorem needs of a case. That an accepted case has it is proofs/WellFormed.antt.
@@ -25,7 +26,7 @@ pub record WellFormed (case : Case) : Type 0 where
   pub positive : (t : ℕ) → AllLines Positive (linesOf case t)
   pub once : (k : ℕ) → sumOfThreads (hasNumber k) (case .threads) ≤ 1
   pub known : (k : ℕ) → 0 < k → k ≤ case .R → 0 < sumOfThreads (hasNumber k) (case .threads)
-  pub within : (k : ℕ) → 0 < sumOfThreads (hasNumber k) (case .threads) → (0 < k) × (k ≤ case .R)
+  pub within : (k : ℕ) → 0 < sumOfThreads (hasNumber k) (case .threads) → RecordNumber (case .R) k
   pub small-constants : (t : ℕ) → AllLines (λ l. l .c < wordSize) (linesOf case t)
   pub small-initial : AllBelow wordSize (case .initial)
 

@@ -1,15 +1,15 @@
 -- A case that none of checks 1 to 9 refuses has everything that the record Accepted lists.
 -- Assumes nothing. Met again in every call that goes on after check 9, and in correspondence's Demand3.
-use mathlib.Core.Path.{_≡_, refl}
+use mathlib.Core.Path.{_≡_}
 use Prim.Native.Nat.{ℕ, _-_, _%_, _≤_, _<_}
-use mathlib.Core.Bool.{Bool, true, false, cond}
+use mathlib.Core.Bool.{Bool, true}
 use mathlib.Core.List.{List, []}
 use native.Mathlib.Omega.{arith}
 use borrow.Author.Tests.{leb-true, eqb-true}
 use lib.Dec.{leb, eqb}
 use lib.ListN.{getD, length}
 use Rattle.model.specs.Limits.{leastThreads, mostThreads, mostSwitches, mostGlobals, mostMutexes, mostLines, mostRecords, headerBytes, recordBytes}
-use Rattle.model.specs.Lists.{allFrom}
+use Rattle.model.specs.Lists.{allFrom, unless}
 use Rattle.model.specs.CaseFile.{records, threadCount, switchCount, globalCount, mutexCount, firstRecord, nextRecord, chains}
 use Rattle.model.specs.Accept.{sizeOk, threadsOk, switchesOk, itemsOk, absentOk, linksOk, reachedOk, lengthsOk, timesReached, ruleOk, brokenRecord, verdict}
 use Rattle.model.specs.declared.Verdict.{Verdict}
@@ -17,17 +17,14 @@ use Rattle.model.specs.declared.Verdict.the-variants as verdicts
 use Rattle.laws.specs.Sized.{Sized}
 use Rattle.laws.specs.Accepted.{Accepted}
 use Rattle.laws.proofs.Views.{and-true}
+use Rattle.laws.proofs.OnCase.{Passed, past-unless}
 use Rattle.laws.proofs.Ranges.{all-from-gives, none-failing-gives}
 use Rattle.laws.proofs.Reached.{chains-go-on}
 
 -- The test and what follows it, where the answer is no refusal.
-record Passed (test : Bool) (next : Verdict) : Type 0 where
-  here : test ≡ true
-  later : next ≡ verdicts.Accepted
-
-passes : (test : Bool) (next : Verdict) (number place : ℕ) → cond test next (verdicts.Refused number place) ≡ verdicts.Accepted → Passed test next
-passes true next number place e = record { here = refl; later = e }
-passes false next number place e = absurd (let z : _≡_ {A = ℕ} 0 1 = cc in omega arith)
+passes : (test : Bool) (next : Verdict) (number place : ℕ) → unless test (verdicts.Refused number place) next ≡ verdicts.Accepted
+    → Passed (test ≡ true) (next ≡ verdicts.Accepted)
+passes test next number place e = past-unless (λ v. v ≡ verdicts.Accepted) test _ next (λ e'. let z : _≡_ {A = ℕ} 0 1 = cc in omega arith) e
 
 -- What the checks say, with the refusals taken apart.
 record Checked (bytes : List ℕ) : Type 0 where
@@ -67,14 +64,14 @@ checked-of bytes e =
 pub sized-of : (bytes : List ℕ) → sizeOk bytes ≡ true → Sized bytes
 sized-of bytes e =
     let whole = and-true (leb headerBytes (length bytes)) _ e in
-    let rest = and-true (eqb ((length bytes - headerBytes) % recordBytes) 0) _ (whole .1) in
+    let tests = and-true (eqb ((length bytes - headerBytes) % recordBytes) 0) _ (whole .rest) in
     record {
-      size = omega (arith, leb-true headerBytes (length bytes) (whole .0), eqb-true ((length bytes - headerBytes) % recordBytes) 0 (rest .0));
-      few-records = leb-true (records bytes) mostRecords (rest .1);
+      size = omega (arith, leb-true headerBytes (length bytes) (whole .first), eqb-true ((length bytes - headerBytes) % recordBytes) 0 (tests .first));
+      few-records = leb-true (records bytes) mostRecords (tests .rest);
     }
 
 pub few-threads-of : (bytes : List ℕ) → threadsOk bytes ≡ true → threadCount bytes ≤ mostThreads
-few-threads-of bytes e = leb-true (threadCount bytes) mostThreads (and-true (leb leastThreads (threadCount bytes)) _ e .1)
+few-threads-of bytes e = leb-true (threadCount bytes) mostThreads (and-true (leb leastThreads (threadCount bytes)) _ e .rest)
 
 module _ (bytes : List ℕ) (checks : Checked bytes) where
   each-record : (test : ℕ → Bool) → allFrom test 1 (records bytes) ≡ true → (k : ℕ) → 0 < k → k ≤ records bytes → test k ≡ true
@@ -100,9 +97,9 @@ module _ (bytes : List ℕ) (checks : Checked bytes) where
 
   link-tests : LinkTests
   link-tests =
-      let first = and-true (allFrom firstOk 0 (threadCount bytes)) _ (checks .links) in
-      let second = and-true (allFrom nextOk 1 (records bytes)) _ (first .1) in
-      record { firsts = first .0; nexts = second .0; once = second .1 }
+      let tests = and-true (allFrom firstOk 0 (threadCount bytes)) _ (checks .links) in
+      let later = and-true (allFrom nextOk 1 (records bytes)) _ (tests .rest) in
+      record { firsts = tests .first; nexts = later .first; once = later .rest }
 
   first-links : (t : ℕ) → t < threadCount bytes → firstRecord bytes t ≤ records bytes
   first-links t h = leb-true (firstRecord bytes t) (records bytes) (each-thread firstOk (link-tests .firsts) t h)
@@ -122,11 +119,11 @@ module _ (bytes : List ℕ) (checks : Checked bytes) where
   accepted = record {
     size = sized-of bytes (checks .size) .size;
     few-records = sized-of bytes (checks .size) .few-records;
-    some-threads = leb-true leastThreads (threadCount bytes) (and-true _ _ (checks .threads) .0);
+    some-threads = leb-true leastThreads (threadCount bytes) (and-true _ _ (checks .threads) .first);
     few-threads = few-threads-of bytes (checks .threads);
     few-switches = leb-true (switchCount bytes) mostSwitches (checks .switches);
-    few-globals = leb-true (globalCount bytes) mostGlobals (and-true _ _ (checks .items) .0);
-    few-mutexes = leb-true (mutexCount bytes) mostMutexes (and-true (leb (globalCount bytes) mostGlobals) _ (checks .items) .1);
+    few-globals = leb-true (globalCount bytes) mostGlobals (and-true _ _ (checks .items) .first);
+    few-mutexes = leb-true (mutexCount bytes) mostMutexes (and-true (leb (globalCount bytes) mostGlobals) _ (checks .items) .rest);
     firsts = first-links;
     nexts = next-links;
     reached-once = reached-just-once;

@@ -15,9 +15,13 @@ pub all-hold-append : (case : Case) (α : Assignment) (ws us : List Row) → All
 all-hold-append case α [] us h g = g
 all-hold-append case α (w ∷ ws) us h g = (h .0, all-hold-append case α ws us (h .1) g)
 
-pub all-hold-split : (case : Case) (α : Assignment) (ws us : List Row) → AllHold case α (ws ++ us) → AllHold case α ws × AllHold case α us
-all-hold-split case α [] us h = (tt, h)
-all-hold-split case α (w ∷ ws) us h = let rest = all-hold-split case α ws us (h .1) in ((h .0, rest .0), rest .1)
+pub record BothHold (case : Case) (α : Assignment) (ws us : List Row) : Type 0 where
+  pub front : AllHold case α ws
+  pub back : AllHold case α us
+
+pub all-hold-split : (case : Case) (α : Assignment) (ws us : List Row) → AllHold case α (ws ++ us) → BothHold case α ws us
+all-hold-split case α [] us h = record { front = tt; back = h }
+all-hold-split case α (w ∷ ws) us h = let rest = all-hold-split case α ws us (h .1) in record { front = (h .0, rest .front); back = rest .back }
 
 module _ (case : Case) (α : Assignment) where
   -- No row is named as the first that fails just when all hold.

@@ -6,24 +6,15 @@ use mathlib.Core.Bool.{cond}
 use mathlib.Core.List.{List, [], _∷_}
 use native.Mathlib.Omega.{arith}
 use native.Mathlib.Nat.{add-zero, zero-add}
-use borrow.Author.Tests.{ne-eqb}
 use lib.Dec.{eqb}
 use lib.ListN.{getD, length}
 use Rattle.model.specs.CaseFile.{Line, records, threadCount, firstRecord, nextRecord, lineOf, chain, chains, caseOf, linesOf, sumOfLines, hasNumber, findLine}
+use Rattle.laws.specs.RecordNumber.{RecordNumber}
 use Rattle.laws.specs.Accepted.{linesFrom}
 use Rattle.laws.proofs.Views.{EqView, same, diff, eq-view, LtView, below, above, lt-view}
 use Rattle.laws.proofs.Counting.{NumbersWithin}
 
 module _ (bytes : List ℕ) where
-  -- What no lines have and one more line in front keeps, every chain has.
-  pub chain-by : (t : ℕ) (P : List Line → Type 0) → P [] → ((k : ℕ) (ls : List Line) → 0 < k → P ls → P (lineOf bytes t k ∷ ls))
-      → (most k : ℕ) → P (chain bytes t most k)
-  unfolding chain
-  chain-by t P none more zero k = none
-  chain-by t P none more (suc most) zero = none
-  chain-by t P none more (suc most) (suc k) =
-      more (suc k) (chain bytes t most (nextRecord bytes (suc k))) (omega arith) (chain-by t P none more most (nextRecord bytes (suc k)))
-
   pub chain-end : (t most : ℕ) → chain bytes t most 0 ≡ []
   unfolding chain
   chain-end t zero = refl
@@ -31,12 +22,6 @@ module _ (bytes : List ℕ) where
 
   pub linesFrom-end : (t : ℕ) → linesFrom bytes t 0 ≡ []
   linesFrom-end t = chain-end t (suc (records bytes))
-
-  pub chain-numbers-positive : (t most k : ℕ) → sumOfLines (hasNumber 0) (chain bytes t most k) ≡ 0
-  chain-numbers-positive t = chain-by t (λ ls. sumOfLines (hasNumber 0) ls ≡ 0) refl more
-    where
-      more : (k : ℕ) (ls : List Line) → 0 < k → sumOfLines (hasNumber 0) ls ≡ 0 → sumOfLines (hasNumber 0) (lineOf bytes t k ∷ ls) ≡ 0
-      more k ls h e = rw (ne-eqb k 0 (λ z. omega arith)) (omega (arith, e))
 
   -- The thread's number is in the lines, and changes nothing else.
   pub chain-length-any-thread : (t u most k : ℕ) → length (chain bytes t most k) ≡ length (chain bytes u most k)
@@ -138,7 +123,7 @@ module _ (bytes : List ℕ) where
 
   -- The records that chains reach are from 1 to R where their links are at most R.
   module _ (nexts : (k : ℕ) → 0 < k → k ≤ records bytes → nextRecord bytes k ≤ records bytes) where
-    -- As chain-by, with record numbers from 1 to R.
+    -- What no lines have and one more record in front keeps, every chain has.
     pub chain-within-by : (t : ℕ) (P : List Line → Type 0) → P []
         → ((k : ℕ) (ls : List Line) → 0 < k → k ≤ records bytes → P ls → P (lineOf bytes t k ∷ ls))
         → (most k : ℕ) → k ≤ records bytes → P (chain bytes t most k)
@@ -156,6 +141,6 @@ module _ (bytes : List ℕ) where
             → NumbersWithin (records bytes) (lineOf bytes t j ∷ ls)
         more j ls low high rest k c = go (eq-view j k)
           where
-            go : EqView j k → (0 < k) × (k ≤ records bytes)
-            go (same e q) = (omega arith, omega arith)
+            go : EqView j k → RecordNumber (records bytes) k
+            go (same e q) = record { some = omega arith; low = omega arith }
             go (diff e q) = rest k (omega (arith, rw q at c))

@@ -11,6 +11,7 @@ use lib.Dec.{eqb}
 use lib.ListN.{getD, length}
 use Rattle.model.specs.Word.{bit}
 use Rattle.model.specs.CaseFile.{Line, sumOfLines, sumOfThreads, hasNumber}
+use Rattle.laws.specs.RecordNumber.{RecordNumber}
 use Rattle.laws.proofs.Views.{EqView, same, diff, eq-view}
 
 -- f i + f (i + 1) + .. : so many numbers
@@ -56,7 +57,7 @@ number-is-other k l e = go (eq-view (l .number) k)
 module _ (R : ℕ) where
   -- every number that occurs is from 1 to R
   abbrev pub NumbersWithin : List Line → Type 0
-  NumbersWithin ls = (k : ℕ) → 0 < sumOfLines (hasNumber k) ls → (0 < k) × (k ≤ R)
+  NumbersWithin ls = (k : ℕ) → 0 < sumOfLines (hasNumber k) ls → RecordNumber R k
 
   counts-add-up : (ls : List Line) → NumbersWithin ls → sumFrom (λ k. sumOfLines (hasNumber k) ls) 1 R ≡ length ls
   counts-add-up [] w = sum-of-zeros 1 R
@@ -65,7 +66,7 @@ module _ (R : ℕ) where
       omega (
         arith,
         sum-of-sums (λ k. hasNumber k l) (λ k. sumOfLines (hasNumber k) ls) 1 R,
-        one-hit (l .number) 1 R (here .0) (omega (arith, here .1)),
+        one-hit (l .number) 1 R (here .some) (omega arith),
         counts-add-up ls (λ k c. w k (omega (arith, c))),
       )
 
@@ -79,13 +80,15 @@ module _ (weight : Line → ℕ) where
   thread-sum-at-most (ls ∷ threads) (suc t) = omega (arith, thread-sum-at-most threads t)
 
   -- what has a sum has it in some thread
-  pub some-thread-has : (threads : List (List Line)) → 0 < sumOfThreads weight threads
-      → (t : ℕ) × (t < length threads) × (0 < sumOfLines weight (getD threads t []))
+  pub record HasInThread (threads : List (List Line)) : Type 0 where
+    pub thread : ℕ
+    pub among : thread < length threads
+    pub some : 0 < sumOfLines weight (getD threads thread [])
+
+  pub some-thread-has : (threads : List (List Line)) → 0 < sumOfThreads weight threads → HasInThread threads
   some-thread-has [] h = absurd (omega arith)
   some-thread-has (ls ∷ threads) h = go (sumOfLines weight ls) refl (some-thread-has threads)
     where
-      go : (x : ℕ) → sumOfLines weight ls ≡ x
-          → (0 < sumOfThreads weight threads → (t : ℕ) × (t < length threads) × (0 < sumOfLines weight (getD threads t [])))
-          → (t : ℕ) × (t < suc (length threads)) × (0 < sumOfLines weight (getD (ls ∷ threads) t []))
-      go zero e rest = let found = rest (omega (arith, h, e)) in (suc (found .0), omega (arith, found .1), found .2)
-      go (suc x) e rest = (0, omega arith, omega (arith, e))
+      go : (x : ℕ) → sumOfLines weight ls ≡ x → (0 < sumOfThreads weight threads → HasInThread threads) → HasInThread (ls ∷ threads)
+      go zero e rest = let found = rest (omega (arith, h, e)) in record { thread = suc (found .thread); among = omega arith; some = found .some }
+      go (suc x) e rest = record { thread = 0; among = omega arith; some = omega (arith, e) }

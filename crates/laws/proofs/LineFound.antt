@@ -21,18 +21,20 @@ unfolding findLine
 find-first l ls other = rw (eq-eqb (l .number) (l .number) refl)
 
 -- a line is found by its number and counted: in a thread, where each number has another line to fall back on; among threads
-abbrev FoundIn : List Line → (ℕ → Line) → Line → Type 0
-FoundIn ls other l = (findLine (l .number) ls (other (l .number)) ≡ l) × (0 < sumOfLines (hasNumber (l .number)) ls)
+record FoundIn (ls : List Line) (other : ℕ → Line) (l : Line) : Type 0 where
+  found : findLine (l .number) ls (other (l .number)) ≡ l
+  counted : 0 < sumOfLines (hasNumber (l .number)) ls
 
-abbrev FoundAmong : List (List Line) → Line → Type 0
-FoundAmong threads l = (findThread (l .number) threads ≡ l) × (0 < sumOfThreads (hasNumber (l .number)) threads)
+record FoundAmong (threads : List (List Line)) (l : Line) : Type 0 where
+  found : findThread (l .number) threads ≡ l
+  counted : 0 < sumOfThreads (hasNumber (l .number)) threads
 
 found-in-lines : (ls : List Line) (other : ℕ → Line) → ((k : ℕ) → sumOfLines (hasNumber k) ls ≤ 1) → AllLines (FoundIn ls other) ls
 found-in-lines [] other once = tt
 found-in-lines (l ∷ ls) other once = (
-  (find-first l ls (other (l .number)), omega (arith, own-number-counts l)),
+  record { found = find-first l ls (other (l .number)); counted = omega (arith, own-number-counts l) },
   all-lines-map (FoundIn ls other) (FoundIn (l ∷ ls) other) ls
-      (λ l' h. (find-passes-one (l' .number) l ls (other (l' .number)) (omega (arith, once (l' .number), h .1)) ∙ h .0, omega (arith, h .1)))
+      (λ l' h. record { found = find-passes-one (l' .number) l ls (other (l' .number)) (omega (arith, once (l' .number), h .counted)) ∙ h .found; counted = omega (arith, h .counted) })
       (found-in-lines ls other (λ k. omega (arith, once k))),
 )
 
@@ -41,15 +43,15 @@ found-in-threads : (threads : List (List Line)) → ((k : ℕ) → sumOfThreads 
 unfolding findThread
 found-in-threads [] once t = tt
 found-in-threads (ls ∷ threads) once zero =
-    all-lines-map (FoundIn ls (λ k. findThread k threads)) (FoundAmong (ls ∷ threads)) ls (λ l h. (h .0, omega (arith, h .1)))
+    all-lines-map (FoundIn ls (λ k. findThread k threads)) (FoundAmong (ls ∷ threads)) ls (λ l h. record { found = h .found; counted = omega (arith, h .counted) })
     (found-in-lines ls (λ k. findThread k threads) (λ k. omega (arith, once k)))
 found-in-threads (ls ∷ threads) once (suc t) =
     all-lines-map (FoundAmong threads) (FoundAmong (ls ∷ threads)) (getD threads t [])
-    (λ l h. (find-nothing (l .number) ls (findThread (l .number) threads) (omega (arith, once (l .number), h .1)) ∙ h .0, omega (arith, h .1)))
+    (λ l h. record { found = find-nothing (l .number) ls (findThread (l .number) threads) (omega (arith, once (l .number), h .counted)) ∙ h .found; counted = omega (arith, h .counted) })
     (found-in-threads threads (λ k. omega (arith, once k)) t)
 
 pub line-found : (case : Case) → ((k : ℕ) → sumOfThreads (hasNumber k) (case .threads) ≤ 1) → (t : ℕ)
     → AllLines (λ l. lineAt case (l .number) ≡ l) (linesOf case t)
 line-found case once t =
-    all-lines-map (FoundAmong (case .threads)) (λ l. lineAt case (l .number) ≡ l) (linesOf case t) (λ l h. h .0)
+    all-lines-map (FoundAmong (case .threads)) (λ l. lineAt case (l .number) ≡ l) (linesOf case t) (λ l h. h .found)
     (found-in-threads (case .threads) once t)

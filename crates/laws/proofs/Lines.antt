@@ -8,10 +8,11 @@ use native.Mathlib.Nat.{zero-add}
 use lib.ListN.{getD, length}
 use Rattle.model.specs.Limits.{mostLines}
 use Rattle.model.specs.CaseFile.{Line, records, threadCount, firstRecord, lineOf, chains, caseOf, linesOf, sumOfLines, sumOfThreads, hasNumber, findLine, findThread, lineAt}
+use Rattle.laws.specs.RecordNumber.{RecordNumber}
 use Rattle.laws.specs.Accepted.{Accepted, linesFrom}
-use Rattle.laws.proofs.Counting.{number-is-other, thread-sum-at-most, some-thread-has}
-use Rattle.laws.proofs.Chains.{thread-by, chain-within-by, linesFrom-end, find-in-chain, thread-count}
-use Rattle.laws.proofs.Reached.{reached-within, reached-at-most-once, some-thread-is-longer, lines-from-are-at-most-R}
+use Rattle.laws.proofs.Counting.{number-is-other, thread-sum-at-most}
+use Rattle.laws.proofs.Chains.{thread-by, chain-within-by, linesFrom-end, find-in-chain}
+use Rattle.laws.proofs.Reached.{reached-within, reached-at-most-once, some-thread-is-longer}
 
 -- a number that does not occur is not found
 pub find-nothing : (k : ℕ) (ls : List Line) (other : Line) → sumOfLines (hasNumber k) ls ≡ 0 → findLine k ls other ≡ other
@@ -35,7 +36,7 @@ find-in-its-thread bytes k t (suc many) (suc j) h once found =
     ∙ ap (λ (x : ℕ). lineOf bytes x k) (omega arith)
 
 module _ (bytes : List ℕ) (ok : Accepted bytes) where
-  pub numbers-within : (k : ℕ) → 0 < sumOfThreads (hasNumber k) (caseOf bytes .threads) → (0 < k) × (k ≤ records bytes)
+  pub numbers-within : (k : ℕ) → 0 < sumOfThreads (hasNumber k) (caseOf bytes .threads) → RecordNumber (records bytes) k
   numbers-within = reached-within bytes (ok .firsts) (ok .nexts) (ok .reached-once)
 
   pub numbers-once : (k : ℕ) → sumOfThreads (hasNumber k) (caseOf bytes .threads) ≤ 1
@@ -45,11 +46,7 @@ module _ (bytes : List ℕ) (ok : Accepted bytes) where
   few-lines-from t zero h = rw (linesFrom-end bytes t) (omega arith)
   few-lines-from t (suc k) h =
       let longer = some-thread-is-longer bytes (ok .firsts) (ok .nexts) (ok .reached-once) t (suc k) (omega arith) h in
-      omega (arith, longer .2, ok .few-lines (longer .0) (longer .1))
-
-  pub lines-from-fit : (t k : ℕ) → k ≤ records bytes → length (linesFrom bytes t k) ≤ records bytes
-  lines-from-fit t zero h = rw (linesFrom-end bytes t) (omega arith)
-  lines-from-fit t (suc k) h = lines-from-are-at-most-R bytes (ok .firsts) (ok .nexts) (ok .reached-once) t (suc k) (omega arith) h
+      omega (arith, ok .few-lines (longer .thread) (longer .among))
 
   -- What no lines have and one of the records in front keeps, the lines of every thread have.
   pub thread-lines-by : (t : ℕ) (P : List Line → Type 0) → P [] → ((k : ℕ) (ls : List Line) → 0 < k → k ≤ records bytes → P ls → P (lineOf bytes t k ∷ ls))
@@ -57,27 +54,6 @@ module _ (bytes : List ℕ) (ok : Accepted bytes) where
   thread-lines-by t P none more =
       thread-by bytes t P none (λ h. chain-within-by bytes (ok .nexts) t P none more (suc (records bytes)) (firstRecord bytes t) (ok .firsts t h))
 
-  -- A line that is its record as a line of thread t.
-  abbrev pub IsRecord : ℕ → Line → Type 0
-  IsRecord t l = (0 < l .number) × (l .number ≤ records bytes) × (l ≡ lineOf bytes t (l .number))
-
-  abbrev AreRecords : ℕ → List Line → Type 0
-  AreRecords t ls = (i : ℕ) → i < length ls → (other : Line) → IsRecord t (getD ls i other)
-
-  pub lines-are-records : (t i : ℕ) → i < length (linesOf (caseOf bytes) t) → (other : Line) → IsRecord t (getD (linesOf (caseOf bytes) t) i other)
-  lines-are-records t = thread-lines-by t (AreRecords t) (λ i h other. absurd (omega arith)) more
-    where
-      more : (k : ℕ) (ls : List Line) → 0 < k → k ≤ records bytes → AreRecords t ls → AreRecords t (lineOf bytes t k ∷ ls)
-      more k ls low high rest zero h other = (low, high, refl)
-      more k ls low high rest (suc i) h other = rest i (omega (arith, h)) other
-
   pub line-in-thread : (t k : ℕ) → t < threadCount bytes → 0 < sumOfLines (hasNumber k) (linesOf (caseOf bytes) t)
       → lineAt (caseOf bytes) k ≡ lineOf bytes t k
   line-in-thread t k h found = find-in-its-thread bytes k 0 (threadCount bytes) t h (numbers-once k) found ∙ ap (λ (x : ℕ). lineOf bytes x k) (zero-add t)
-
-  -- The line with record number k is record k as a line of its thread.
-  pub line-at : (k : ℕ) → 0 < k → k ≤ records bytes → (t : ℕ) × (t < threadCount bytes) × (lineAt (caseOf bytes) k ≡ lineOf bytes t k)
-  line-at k low high =
-      let found = some-thread-has (hasNumber k) (caseOf bytes .threads) (omega (arith, ok .reached-once k low high)) in
-      let inside : found .0 < threadCount bytes = omega (arith, found .1, thread-count bytes) in
-      (found .0, inside, line-in-thread (found .0) k inside (found .2))

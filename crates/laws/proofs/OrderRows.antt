@@ -45,9 +45,9 @@ module _ (case : Case) (α : Assignment) where
   unfolding allOrderRows
   order-of-all-rows first [] h t few = absurd (omega arith)
   order-of-all-rows first (ls ∷ threads) h zero few =
-      rw (add-zero first) (ordered-of-rows first [] ls (all-hold-split case α (orderRows case first [] ls) (allOrderRows case (suc first) threads) h .0))
+      rw (add-zero first) (ordered-of-rows first [] ls (all-hold-split case α (orderRows case first [] ls) (allOrderRows case (suc first) threads) h .front))
   order-of-all-rows first (ls ∷ threads) h (suc t) few =
-      let rest = all-hold-split case α (orderRows case first [] ls) (allOrderRows case (suc first) threads) h .1 in
+      let rest = all-hold-split case α (orderRows case first [] ls) (allOrderRows case (suc first) threads) h .back in
       rw shift (order-of-all-rows (suc first) threads rest t (omega arith))
     where
       shift : first + suc t ≡ suc first + t

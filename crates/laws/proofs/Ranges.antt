@@ -14,10 +14,10 @@ module _ (test : ℕ → Bool) where
   pub all-from-gives : (i many : ℕ) → allFrom test i many ≡ true → (j : ℕ) → i ≤ j → j < i + many → test j ≡ true
   unfolding allFrom
   all-from-gives i zero e j h h' = absurd (omega arith)
-  all-from-gives i (suc many) e j h h' = go (eq-view i j) (all-from-gives (suc i) many (and-true (test i) (allFrom test (suc i) many) e .1) j)
+  all-from-gives i (suc many) e j h h' = go (eq-view i j) (all-from-gives (suc i) many (and-true (test i) (allFrom test (suc i) many) e .rest) j)
     where
       go : EqView i j → (suc i ≤ j → j < suc i + many → test j ≡ true) → test j ≡ true
-      go (same p q) rest = ap test (sym p) ∙ and-true (test i) (allFrom test (suc i) many) e .0
+      go (same p q) rest = ap test (sym p) ∙ and-true (test i) (allFrom test (suc i) many) e .first
       go (diff p q) rest = rest (omega arith) (omega arith)
 
   pub all-from-of : (i many : ℕ) → ((j : ℕ) → i ≤ j → j < i + many → test j ≡ true) → allFrom test i many ≡ true

@@ -32,11 +32,11 @@ pub record Obeys (bytes : List ℕ) (t k : ℕ) : Type 0 where
 pub records-obey : (bytes : List ℕ) → Accepted bytes → (t k : ℕ) → 0 < k → k ≤ records bytes → Obeys bytes t k
 records-obey bytes ok t k low high =
     let one = and-true (leb 1 (recordField bytes k 1)) _ (ok .rules k low high) in
-    let two = and-true (leb (recordField bytes k 1) 8) _ (one .1) in
-    let three = and-true (leb (recordField bytes k 2) 32) _ (two .1) in
+    let two = and-true (leb (recordField bytes k 1) 8) _ (one .rest) in
+    let three = and-true (leb (recordField bytes k 2) 32) _ (two .rest) in
     record {
-      some-kind = leb-true 1 (recordField bytes k 1) (one .0);
-      few-kinds = leb-true (recordField bytes k 1) 8 (two .0);
-      guard = leb-true (recordField bytes k 2) 32 (three .0);
-      kind-rule = rw (← rule-any-thread bytes t k (globalCount bytes) (mutexCount bytes) (lineOf bytes t k .kind)) (three .1);
+      some-kind = leb-true 1 (recordField bytes k 1) (one .first);
+      few-kinds = leb-true (recordField bytes k 1) 8 (two .first);
+      guard = leb-true (recordField bytes k 2) 32 (three .first);
+      kind-rule = rw (← rule-any-thread bytes t k (globalCount bytes) (mutexCount bytes) (lineOf bytes t k .kind)) (three .rest);
     }

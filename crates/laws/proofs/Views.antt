@@ -44,8 +44,12 @@ le-view m n = go (leb m n) refl
     go false e = beyond (leb-false m n e) e
 
 -- both parts of an `and`
-pub and-true : (p q : Bool) → (p && q) ≡ true → (p ≡ true) × (q ≡ true)
-and-true true q e = (refl, e)
+pub record BothTrue (p q : Bool) : Type 0 where
+  pub first : p ≡ true
+  pub rest : q ≡ true
+
+pub and-true : (p q : Bool) → (p && q) ≡ true → BothTrue p q
+and-true true q e = record { first = refl; rest = e }
 and-true false q e = absurd (true≢false (sym e))
 
 pub true-and : (p q : Bool) → p ≡ true → q ≡ true → (p && q) ≡ true

@@ -1,4 +1,5 @@
 pub mod Sized
+pub mod RecordNumber
 pub mod Accepted
 pub mod Order
 pub mod AllHold

@@ -25,7 +25,7 @@ and-stop true q r e = rw e
 and-stop false q r e = refl
 
 and-pass : (p q r : Bool) → (p && q) ≡ true → r ≡ (p && (q && r))
-and-pass p q r e = let h = and-true p q e in rw (h .0, h .1)
+and-pass p q r e = let h = and-true p q e in rw (h .first, h .rest)
 
 module _ (bytes : List ℕ) (r : Bool) (e : r ≡ numbersOk bytes) where
   abbrev with-6 : Bool → ℕ
@@ -42,6 +42,6 @@ module _ (bytes : List ℕ) (r : Bool) (e : r ≡ numbersOk bytes) where
       let both = and-true (firstsIn bytes (records bytes)) (nextsIn bytes (records bytes)) (sym e ∙ h) in
       record {
         threads = threads;
-        firsts = λ t low. leb-true _ _ (all-from-gives (λ t. leb (firstRecord bytes t) (records bytes)) 0 (threadCount bytes) (both .0) t (omega arith) (omega (arith, low)));
-        nexts = λ k a b. leb-true _ _ (all-from-gives (λ k. leb (nextRecord bytes k) (records bytes)) 1 (records bytes) (both .1) k a (omega (arith, b)));
+        firsts = λ t low. leb-true _ _ (all-from-gives (λ t. leb (firstRecord bytes t) (records bytes)) 0 (threadCount bytes) (both .first) t (omega arith) (omega (arith, low)));
+        nexts = λ k a b. leb-true _ _ (all-from-gives (λ k. leb (nextRecord bytes k) (records bytes)) 1 (records bytes) (both .rest) k a (omega (arith, b)));
       }

@@ -158,7 +158,7 @@ module _ (bytes schedule : List ℕ) (lengths : ℕ) where
       λ j. all-inputs-among (hasNumber j) (caseOf bytes .threads) in
       ap (λ (x : Inputs). getD (x .given) k 0) (threads-put schedule (caseOf bytes .threads) (noInputs lengths))
       ∙ puts-value schedule lines (noInputs lengths) k (length-replicate {A = ℕ} recordPlaces 0) (omega arith)
-      (small-numbers lines (λ j found. omega (arith, ok .few-records, numbers-within bytes ok j (omega (arith, found, among j)) .1)))
+      (small-numbers lines (λ j found. omega (arith, ok .few-records, numbers-within bytes ok j (omega (arith, found, among j)) .low)))
       (omega (arith, numbers-once bytes ok k, among k))
       ∙ ap (valueOr lines (drop lengths schedule) k) (no-value k)
       ∙ value-or-none lines (drop lengths schedule) k
