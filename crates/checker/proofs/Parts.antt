@@ -2,14 +2,12 @@
 -- Assumes nothing.
 use mathlib.Core.Path.{_≡_, refl, sym, ap, _∙_}
 use mathlib.Core.Logic.{_≢_}
-use Prim.Native.Nat.{ℕ, _+_, _≤_, _<_}
+use Prim.Native.Nat.{ℕ}
 use mathlib.Core.Bool.{not}
 use mathlib.Core.List.{List, [], _∷_, _++_}
 use native.Mathlib.Omega.{arith}
 use borrow.Author.Tests.{eq-eqb, ne-eqb}
-use lib.ListN.{length}
 use Rattle.model.specs.Word.{nonzero}
-use Rattle.model.specs.Limits.{mostConstraints}
 use Rattle.model.specs.CaseFile.{caseOf}
 use Rattle.model.specs.Assignment.{assignmentOf}
 use Rattle.model.specs.Table.{Row, runRows, goalRow, table}
@@ -52,8 +50,8 @@ module _ {bytes : List ℕ} (ok : Accepted bytes) (xs : List ℕ) where
       after-orders : Searching bytes xs 1 run n (allValues bytes ++ allSixes bytes)
       after-orders = searching-more start orders run-split none
 
-      pub values-start : (0 < n) × (n + length (allValues bytes) ≤ mostConstraints)
-      values-start = let fits = searching-fits after-orders run-fits (allValues bytes) _ refl in (fits .counted, fits .room)
+      pub values-start : Room n (allValues bytes)
+      values-start = searching-fits after-orders run-fits (allValues bytes) _ refl
 
       module _ {f' n' : ℕ} (values : Searched bytes xs n (allValues bytes) f' n') where
         pub values-fail : f' ≢ 0 → Searched bytes xs 1 run f' n'

@@ -56,17 +56,6 @@ module _ (G count given : ℕ) (locals items : List ℕ) (l : Record) (k : ℕ) 
       ∙ ap (apply (l .op) (operandValue (l .a) (l .c) (value (nameOfA (kindOf (l .kind)) (l .a))))) is-y
       ∙ apply-b (kindOf (l .kind)) (l .op) (l .b) (l .c) _ value has
 
-pub has-expression : (k : ℕ) (kind : Kind) → kindOf k ≡ kind → hasExpression kind ≡ true → hasExpression (kindOf k) ≡ true
-has-expression k kind is has = ap hasExpression is ∙ has
-
--- A line's value by its kind.
-module _ (k : ℕ) (l : Line) (reads : Reads) (v : ℕ) (kind : Kind) (is : kindOf k ≡ kind) where
-  pub in-kind : v ≡ guardedInValue kind l reads → v ≡ guardedInValue (kindOf k) l reads
-  in-kind e = e ∙ ap (λ (x : Kind). guardedInValue x l reads) (sym is)
-
-pub out-kind : (k : ℕ) (reads : Reads) (v : ℕ) (kind : Kind) → kindOf k ≡ kind → v ≡ guardedOutValue kind reads → v ≡ guardedOutValue (kindOf k) reads
-out-kind k reads v kind is e = e ∙ ap (λ (x : Kind). guardedOutValue x reads) (sym is)
-
 -- What a name of the line is, by its kind.
 module _ (locals items : List ℕ) (G count k : ℕ) (kind : Kind) (is : kindOf k ≡ kind) (v : ℕ) where
   pub reads-a : (a : ℕ) → v ≡ look (memory locals items count) (nameOfA kind a) → v ≡ look (memory locals items count) (nameOfA (kindOf k) a)

@@ -1,6 +1,6 @@
 -- The kind that a number stands for, by cases, and what holds of the numbers that a `match` on kinds leaves to its last arm.
 -- Assumes nothing.
-use mathlib.Core.Path.{_≡_, refl}
+use mathlib.Core.Path.{_≡_, refl, ap, _∙_}
 use mathlib.Core.Logic.{_≢_}
 use Prim.Native.Nat.{ℕ, _+_}
 use mathlib.Core.Bool.{Bool, true, false, cond, not}
@@ -78,6 +78,20 @@ Not4 k = (Not2 k 1 2 × k ≢ 5) × k ≢ 6
 abbrev pub Not6 : ℕ → Type 0
 Not6 k = (((Not2 k 1 2 × k ≢ 3) × k ≢ 4) × k ≢ 5) × k ≢ 6
 
+-- The last arm of a `match` on kinds is unlock's.
+pub unlock-other : (k : ℕ) → Not6 k × k ≢ 7 → kindOf k ≡ unlock
+unlock-other k n = go (kindOf k) (kind-view k)
+  where
+    go : (κ : Kind) → KindView k κ → κ ≡ unlock
+    go compute (is1 e) = absurd (n .0 .0 .0 .0 .0 .0 .1 e)
+    go store (is2 e) = absurd (n .0 .0 .0 .0 .0 .1 e)
+    go load (is3 e) = absurd (n .0 .0 .0 .0 .1 e)
+    go input (is4 e) = absurd (n .0 .0 .0 .1 e)
+    go assert (is5 e) = absurd (n .0 .0 .1 e)
+    go assume (is6 e) = absurd (n .0 .1 e)
+    go lock (is7 e) = absurd (n .1 e)
+    go unlock v = refl
+
 pub a-other : (k a : ℕ) → Not5 k → noName ≡ nameOfA (kindOf k) a
 unfolding nameOfA
 a-other k a n = go (kindOf k) (kind-view k)
@@ -133,34 +147,6 @@ target-other k G target n = go (kindOf k) (kind-view k)
     go lock v = refl
     go unlock v = refl
 
-pub in-other : (k : ℕ) (l : Line) (reads : Reads) → Not6 k × k ≢ 7 → 0 ≡ guardedInValue (kindOf k) l reads
-unfolding guardedInValue
-in-other k l reads n = go (kindOf k) (kind-view k)
-  where
-    go : (κ : Kind) → KindView k κ → 0 ≡ guardedInValue κ l reads
-    go compute (is1 e) = absurd (n .0 .0 .0 .0 .0 .0 .1 e)
-    go store (is2 e) = absurd (n .0 .0 .0 .0 .0 .1 e)
-    go load (is3 e) = absurd (n .0 .0 .0 .0 .1 e)
-    go input (is4 e) = absurd (n .0 .0 .0 .1 e)
-    go assert (is5 e) = absurd (n .0 .0 .1 e)
-    go assume (is6 e) = absurd (n .0 .1 e)
-    go lock (is7 e) = absurd (n .1 e)
-    go unlock v = refl
-
-pub out-other : (k : ℕ) (reads : Reads) → Not2 k 5 6 → reads .target ≡ guardedOutValue (kindOf k) reads
-unfolding guardedOutValue
-out-other k reads n = go (kindOf k) (kind-view k)
-  where
-    go : (κ : Kind) → KindView k κ → reads .target ≡ guardedOutValue κ reads
-    go compute v = refl
-    go store v = refl
-    go load v = refl
-    go input v = refl
-    go assert (is5 e) = absurd (n .0 .1 e)
-    go assume (is6 e) = absurd (n .1 e)
-    go lock v = refl
-    go unlock v = refl
-
 pub breaks-assert : (k : ℕ) (l : Line) (reads : Reads) (value : ℕ) → k ≡ 5 → eqb value 0 ≡ breaks (kindOf k) l reads value
 unfolding breaks
 breaks-assert k l reads value e = rw (kind-5 k e)
@@ -178,6 +164,10 @@ breaks-other k l reads value n = go (kindOf k) (kind-view k)
     go assume v = refl
     go lock v = refl
     go unlock v = refl
+
+pub breaks-kind : (l : Line) (reads : Reads) (κ : Kind) → l .kind ≡ κ → (broken : Bool) (value : ℕ) → broken ≡ breaks (l .kind) l reads value
+    → broken ≡ breaks κ l reads value
+breaks-kind l reads κ kind broken value is = is ∙ ap (λ (x : Kind). breaks x l reads value) kind
 
 pub input-other : (k : ℕ) → Unit {0} × k ≢ 4 → isInput (kindOf k) ≡ false
 input-other k n = go (kindOf k) (kind-view k)

@@ -1,1 +1,2 @@
+pub mod CaseCounts
 pub mod LineReads

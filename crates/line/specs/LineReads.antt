@@ -11,6 +11,7 @@ use Rattle.model.specs.Line.{Reads, readsOf, hasExpression, expression}
 use Rattle.model.specs.Machine.{Memory, look}
 use Rattle.case_file.specs.declared.Record.{Record}
 use Rattle.case_file.specs.Records.{asLine}
+use Rattle.line.specs.declared.Counts.{Counts}
 
 -- The memory of a thread with these locals, where the first so many items are those of the case.
 abbrev pub memory : List ℕ → List ℕ → ℕ → Memory
@@ -19,6 +20,10 @@ memory locals items count = record { locals = locals; items = take count items }
 -- What a line reads there, in a case with G globals, if it is given this value.
 abbrev pub readsAt : ℕ → ℕ → ℕ → List ℕ → List ℕ → Line → Reads
 readsAt G count given locals items l = readsOf G (look (memory locals items count)) l given
+
+-- The same, where the case has these counts.
+abbrev pub readsBy : Counts → ℕ → List ℕ → List ℕ → Line → Reads
+readsBy counts given locals items l = readsAt (counts .globals) (counts .items) given locals items l
 
 -- The value of a record's expression, of a kind that has one: the thread's locals alone decide it.
 abbrev pub Expressed : List ℕ → Record → ℕ → Type 0

@@ -8,18 +8,36 @@ ghost use lib.ListN.{take};
 ghost use Rattle.model.specs.Word.{bit};
 ghost use Rattle.model.specs.Limits.{mostGlobals, mostItems};
 ghost use Rattle.model.specs.CaseFile.{kindOf};
-ghost use Rattle.model.specs.Line.{localName, itemName, guardName, operandA, hasExpression, operandB, targetName, guardTrue, operandValue, guardedInValue, guardedOutValue, valueOf};
+ghost use Rattle.model.specs.Line.{localName, itemName, guardName, operandA, hasExpression, operandB, targetName, guardTrue, operandValue};
 ghost use Rattle.model.specs.Line as model;
 ghost use Rattle.model.specs.Machine.{look, putLocal, putItem};
+ghost use Rattle.laws.specs.Accepted.{Accepted};
 ghost use Rattle.laws.specs.RowCounts.{valueRowCount};
 ghost use Rattle.case_file.specs.Records.{asLine};
-ghost use Rattle.line.specs.LineReads.{memory, readsAt, Expressed};
+ghost use Rattle.line.specs.LineReads.{memory, readsAt, readsBy, Expressed};
+ghost use Rattle.line.specs.CaseCounts.{CountsOf};
 use case_file::Record;
 use model::ITEMS;
 use model::LOCALS;
 use model::NAMES;
 use std::num::wrapping_add_u16;
 use std::num::wrapping_sub_u16;
+
+// How many globals and how many items a case has.
+pub struct Counts {
+    pub globals: usize,
+    pub items: usize,
+}
+
+pub fn counts_of(case: &[u8]) -> Counts
+    requires { ⌜ Accepted (now case) ⌝ }
+    ensures { λ r. ⌜ CountsOf (now (case .entry)) r ⌝ }
+{
+    Counts {
+        globals: case_file::globals(case) as usize,
+        items: case_file::items(case),
+    }
+}
 
 // A local's name. Locals have the first names, items the next, and NAMES is no name.
 pub fn local_name(x: u16) -> usize
@@ -116,7 +134,7 @@ pub fn value_rows(kind: u16) -> usize
 }
 
 // The value of local x; what is no local has 0.
-fn local_at(locals: &[u16; LOCALS], x: u16) -> u16
+pub fn local_at(locals: &[u16; LOCALS], x: u16) -> u16
     ensures { λ r. ⌜ ((items : List ℕ) (count : ℕ) → count ≤ mostItems → r ≡ look (memory (now (locals .entry)) items count) (localName x)) ⌝ }
 {
     let at = x as usize;
@@ -186,83 +204,15 @@ pub fn expression_of(locals: &[u16; LOCALS], l: Record) -> u16
     apply(l.op, x, y)
 }
 
-// The value of a line with a true guard.
-fn value_in(
-    locals: &[u16; LOCALS],
-    items: &[u16; ITEMS],
-    count: usize,
-    l: Record,
-    given: u16,
-) -> u16
-    requires { ⌜ count ≤ mostItems ⌝ }
-    ensures { λ r. ⌜ ((G k : ℕ) → r ≡ guardedInValue (kindOf (l .kind)) (asLine l k) (readsAt G count given (now (locals .entry)) (now (items .entry)) (asLine l k))) ⌝ }
-{
-    let kind = l.kind;
-    match kind {
-        1 => expression_of(locals, l),
-        2 => expression_of(locals, l),
-        3 => item_at(items, count, l.a as usize),
-        4 => given,
-        5 => bit_of(expression_of(locals, l) != 0),
-        6 => bit_of(expression_of(locals, l) != 0),
-        7 => 1,
-        _ => 0,
-    }
-}
-
-// The value of a line with a false guard: its target's, or 1.
-fn value_out(
-    locals: &[u16; LOCALS],
-    items: &[u16; ITEMS],
-    globals: usize,
-    count: usize,
-    l: Record,
-) -> u16
-    requires { ⌜ (globals ≤ mostGlobals) × (count ≤ mostItems) ⌝ }
-    ensures { λ r. ⌜ ((given k : ℕ) → r ≡ guardedOutValue (kindOf (l .kind)) (readsAt globals count given (now (locals .entry)) (now (items .entry)) (asLine l k))) ⌝ }
-{
-    let kind = l.kind;
-    let target = l.target as usize;
-    match kind {
-        1 => local_at(locals, l.target),
-        2 => item_at(items, count, target),
-        3 => local_at(locals, l.target),
-        4 => local_at(locals, l.target),
-        5 => 1,
-        6 => 1,
-        _ => item_at(items, count, globals + target),
-    }
-}
-
-// The value of the line, where the locals and the items have these values.
-pub fn value(
-    locals: &[u16; LOCALS],
-    items: &[u16; ITEMS],
-    globals: usize,
-    count: usize,
-    l: Record,
-    given: u16,
-) -> u16
-    requires { ⌜ (globals ≤ mostGlobals) × (count ≤ mostItems) ⌝ }
-    ensures { λ r. ⌜ ((k : ℕ) → r ≡ valueOf (asLine l k) (readsAt globals count given (now (locals .entry)) (now (items .entry)) (asLine l k))) ⌝ }
-{
-    if guarded(locals, l) {
-        value_in(locals, items, count, l, given)
-    } else {
-        value_out(locals, items, globals, count, l)
-    }
-}
-
 // Whether the line, with this value, breaks an assertion.
 pub fn breaks<'a>(
     locals: &'a [u16; LOCALS],
     items: &'a [u16; ITEMS],
-    globals: usize,
-    count: usize,
+    counts: Counts,
     l: Record,
     value: u16,
 ) -> bool
-    ensures { λ r. ⌜ ((given k : ℕ) → r ≡ model.breaks (kindOf (l .kind)) (asLine l k) (readsAt globals count given (now (locals .entry)) (now (items .entry)) (asLine l k)) value) ⌝ }
+    ensures { λ r. ⌜ ((given k : ℕ) → r ≡ model.breaks (kindOf (l .kind)) (asLine l k) (readsBy counts given (now (locals .entry)) (now (items .entry)) (asLine l k)) value) ⌝ }
 {
     let kind = l.kind;
     match kind {

@@ -19,14 +19,24 @@ use Rattle.run.specs.declared.Moved.{Moved}
 use Rattle.run.specs.declared.Ended.{Ended}
 use Rattle.run.specs.RunState.{threadAt, turnOf, turnAt, stateOf}
 
--- The case is accepted, each of its records is given a value, and every thread is at one of them or at its end.
+-- The case is accepted, and each of its records is given a value.
+pub record AllGiven (bytes givens : List ℕ) : Type 0 where
+  pub accepted : Accepted bytes
+  pub all-given : records bytes < length givens
+
+-- The same, and every thread is at a record or at its end.
 pub record RunReady (bytes givens : List ℕ) (threads : List Thread) : Type 0 where
   pub accepted : Accepted bytes
   pub all-given : records bytes < length givens
   pub within : (t : ℕ) → t < threadCount bytes → threadAt threads t .next ≤ records bytes
   pub has-all : length threads ≡ mostThreads
 
--- The same for a block's thread, where there is a block i.
+-- The same, and there is a block i.
+pub record RunAtBlock (bytes lengths givens : List ℕ) (threads : List Thread) (i : ℕ) : Type 0 where
+  pub ready : RunReady bytes givens threads
+  pub is-block : i < length lengths
+
+-- The same for a block's thread.
 pub record BlockReady (bytes lengths givens : List ℕ) (thread : Thread) (i : ℕ) : Type 0 where
   pub accepted : Accepted bytes
   pub all-given : records bytes < length givens

@@ -1,15 +1,16 @@
 // The run of an accepted case: its threads stand in a lent slice, and each block moves one of them.
 ghost use mathlib.Core.Path.{_≡_};
-ghost use Prim.Native.Nat.{ℕ, _%_, _≤_, _<_};
+ghost use Prim.Native.Nat.{ℕ, _%_, _≤_};
 ghost use mathlib.Core.List.{List};
 ghost use lib.ListN.{length};
 ghost use Rattle.model.specs.Limits.{mostThreads, headerBytes};
-ghost use Rattle.model.specs.CaseFile.{records, threadCount, caseOf};
+ghost use Rattle.model.specs.CaseFile.{threadCount, caseOf};
 ghost use Rattle.model.specs.Machine as machine;
 ghost use Rattle.laws.specs.Accepted.{Accepted};
+ghost use Rattle.case_file.specs.Present.{InHeader};
 ghost use Rattle.turn.specs.TurnState.{givenBy};
 ghost use Rattle.run.specs.RunState.{turnOf, firstThread, firstThreads, firstShared};
-ghost use Rattle.run.specs.Promises.{BlockReady, RunReady, BlockAt, MovedBy, outcomeOf, Played, Comes, Replies};
+ghost use Rattle.run.specs.Promises.{AllGiven, BlockReady, RunReady, RunAtBlock, BlockAt, MovedBy, outcomeOf, Played, Comes, Replies};
 use model::ITEMS;
 use model::LOCALS;
 use model::Replayed;
@@ -45,8 +46,7 @@ pub struct Ended {
 
 // The run of a case in blocks with these lengths, from its start.
 pub fn run_case(case: &[u8], lengths: &[u16], given: &[u16]) -> Ended
-    requires { ⌜ Accepted (now case) ⌝ }
-    requires { ⌜ records (now case) < length (now given) ⌝ }
+    requires { ⌜ AllGiven (now case) (now given) ⌝ }
     ensures { λ r. ⌜ Replies (now (case .entry)) (machine.run (caseOf (now (case .entry))) (now (lengths .entry)) (givenBy (now (given .entry)))) r ⌝ }
 {
     let threads = first_threads(case);
@@ -68,7 +68,7 @@ fn first_threads(case: &[u8]) -> [Thread; THREADS]
 
 // Thread t at its first record.
 fn first_thread(case: &[u8], t: usize) -> Thread
-    requires { ⌜ (t < mostThreads) × (headerBytes ≤ length (now case)) ⌝ }
+    requires { ⌜ InHeader (now case) t mostThreads ⌝ }
     ensures { λ r. ⌜ r ≡ firstThread (now (case .entry)) t ⌝ }
 {
     let locals = [0u16; LOCALS];
@@ -134,7 +134,7 @@ fn block_at(
     i: usize,
     shared: Shared,
 ) -> Shared
-    requires { ⌜ RunReady (now case) (now given) (now threads) × (i < length (now lengths)) ⌝ }
+    requires { ⌜ RunAtBlock (now case) (now lengths) (now given) (now threads) i ⌝ }
     ensures { λ r. ⌜ BlockAt (now (case .entry)) (now (given .entry)) (now (lengths .entry)) i (now (threads .entry)) shared (now (threads .exit)) r ⌝ }
 {
     let t = thread_of(case, i);

@@ -12,9 +12,9 @@ use Rattle.model.specs.CaseFile.{Line, records, recordField, switchCount, kindO
 use Rattle.model.specs.Line.{isInput}
 use Rattle.model.specs.Schedule.{inputLines, allInputLines, scheduleSize}
 use Rattle.laws.specs.Accepted.{Accepted}
+use Rattle.laws.specs.Bounded.{Bounded}
 use Rattle.laws.proofs.RecordSums.{lines-add-up, recordsFrom, records-all, records-more, records-none}
 use Rattle.laws.proofs.Sizes.{schedule-numbers}
-use Rattle.schedule.specs.Schedules.{SizeOf}
 
 -- 1 for an input record.
 abbrev inputAt : List ℕ → ℕ → ℕ
@@ -56,5 +56,5 @@ sizing-more {bytes} {k} v high ek em = record { some = omega arith; left = rw (e
 pub sizing-few : {bytes : List ℕ} {k n : ℕ} → Accepted bytes → Sizing bytes k n → n ≤ mostScheduleNumbers
 sizing-few {bytes} ok v = omega (arith, v .left, schedule-numbers bytes ok)
 
-pub sizing-end : {bytes : List ℕ} {k n : ℕ} → Accepted bytes → Sizing bytes k n → records bytes < k → SizeOf bytes n
-sizing-end {bytes} {k} ok v over = record { is = omega (arith, v .left, records-none bytes (inputAt bytes) k over); few = sizing-few ok v }
+pub sizing-end : {bytes : List ℕ} {k n : ℕ} → Accepted bytes → Sizing bytes k n → records bytes < k → Bounded (scheduleSize (caseOf bytes)) mostScheduleNumbers n
+sizing-end {bytes} {k} ok v over = record { is = omega (arith, v .left, records-none bytes (inputAt bytes) k over); most = sizing-few ok v }

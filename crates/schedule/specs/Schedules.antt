@@ -1,17 +1,17 @@
 -- The schedule of an assignment, by the bytes of the case and the numbers of the assignment, and what the code's parts make of it.
 -- Assumes nothing.
-use Prim.Native.Nat.{ℕ, suc, _+_, _%_, _≤_, _<_}
+use Prim.Native.Nat.{ℕ, suc, _+_, _%_, _<_}
 use mathlib.Core.Path.{_≡_}
 use mathlib.Core.Bool.{cond}
 use mathlib.Core.List.{List, [], _∷_}
 use lib.Dec.{ltb}
 use lib.ListN.{getD, set}
-use Rattle.model.specs.Limits.{mostBlocks, mostScheduleNumbers}
+use Rattle.model.specs.Limits.{mostBlocks}
 use Rattle.model.specs.Lists.{numbersFrom}
 use Rattle.model.specs.CaseFile.{kindOf, threadCount, switchCount, caseOf}
 use Rattle.model.specs.Line.{guardTrue, isInput}
 use Rattle.model.specs.Assignment.{assignmentOf}
-use Rattle.model.specs.Schedule.{linesInBlock, decodedValues, allDecodedValues, decode, scheduleSize}
+use Rattle.model.specs.Schedule.{linesInBlock, decodedValues, allDecodedValues, decode}
 use Rattle.laws.specs.Accepted.{threadLines}
 use Rattle.laws.specs.Written.{numbersAt, Put}
 use Rattle.case_file.specs.declared.Record.{Record}
@@ -36,11 +36,6 @@ CountsOf bytes xs t counts = (i : ℕ) → i < mostBlocks → getD counts i 0 �
 
 abbrev pub AllCounts : List ℕ → List ℕ → List (List ℕ) → Type 0
 AllCounts bytes xs counts = (t : ℕ) → t < threadCount bytes → CountsOf bytes xs t (getD counts t [])
-
--- A schedule of the case has so many numbers, which are no more than any case's.
-pub record SizeOf (bytes : List ℕ) (r : ℕ) : Type 0 where
-  pub is : r ≡ scheduleSize (caseOf bytes)
-  pub few : r ≤ mostScheduleNumbers
 
 -- The values of thread t's input lines are written, and its lines are counted.
 pub record ThreadWritten (bytes xs : List ℕ) (t : ℕ) (before : List ℕ) (at : ℕ) (after : List ℕ) (r : Walked) : Type 0 where

@@ -3,15 +3,16 @@ ghost use mathlib.Core.Path.{_≡_};
 ghost use Prim.Native.Nat.{_+_, _≤_};
 ghost use lib.ListN.{length, getD};
 ghost use Rattle.model.specs.Word.{bit};
-ghost use Rattle.model.specs.Limits.{mostLines};
+ghost use Rattle.model.specs.Limits.{mostLines, mostScheduleNumbers};
 ghost use Rattle.model.specs.Lists.{writtenOver};
 ghost use Rattle.model.specs.CaseFile.{kindOf, switchCount, caseOf};
 ghost use Rattle.model.specs.Line.{isInput};
 ghost use Rattle.model.specs.Schedule.{scheduleSize};
 ghost use Rattle.laws.specs.Accepted.{Accepted};
+ghost use Rattle.laws.specs.Bounded.{Bounded};
 ghost use Rattle.laws.specs.Written.{numbersAt, Put, RoomFor, ThreadRoom};
 ghost use Rattle.schedule.specs.Schedules.{scheduleOf, valuesOf, threadValues, lengthsIn, withLine, inputNumber, ownNumbers};
-ghost use Rattle.schedule.specs.Schedules.{SizeOf, ThreadWritten, AllWritten};
+ghost use Rattle.schedule.specs.Schedules.{ThreadWritten, AllWritten};
 use assignment::block_of;
 use assignment::value_of;
 use case_file::Record;
@@ -33,7 +34,7 @@ use model::THREADS;
 // The size of a schedule of an accepted case: each of its records is one line, so no chain is followed.
 pub fn schedule_size(case: &[u8]) -> usize
     requires { ⌜ Accepted (now case) ⌝ }
-    ensures { λ r. ⌜ SizeOf (now (case .entry)) r ⌝ }
+    ensures { λ r. ⌜ Bounded (scheduleSize (caseOf (now (case .entry)))) mostScheduleNumbers r ⌝ }
 {
     let last = records(case);
     let mut n = switches(case) as usize + 1;

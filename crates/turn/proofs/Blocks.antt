@@ -1,6 +1,7 @@
 -- The loop of a block: after some of its steps, what is left of it decides.
 -- Assumes nothing.
 use mathlib.Core.Path.{_≡_, refl, sym, ap, _∙_}
+use mathlib.Core.Logic.{_≢_}
 use Prim.Native.Nat.{ℕ, zero, suc, _-_, _≤_, _<_}
 use mathlib.Core.Bool.{true, false}
 use mathlib.Core.List.{List, [], _∷_}
@@ -14,14 +15,23 @@ use Rattle.turn.specs.declared.Stand.{Stand}
 use Rattle.turn.specs.declared.Stand.the-variants.{Running, Strayed, Stopped}
 use Rattle.turn.specs.declared.Turn.{Turn}
 use Rattle.turn.specs.TurnState.{memoryOf, restOf, givenBy, isRunning}
-use Rattle.turn.specs.Promises.{endBy, endOf, continued, endAfter, Stepped, BlockRan}
-use Rattle.turn.proofs.Steps.{running-of}
+use Rattle.turn.specs.Promises.{endBy, endOf, continued, endAfter, BlockRan}
+use Rattle.turn.proofs.Steps.{Stepped}
 
--- After some of the steps of a block of thread t, with so many left.
+-- After some of the steps of a block of thread t, with so many left: the run goes on.
 pub record Going (bytes givens : List ℕ) (t steps : ℕ) (turn₀ : Turn) (left : ℕ) (turn : Turn) : Type 0 where
   pub does : endAfter bytes givens t left turn ≡ endAfter bytes givens t steps turn₀
-  pub moves : turn .stand ≡ Running → drop left (restOf bytes t turn) ≡ drop steps (restOf bytes t turn₀)
+  pub runs : turn .stand ≡ Running
+  pub moves : drop left (restOf bytes t turn) ≡ drop steps (restOf bytes t turn₀)
   pub within : turn .next ≤ records bytes
+
+running-of : (stand : Stand) → isRunning stand ≡ true → stand ≡ Running
+running-of Running e = refl
+running-of (Strayed k) e = absurd (let z : _≡_ {A = ℕ} 0 1 = cc in omega arith)
+running-of (Stopped k) e = absurd (let z : _≡_ {A = ℕ} 0 1 = cc in omega arith)
+
+never-running : {P : Type 0} (stand : Stand) → isRunning stand ≡ false → stand ≡ Running → P
+never-running stand ended ran = absurd (let e : isRunning Running ≡ false = rw ran at ended in let z : _≡_ {A = ℕ} 0 1 = cc in omega arith)
 
 -- where the run has ended, nothing follows
 halts : (bytes : List ℕ) (stand : Stand) (turn : Turn) (next : Memory → ℕ → BlockEnd) → isRunning stand ≡ false
@@ -61,19 +71,27 @@ drop-none zero ls h = refl
 drop-none (suc n) ls h = absurd (omega arith)
 
 module _ (bytes givens : List ℕ) (t steps : ℕ) (turn₀ : Turn) where
-  pub going-start : turn₀ .next ≤ records bytes → Going bytes givens t steps turn₀ steps turn₀
-  going-start low = record { does = refl; moves = λ ran. refl; within = low }
+  abbrev next : ℕ → List Line → Memory → ℕ → BlockEnd
+  next = runBlock (caseOf bytes) (givenBy givens)
 
-  module _ (left : ℕ) (turn : Turn) (g : Going bytes givens t steps turn₀ left turn) where
-    abbrev next : ℕ → List Line → Memory → ℕ → BlockEnd
-    next = runBlock (caseOf bytes) (givenBy givens)
+  module _ (low : turn₀ .next ≤ records bytes) where
+    pub going-start : isRunning (turn₀ .stand) ≡ true → Going bytes givens t steps turn₀ steps turn₀
+    going-start runs = record { does = refl; runs = running-of (turn₀ .stand) runs; moves = refl; within = low }
 
+    pub run-ended : isRunning (turn₀ .stand) ≡ false → BlockRan bytes givens t steps turn₀ turn₀
+    run-ended ended = record {
+      does = halts bytes (turn₀ .stand) turn₀ (next steps (restOf bytes t turn₀)) ended;
+      moves = never-running (turn₀ .stand) ended;
+      within = low;
+    }
+
+  module _ {left : ℕ} {turn : Turn} (g : Going bytes givens t steps turn₀ left turn) where
     pub block-ends : left ≤ 0 → BlockRan bytes givens t steps turn₀ turn
     block-ends none =
         let rest = restOf bytes t turn in
         record {
           does = sym (g .does) ∙ passes bytes (turn .stand) turn (next left rest) (no-steps bytes givens left rest none);
-          moves = λ ran. sym (drop-none left rest none) ∙ g .moves ran;
+          moves = λ _. sym (drop-none left rest none) ∙ g .moves;
           within = g .within;
         }
 
@@ -83,36 +101,44 @@ module _ (bytes givens : List ℕ) (t steps : ℕ) (turn₀ : Turn) where
         let none : rest ≡ [] = ap (linesFrom bytes t) ended ∙ linesFrom-end bytes t in
         record {
           does = sym (g .does) ∙ passes bytes (turn .stand) turn (next left rest) (nothing-left bytes givens left rest none);
-          moves = λ ran. none ∙ sym (drop-nothing left) ∙ ap (drop left) (sym none) ∙ g .moves ran;
+          moves = λ _. none ∙ sym (drop-nothing left) ∙ ap (drop left) (sym none) ∙ g .moves;
           within = g .within;
         }
 
-    pub run-ended : isRunning (turn .stand) ≡ false → BlockRan bytes givens t steps turn₀ turn
-    run-ended ended = record {
-      does = sym (g .does) ∙ halts bytes (turn .stand) turn (next left (restOf bytes t turn)) ended;
-      moves = λ ran. absurd (let e : isRunning Running ≡ false = rw ran at ended in let z : _≡_ {A = ℕ} 0 1 = cc in omega arith);
-      within = g .within;
-    }
+    -- One line more.
+    module _ (ok : Accepted bytes) (some : 0 < left) (more : turn .next ≢ 0) (after : Turn) (s : Stepped bytes givens t turn after) where
+      abbrev n : ℕ
+      n = left - 1
 
-    pub going-on : (after : Turn) → Accepted bytes → isRunning (turn .stand) ≡ true → 0 < left → (turn .next ≡ 0 → ⊥)
-        → Stepped bytes givens t turn after → Going bytes givens t steps turn₀ (left - 1) after
-    going-on after ok runs some more s =
-        let n = left - 1 in
-        let e : left ≡ suc n = omega arith in
-        let k = turn .next in
-        let positive : 0 < k = omega arith in
-        let later = linesFrom bytes t (nextRecord bytes k) in
-        let rest-is : restOf bytes t turn ≡ lineOf bytes t k ∷ later = ok .lines-go-on t k positive (g .within) in
-        let ran : turn .stand ≡ Running = running-of (turn .stand) runs in
-        record {
-          does = ap (λ (x : ℕ). continued (endOf bytes after) (next n (linesFrom bytes t x))) (s .moves)
-              ∙ sym (s .does n later)
-              ∙ ap (λ (x : List Line). next (suc n) x (memoryOf bytes turn) (turn .note)) (sym rest-is)
-              ∙ ap (λ (x : ℕ). next x (restOf bytes t turn) (memoryOf bytes turn) (turn .note)) (sym e)
-              ∙ sym (goes bytes (turn .stand) turn (next left (restOf bytes t turn)) ran)
-              ∙ g .does;
-          moves = λ _.
-              ap (λ (x : ℕ). drop n (linesFrom bytes t x)) (s .moves) ∙ ap (drop (suc n)) (sym rest-is)
-              ∙ ap (λ (x : ℕ). drop x (restOf bytes t turn)) (sym e) ∙ g .moves ran;
-          within = omega (arith, s .moves, ok .nexts k positive (g .within));
-        }
+      abbrev later : List Line
+      later = linesFrom bytes t (nextRecord bytes (turn .next))
+
+      rest-is : restOf bytes t turn ≡ lineOf bytes t (turn .next) ∷ later
+      rest-is = ok .lines-go-on t (turn .next) (omega arith) (g .within)
+
+      left-is : left ≡ suc n
+      left-is = omega arith
+
+      does-line : continued (endOf bytes after) (next n later) ≡ endAfter bytes givens t steps turn₀
+      does-line =
+          sym (s n later)
+          ∙ ap (λ (x : List Line). next (suc n) x (memoryOf bytes turn) (turn .note)) (sym rest-is)
+          ∙ ap (λ (x : ℕ). next x (restOf bytes t turn) (memoryOf bytes turn) (turn .note)) (sym left-is)
+          ∙ sym (goes bytes (turn .stand) turn (next left (restOf bytes t turn)) (g .runs))
+          ∙ g .does
+
+      pub line-ends : isRunning (after .stand) ≡ false → after .next ≤ records bytes → BlockRan bytes givens t steps turn₀ after
+      line-ends ended low = record {
+        does = sym does-line ∙ halts bytes (after .stand) after (next n later) ended;
+        moves = never-running (after .stand) ended;
+        within = low;
+      }
+
+      pub going-on : after .stand ≡ turn .stand → after .next ≡ nextRecord bytes (turn .next) → Going bytes givens t steps turn₀ n after
+      going-on runs moves = record {
+        does = ap (λ (x : ℕ). continued (endOf bytes after) (next n (linesFrom bytes t x))) moves ∙ does-line;
+        runs = runs ∙ g .runs;
+        moves = ap (λ (x : ℕ). drop n (linesFrom bytes t x)) moves ∙ ap (drop (suc n)) (sym rest-is)
+            ∙ ap (λ (x : ℕ). drop x (restOf bytes t turn)) (sym left-is) ∙ g .moves;
+        within = omega (arith, moves, ok .nexts (turn .next) (omega arith) (g .within));
+      }

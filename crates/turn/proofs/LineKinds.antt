@@ -1,7 +1,6 @@
 -- What a line of each kind does, by its guard.
 -- Assumes nothing.
 use mathlib.Core.Path.{_≡_, refl, sym, ap, _∙_}
-use mathlib.Core.Logic.{_≢_}
 use Prim.Native.Nat.{ℕ}
 use mathlib.Core.Bool.{Bool, true, false}
 use native.Mathlib.Omega.{arith}
@@ -10,27 +9,8 @@ use Rattle.model.specs.Word.{nonzero}
 use Rattle.model.specs.CaseFile.{Kind, compute, store, load, input, assert, assume, lock, unlock, Line, kindOf}
 use Rattle.model.specs.Line.{Reads, noName, nameOfTarget, guardTrue, expression, guardedInValue, guardedOutValue, valueBy, valueOf, stops, breaks, isInput, strayInput}
 use Rattle.laws.proofs.Views.{and-false}
-use Rattle.line.proofs.KindNumbers.{KindView, kind-view, is1, is2, is3, is4, is5, is6, is7, Not6}
 use Rattle.turn.specs.declared.Effect.{Effect}
 use Rattle.turn.specs.Promises.{Effective}
-
--- The last arm of a `match` on kinds is unlock's.
-pub unlock-other : (k : ℕ) → Not6 k × k ≢ 7 → kindOf k ≡ unlock
-unlock-other k n = go (kindOf k) (kind-view k)
-  where
-    go : (κ : Kind) → KindView k κ → κ ≡ unlock
-    go compute (is1 e) = absurd (n .0 .0 .0 .0 .0 .0 .1 e)
-    go store (is2 e) = absurd (n .0 .0 .0 .0 .0 .1 e)
-    go load (is3 e) = absurd (n .0 .0 .0 .0 .1 e)
-    go input (is4 e) = absurd (n .0 .0 .0 .1 e)
-    go assert (is5 e) = absurd (n .0 .0 .1 e)
-    go assume (is6 e) = absurd (n .0 .1 e)
-    go lock (is7 e) = absurd (n .1 e)
-    go unlock v = refl
-
-pub breaks-kind : (l : Line) (reads : Reads) (κ : Kind) → l .kind ≡ κ → (broken : Bool) (value : ℕ) → broken ≡ breaks (l .kind) l reads value
-    → broken ≡ breaks κ l reads value
-breaks-kind l reads κ kind broken value is = is ∙ ap (λ (x : Kind). breaks x l reads value) kind
 
 module _ (G : ℕ) (l : Line) (reads : Reads) (e : Effect) where
   -- its guard is true, and its kind is κ

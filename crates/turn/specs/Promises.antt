@@ -1,11 +1,12 @@
 -- What a line, a step and a block ask and promise, in terms of the machine.
 -- Assumes nothing.
 use mathlib.Core.Path.{_≡_}
-use Prim.Native.Nat.{ℕ, suc, _≤_, _<_}
+use Prim.Native.Nat.{ℕ, _≤_, _<_}
 use mathlib.Core.Bool.{Bool, true, cond}
-use mathlib.Core.List.{List, _∷_}
+use mathlib.Core.List.{List}
+use lib.Dec.{eqb}
 use lib.ListN.{length, drop}
-use Rattle.model.specs.CaseFile.{Line, records, globalCount, nextRecord, lineOf, caseOf, itemCount}
+use Rattle.model.specs.CaseFile.{Line, records, caseOf}
 use Rattle.model.specs.Line.{Reads, noName, targetName, guardTrue, valueOf, stops, breaks, strayInput}
 use Rattle.model.specs.Machine.{Memory, BlockEnd, strayed, stopped, passed, runBlock}
 use Rattle.laws.specs.Accepted.{Accepted}
@@ -13,21 +14,13 @@ use Rattle.turn.specs.declared.Effect.{Effect}
 use Rattle.turn.specs.declared.Stand.{Stand}
 use Rattle.turn.specs.declared.Stand.the-variants.{Running, Strayed, Stopped}
 use Rattle.turn.specs.declared.Turn.{Turn}
-use Rattle.turn.specs.TurnState.{itemsOf, memoryOf, restOf, givenBy, isRunning}
+use Rattle.turn.specs.TurnState.{itemsOf, memoryOf, restOf, givenBy}
 
 -- The case is accepted, each of its records is given a value, and the turn is at one of them or at its thread's end.
 pub record Ready (bytes givens : List ℕ) (turn : Turn) : Type 0 where
   pub accepted : Accepted bytes
   pub all-given : records bytes < length givens
   pub within : turn .next ≤ records bytes
-
--- The run goes on and the turn is at a line of a case with G globals and so many items.
-pub record AtLine (bytes givens : List ℕ) (G count : ℕ) (turn : Turn) : Type 0 where
-  pub ready : Ready bytes givens turn
-  pub runs : isRunning (turn .stand) ≡ true
-  pub more : 0 < turn .next
-  pub globals : G ≡ globalCount bytes
-  pub items : count ≡ itemCount (caseOf bytes)
 
 -- How the lines that have just run end, where the run then stands so.
 abbrev pub endBy : List ℕ → Stand → Turn → BlockEnd
@@ -56,12 +49,15 @@ pub record Effective (G : ℕ) (l : Line) (reads : Reads) (e : Effect) : Type 0 
 abbrev pub Does : Bool → ℕ → Line → Reads → Effect → Type 0
 Does on G l reads e = guardTrue l reads ≡ on → Effective G l reads e
 
--- A step of thread t: its next line is run, and the record that follows is next.
-pub record Stepped (bytes givens : List ℕ) (t : ℕ) (turn after : Turn) : Type 0 where
-  pub does : (steps : ℕ) (ls : List Line)
-      → runBlock (caseOf bytes) (givenBy givens) (suc steps) (lineOf bytes t (turn .next) ∷ ls) (memoryOf bytes turn) (turn .note)
-      ≡ continued (endOf bytes after) (runBlock (caseOf bytes) (givenBy givens) steps ls)
-  pub moves : after .next ≡ nextRecord bytes (turn .next)
+-- A turn whose thread has gone on to its next record, after line k.
+abbrev pub goneOn : Turn → ℕ → ℕ → Bool → Turn
+goneOn turn next k broken = record {
+  next = next;
+  locals = turn .locals;
+  items = turn .items;
+  stand = turn .stand;
+  note = cond (eqb (turn .note) 0) (cond broken k 0) (turn .note);
+}
 
 -- The end of a turn of thread t with so many steps.
 abbrev pub endAfter : List ℕ → List ℕ → ℕ → ℕ → Turn → BlockEnd

@@ -2,14 +2,16 @@
 // its blocks are methods that hand the next turn back.
 ghost use mathlib.Core.Path.{_≡_};
 ghost use mathlib.Core.Bool.{true, false};
-ghost use Prim.Native.Nat.{ℕ, _≤_};
+ghost use Prim.Native.Nat.{ℕ};
 ghost use mathlib.Core.List.{List};
-ghost use Rattle.model.specs.Limits.{mostGlobals, mostItems};
 ghost use Rattle.case_file.specs.Records.{asLine};
-ghost use Rattle.line.specs.LineReads.{readsAt};
+ghost use Rattle.line.specs.CaseCounts.{Few};
+ghost use Rattle.line.specs.LineReads.{readsBy};
+ghost use Rattle.line.specs.declared.Counts.{Counts};
 ghost use Rattle.turn.specs.TurnState.{isRunning};
-ghost use Rattle.turn.specs.Promises.{Ready, AtLine, Does, Effective, Stepped, BlockRan};
+ghost use Rattle.turn.specs.Promises.{Ready, Does, Effective, goneOn, BlockRan};
 use case_file::Record;
+use line::Counts;
 use model::ITEMS;
 use model::LOCALS;
 use model::NAMES;
@@ -58,13 +60,12 @@ fn put(name: usize, value: u16) -> Effect
 fn effect_in<'a>(
     locals: &'a [u16; LOCALS],
     items: &'a [u16; ITEMS],
-    globals: usize,
-    count: usize,
+    counts: Counts,
     l: Record,
     given: u16,
 ) -> Effect
-    requires { ⌜ (globals ≤ mostGlobals) × (count ≤ mostItems) ⌝ }
-    ensures { λ r. ⌜ ((k : ℕ) → Does true globals (asLine l k) (readsAt globals count given (now (locals .entry)) (now (items .entry)) (asLine l k)) r) ⌝ }
+    requires { ⌜ Few counts ⌝ }
+    ensures { λ r. ⌜ ((k : ℕ) → Does true (counts .globals) (asLine l k) (readsBy counts given (now (locals .entry)) (now (items .entry)) (asLine l k)) r) ⌝ }
 {
     let kind = l.kind;
     let target = l.target as usize;
@@ -73,7 +74,7 @@ fn effect_in<'a>(
         2 => put(LOCALS + target, line::expression_of(locals, l)),
         3 => put(
             line::local_name(l.target),
-            line::item_at(items, count, l.a as usize),
+            line::item_at(items, counts.items, l.a as usize),
         ),
         4 => put(line::local_name(l.target), given),
         5 => {
@@ -81,7 +82,7 @@ fn effect_in<'a>(
             Effect {
                 strays: false,
                 stops: false,
-                breaks: line::breaks(locals, items, globals, count, l, value),
+                breaks: line::breaks(locals, items, counts, l, value),
                 name: NAMES,
                 value,
             }
@@ -98,18 +99,18 @@ fn effect_in<'a>(
         }
         7 => Effect {
             strays: false,
-            stops: line::item_at(items, count, globals + target) != 0,
+            stops: line::item_at(items, counts.items, counts.globals + target) != 0,
             breaks: false,
-            name: LOCALS + (globals + target),
+            name: LOCALS + (counts.globals + target),
             value: 1,
         },
-        _ => put(LOCALS + (globals + target), 0),
+        _ => put(LOCALS + (counts.globals + target), 0),
     }
 }
 
 // What a line with a false guard does: nothing, and an input must be given 0.
 fn effect_out(l: Record, given: u16) -> Effect
-    ensures { λ r. ⌜ ((G count : ℕ) (locals items : List ℕ) (k : ℕ) → Does false G (asLine l k) (readsAt G count given locals items (asLine l k)) r) ⌝ }
+    ensures { λ r. ⌜ ((counts : Counts) (locals items : List ℕ) (k : ℕ) → Does false (counts .globals) (asLine l k) (readsBy counts given locals items (asLine l k)) r) ⌝ }
 {
     let kind = l.kind;
     match kind {
@@ -128,16 +129,15 @@ fn effect_out(l: Record, given: u16) -> Effect
 fn effect_of<'a>(
     locals: &'a [u16; LOCALS],
     items: &'a [u16; ITEMS],
-    globals: usize,
-    count: usize,
+    counts: Counts,
     l: Record,
     given: u16,
 ) -> Effect
-    requires { ⌜ (globals ≤ mostGlobals) × (count ≤ mostItems) ⌝ }
-    ensures { λ r. ⌜ ((k : ℕ) → Effective globals (asLine l k) (readsAt globals count given (now (locals .entry)) (now (items .entry)) (asLine l k)) r) ⌝ }
+    requires { ⌜ Few counts ⌝ }
+    ensures { λ r. ⌜ ((k : ℕ) → Effective (counts .globals) (asLine l k) (readsBy counts given (now (locals .entry)) (now (items .entry)) (asLine l k)) r) ⌝ }
 {
     if line::guarded(locals, l) {
-        return effect_in(locals, items, globals, count, l, given);
+        return effect_in(locals, items, counts, l, given);
     }
     effect_out(l, given)
 }
@@ -169,45 +169,44 @@ impl Turn {
         }
     }
 
-    // A step of thread t at its next line, in a case with so many globals and items.
-    fn step(mut self, t: u16, globals: usize, count: usize, case: &[u8], given: &[u16]) -> Turn
-        requires { ⌜ AtLine (now case) (now given) globals count self ⌝ }
-        ensures { λ r. ⌜ Stepped (now (case .entry)) (now (given .entry)) t self r ⌝ }
+    // The step is over: the thread goes on to its next record, and line k is noted if it is the first that breaks an assertion.
+    fn step(mut self, next: usize, k: u16, breaks: bool) -> Turn
+        ensures { λ r. ⌜ r ≡ goneOn self next k breaks ⌝ }
     {
-        let at = self.next;
-        let k = at as u16;
-        let l = case_file::record_at(case, t, at);
-        let e = effect_of(&self.locals, &self.items, globals, count, l, given[at]);
-        self.next = case_file::next_of(case, at);
-        if e.strays {
-            return self.ended(Stand::Strayed(k));
-        }
-        if e.stops {
-            return self.ended(Stand::Stopped(k));
-        }
-        self.note = line::noted(self.note, k, e.breaks);
-        line::put_local(&mut self.locals, e.name, e.value);
-        line::put_item(&mut self.items, count, e.name, e.value);
+        self.next = next;
+        self.note = line::noted(self.note, k, breaks);
         self
     }
 
-    // A block of thread t: so many steps, or fewer where the thread or the run ends.
+    // A block of thread t: so many steps, or fewer where the thread or the run ends. What a line writes goes to the turn's own
+    // locals and items, which are lent for it.
     pub fn block(mut self, t: u16, case: &[u8], given: &[u16], steps: u16) -> Turn
         requires { ⌜ Ready (now case) (now given) self ⌝ }
         ensures { λ r. ⌜ BlockRan (now (case .entry)) (now (given .entry)) t steps self r ⌝ }
     {
-        let globals = case_file::globals(case) as usize;
-        let count = case_file::items(case);
+        let stand = self.stand;
+        if !goes_on(stand) {
+            return self;
+        }
+        let counts = line::counts_of(case);
         let mut left = steps;
         while 0 < left {
-            let stand = self.stand;
-            if !goes_on(stand) {
+            let at = self.next;
+            if at == 0 {
                 return self;
             }
-            if self.next == 0 {
-                return self;
+            let k = at as u16;
+            let l = case_file::record_at(case, t, at);
+            let e = effect_of(&self.locals, &self.items, counts, l, given[at]);
+            if e.strays {
+                return self.ended(Stand::Strayed(k));
             }
-            self = self.step(t, globals, count, case, given);
+            if e.stops {
+                return self.ended(Stand::Stopped(k));
+            }
+            line::put_local(&mut self.locals, e.name, e.value);
+            line::put_item(&mut self.items, counts.items, e.name, e.value);
+            self = self.step(case_file::next_of(case, at), k, e.breaks);
             left -= 1;
         }
         self

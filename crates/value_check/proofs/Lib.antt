@@ -1,5 +1,5 @@
+pub mod Asking
 pub mod LineRows
-pub mod Demands
 pub mod Reading
 pub mod Breaking
 pub mod ThreadWalk

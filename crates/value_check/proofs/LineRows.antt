@@ -14,7 +14,8 @@ use Rattle.model.specs.Copies.{copyOf, readsAfter}
 use Rattle.model.specs.Table.{row, valueRow, demandRows}
 use Rattle.model.specs.Holds.{readsWith, demandMet, holds, firstFailing}
 use Rattle.laws.proofs.RowReads.{copy-reads, value-row-holds, lockReads, lock-guard}
-use Rattle.value_check.specs.LineFailing.{lineFailing}
+use Rattle.value_check.specs.declared.Asked.{Asked}
+use Rattle.value_check.specs.Asking.{Asks, failingAsked}
 
 module _ (case : Case) (few : localCount + itemCount case ≤ noName) (α : Assignment) (earlier : List Line) (l : Line) (found : lineAt case (l .number) ≡ l) where
   abbrev reads : Reads
@@ -49,7 +50,8 @@ module _ (case : Case) (few : localCount + itemCount case ≤ noName) (α : Assi
   demand-fails lock e at = rw (lock-holds lock e refl)
   demand-fails unlock e at = refl
 
-  pub line-fails : (at : ℕ) → lineFailing at l reads value ≡ firstFailing case α at (valueRow case earlier l ∷ demandRows (l .kind) case earlier l)
-  unfolding lineFailing firstFailing
-  line-fails at =
-      rw (value-row-holds case few α earlier l found, ← (demand-fails (l .kind) refl (suc at)), add-one at)
+  pub line-fails : {r : Asked} → Asks (case .G) l reads value r → (at : ℕ)
+      → failingAsked at r value ≡ firstFailing case α at (valueRow case earlier l ∷ demandRows (l .kind) case earlier l)
+  unfolding failingAsked firstFailing
+  line-fails asks at =
+      rw (asks .asking, asks .meeting, value-row-holds case few α earlier l found, ← (demand-fails (l .kind) refl (suc at)), add-one at)

@@ -1,23 +1,21 @@
 -- The walk over a thread's 4s and 5s, at record k: what is kept along the chain, and what is left.
 -- Assumes nothing.
-use mathlib.Core.Path.{_≡_, refl, sym, ap, ap₂, _∙_, subst}
+use mathlib.Core.Path.{_≡_, refl, sym, ap, _∙_, subst}
 use mathlib.Core.Logic.{_≢_}
 use Prim.Native.Nat.{ℕ, _+_, _≤_, _<_}
-use mathlib.Core.Bool.{Bool, true, cond}
+use mathlib.Core.Bool.{true, cond}
 use mathlib.Core.List.{List, [], _∷_, _++_, reverse, reverseAux}
 use native.Mathlib.Omega.{arith}
 use lib.Dec.{eqb}
-use lib.ListN.{length, set, take, replicate}
-use Rattle.model.specs.Limits.{localCount, mostSwitches}
-use Rattle.model.specs.CaseFile.{kindOf, Line, Case, records, threadCount, globalCount, firstRecord, nextRecord, lineOf, caseOf, linesOf, itemCount, lineAt}
-use Rattle.model.specs.Line.{targetName, breaks}
+use lib.ListN.{length, take, replicate}
+use Rattle.model.specs.Limits.{localCount, mostSwitches, mostConstraints}
+use Rattle.model.specs.CaseFile.{Line, Case, records, threadCount, firstRecord, nextRecord, lineOf, caseOf, linesOf, itemCount, lineAt}
 use Rattle.model.specs.Machine.{putLocal, putItem}
 use Rattle.model.specs.Assignment.{Assignment, assignmentOf}
 use Rattle.model.specs.Copies.{readsAfter}
 use Rattle.model.specs.Table.{Row, valueRow, demandRows, valueRows}
 use Rattle.laws.specs.Accepted.{Accepted, linesFrom, threadLines}
 use Rattle.laws.specs.Order.{AllLines, Ordered}
-use Rattle.laws.specs.RowCounts.{valueRowCount}
 use Rattle.laws.proofs.Views.{EqView, same, diff, eq-view}
 use Rattle.laws.proofs.Chains.{threads-are}
 use Rattle.laws.proofs.Lines.{numbers-once}
@@ -26,18 +24,19 @@ use Rattle.laws.proofs.Following.{lines-end, lines-more, next-low}
 use Rattle.laws.proofs.Sizes.{item-numbers, line-value-length}
 use Rattle.case_file.specs.declared.Record.{Record}
 use Rattle.case_file.specs.Records.{recordOf, asLine}
-use Rattle.line.specs.LineReads.{memory, readsAt}
-use Rattle.copies.specs.Held.{copyIn, withCopy}
+use Rattle.line.specs.CaseCounts.{CountsOf}
+use Rattle.line.specs.LineReads.{memory, readsBy}
+use Rattle.line.specs.declared.Counts.{Counts}
 use Rattle.copies.specs.CopyChains.{CopyChains}
 use Rattle.copies.proofs.CopyChains.{chains-next, chains-more}
 use Rattle.assignment.specs.Numbers.{recordBlock, recordValue, StartOf}
 use Rattle.search.specs.Search.{Searched}
 use Rattle.search.proofs.Search.{Searching, searching-start, searching-end, searching-room, searching-found, searching-more}
-use Rattle.value_check.specs.declared.Counts.{Counts}
-use Rattle.value_check.specs.Rows.{threadValues, ThreadOrdered}
-use Rattle.value_check.specs.LineFailing.{lineFailing, lineFailingIn}
+use Rattle.value_check.specs.declared.Asked.{Asked}
+use Rattle.value_check.specs.Rows.{threadValues}
+use Rattle.value_check.specs.Asking.{Asks, AskedOf, failingAsked}
 use Rattle.value_check.specs.Breaking.{breakingAfter}
-use Rattle.value_check.specs.Walked.{Entered, ThreadWalked}
+use Rattle.value_check.specs.Walked.{CopyNoted, Entered, ThreadToAsk, ThreadWalked}
 use Rattle.value_check.proofs.LineRows.{line-fails}
 use Rattle.value_check.proofs.Reading.{Reading, reading-start, reading-later, reading-reads, reading-more}
 
@@ -53,29 +52,31 @@ pub record ThreadWalk (bytes xs : List ℕ) (t start was : ℕ) (latest : List (
   pub breaking : breakingAfter (caseOf bytes) (assignmentOf (caseOf bytes) xs) broken earlier (linesFrom bytes t k)
       ≡ breakingAfter (caseOf bytes) (assignmentOf (caseOf bytes) xs) was [] (threadLines bytes t)
 
-module _ {bytes : List ℕ} (ok : Accepted bytes) (xs : List ℕ) (t : ℕ) (few : t < threadCount bytes) where
+module _ {bytes xs : List ℕ} {t start : ℕ} {latest₀ : List (List ℕ)} {previous₀ : List ℕ} (pre : ThreadToAsk bytes xs t start latest₀ previous₀) where
+  abbrev ok : Accepted bytes
+  ok = pre .accepted
+
   abbrev case : Case
   case = caseOf bytes
 
   abbrev α : Assignment
   α = assignmentOf case xs
 
-  pub walk-start : (start was k : ℕ) (latest : List (List ℕ)) (previous items : List ℕ) → 0 < start → k ≡ firstRecord bytes t → StartOf bytes xs 0 items
-      → CopyChains case latest previous t [] → ThreadOrdered bytes xs t
-      → ThreadWalk bytes xs t start was latest previous (replicate localCount 0) items 0 was start k
-  walk-start start was k latest previous items some e starts chains ordered = rw e (record {
+  pub walk-start : (was k : ℕ) (items : List ℕ) → k ≡ firstRecord bytes t → StartOf bytes xs 0 items
+      → ThreadWalk bytes xs t start was latest₀ previous₀ (replicate localCount 0) items 0 was start k
+  walk-start was k items e starts = rw e (record {
     earlier = [];
-    low = ok .firsts t few;
-    whole = ap reverse (sym (threads-are bytes t few));
-    found = rw (← (threads-are bytes t few)) (line-found case (numbers-once bytes ok) t);
-    ordered = ordered;
+    low = ok .firsts t (pre .thread);
+    whole = ap reverse (sym (threads-are bytes t (pre .thread)));
+    found = rw (← (threads-are bytes t (pre .thread))) (line-found case (numbers-once bytes ok) t);
+    ordered = pre .ordered;
     reading = reading-start case α items starts (item-numbers bytes ok);
-    seeks = searching-start bytes xs start _ _ some refl;
-    chains = chains;
+    seeks = searching-start bytes xs start _ _ (pre .numbers .counted) refl;
+    chains = pre .chains;
     breaking = refl;
   })
 
-  module _ {start was : ℕ} {latest : List (List ℕ)} {previous locals items : List ℕ} {block broken at k : ℕ}
+  module _ {was : ℕ} {latest : List (List ℕ)} {previous locals items : List ℕ} {block broken at k : ℕ}
       (v : ThreadWalk bytes xs t start was latest previous locals items block broken at k) where
     module _ (e : k ≡ 0) where
       done : linesFrom bytes t k ≡ []
@@ -116,8 +117,8 @@ module _ {bytes : List ℕ} (ok : Accepted bytes) (xs : List ℕ) (t : ℕ) (few
       unfolding valueRows
       split = ap (valueRows case (v .earlier)) more
 
-      pub walk-room : at + 1 ≤ start + length (threadValues bytes t)
-      walk-room = omega (arith, searching-room (v .seeks) rows _ split)
+      pub walk-room : at < mostConstraints
+      walk-room = omega (arith, searching-room (v .seeks) rows _ split, pre .numbers .room)
 
       module _ (i : ℕ) (ei : i ≡ recordBlock xs k) where
         own-block : α .block (line .number) ≡ i
@@ -134,28 +135,30 @@ module _ {bytes : List ℕ} (ok : Accepted bytes) (xs : List ℕ) (t : ℕ) (few
             go (same e q) = rw (entered .stays e, e) (v .reading)
             go (diff n q) = reading-later case α items (v .reading) i items' (omega (arith, in-order .0 .from, own-block, n)) (entered .enters n) (item-numbers bytes ok)
 
-        -- In its block, what it reads is known.
+        -- In its block, what it reads is known, and what it is asked.
         module _ (l : Record) (el : l ≡ recordOf bytes t k) (value : ℕ) (ev : value ≡ recordValue xs k) (items' : List ℕ) (entered : Entered bytes xs block i items items')
-            (counts : Counts) (eG : counts .globals ≡ globalCount bytes) (em : counts .items ≡ itemCount (caseOf bytes)) where
+            (counts : Counts) (are : CountsOf bytes counts) (r : Asked) (asked : AskedOf counts locals items' l value r) where
           own-value : value ≡ α .value (line .number)
           unfolding assignmentOf
           own-value = ev
 
-          walk-place : (c : ℕ) → c ≡ valueRowCount (kindOf (l .kind)) → c ≡ length rows
-          walk-place c ec = ec ∙ ap (λ (r : Record). valueRowCount (kindOf (r .kind))) el ∙ sym (line-value-length (line .kind) case (v .earlier) line)
+          reads-are : readsBy counts value locals items' (asLine l k) ≡ readsAfter case α (v .earlier) line
+          reads-are = rw (el, are .globals, are .items) (reading-reads case α (reading-in items' entered) line own-block value own-value)
 
-          pub walk-room-after : (c : ℕ) → c ≡ valueRowCount (kindOf (l .kind)) → at + c ≤ start + length (threadValues bytes t)
-          walk-room-after c ec = omega (arith, searching-room (v .seeks) rows _ split, walk-place c ec)
+          asks : Asks (case .G) line (readsAfter case α (v .earlier) line) (α .value (line .number)) r
+          asks = rw (reads-are, own-value, el, are .globals) at (asked k)
 
-          reads-are : readsAt (counts .globals) (counts .items) value locals items' (asLine l k) ≡ readsAfter case α (v .earlier) line
-          reads-are = rw (el, eG, em) (reading-reads case α (reading-in items' entered) line own-block value own-value)
+          walk-place : r .rows ≡ length rows
+          walk-place = asks .counting ∙ sym (line-value-length (line .kind) case (v .earlier) line)
 
-          module _ (f : ℕ) (ef : (j : ℕ) → f ≡ lineFailingIn counts at locals items' l value j) where
+          pub walk-room-after : at + r .rows ≤ mostConstraints
+          walk-room-after = omega (arith, searching-room (v .seeks) rows _ split, walk-place, pre .numbers .room)
+
+          module _ (f : ℕ) (ef : f ≡ failingAsked at r value) where
             here : Searched bytes xs at rows f (at + length rows)
             here = record {
-              first = ef k ∙ ap₂ (lineFailing at (asLine l k)) reads-are own-value
-                  ∙ ap (λ (r : Record). lineFailing at (asLine r k) (readsAfter case α (v .earlier) line) (α .value k)) el
-                  ∙ line-fails case (omega (arith, item-numbers bytes ok)) α (v .earlier) line (is-found .0) at;
+              first = ef ∙ ap (failingAsked at r) own-value
+                  ∙ line-fails case (omega (arith, item-numbers bytes ok)) α (v .earlier) line (is-found .0) asks at;
               after = λ _. refl;
             }
 
@@ -163,40 +166,30 @@ module _ {bytes : List ℕ} (ok : Accepted bytes) (xs : List ℕ) (t : ℕ) (few
             walk-found h n = searching-found (v .seeks) here _ split h n
 
             -- The next record, with everything that is kept.
-            module _ (none : f ≡ 0) (c : ℕ) (ec : c ≡ valueRowCount (kindOf (l .kind)))
-                (b : Bool) (eb : (given j : ℕ) → b ≡ breaks (kindOf (l .kind)) (asLine l j) (readsAt (counts .globals) (counts .items) given locals items' (asLine l j)) value)
-                (broken' : ℕ) (en : broken' ≡ cond (eqb broken 0) (cond b k 0) broken)
-                (name : ℕ) (et : (j : ℕ) → name ≡ targetName (counts .globals) (asLine l j)) where
-              target : name ≡ targetName (case .G) line
-              target = et k ∙ (rw (el, eG))
-
-              broken-here : b ≡ breaks (line .kind) line (readsAfter case α (v .earlier) line) (α .value (line .number))
-              broken-here = eb value k ∙ ap₂ (breaks (kindOf (l .kind)) (asLine l k)) reads-are own-value
-                  ∙ ap (λ (r : Record). breaks (kindOf (r .kind)) (asLine r k) (readsAfter case α (v .earlier) line) (α .value k)) el
-
+            module _ (none : f ≡ 0) (broken' : ℕ) (en : broken' ≡ cond (eqb broken 0) (cond (r .breaks) k 0) broken) where
               breaking-rest : breakingAfter case α broken' (line ∷ v .earlier) rest ≡ breakingAfter case α was [] (threadLines bytes t)
               unfolding breakingAfter
-              breaking-rest = rw (en, broken-here) (sym (ap (breakingAfter case α broken (v .earlier)) more) ∙ v .breaking)
+              breaking-rest = rw (en, asks .breaking) (sym (ap (breakingAfter case α broken (v .earlier)) more) ∙ v .breaking)
 
-              pub walk-more : (latest' : List (List ℕ)) (previous' : List ℕ) → previous' ≡ set previous k (copyIn latest t name) → latest' ≡ withCopy latest t name k
-                  → (locals' items'' : List ℕ) → locals' ≡ putLocal true name value locals
-                  → take (counts .items) items'' ≡ putItem true name value (take (counts .items) items')
+              pub walk-more : {latest' : List (List ℕ)} {previous' : List ℕ} → CopyNoted t (r .name) k previous latest previous' latest'
+                  → (locals' items'' : List ℕ) → locals' ≡ putLocal true (r .name) value locals
+                  → take (counts .items) items'' ≡ putItem true (r .name) value (take (counts .items) items')
                   → (next : ℕ) → next ≡ nextRecord bytes k
-                  → ThreadWalk bytes xs t start was latest' previous' locals' items'' i broken' (at + c) next
-              walk-more latest' previous' ep el' locals' items'' elo eit next ex = rw (ex, walk-place c ec) (record {
+                  → ThreadWalk bytes xs t start was latest' previous' locals' items'' i broken' (at + r .rows) next
+              walk-more noted locals' items'' elo eit next ex = rw (ex, walk-place) (record {
                 earlier = line ∷ v .earlier;
                 low = next-low bytes ok t k some (v .low);
-                whole = sym (ap (λ (ls : List Line). reverseAux ls (v .earlier)) more) ∙ v .whole;
+                whole = whole;
                 found = is-found .1;
                 ordered = subst (λ (x : ℕ). Ordered case (α .block) t x rest) own-block (in-order .1);
-                reading = rw (elo, put-items, target) (reading-more case α (reading-in items' entered) line own-block value own-value (omega arith));
+                reading = rw (elo, put-items, asks .naming) (reading-more case α (reading-in items' entered) line own-block value own-value (omega arith));
                 seeks = searching-more (v .seeks) here split none;
-                chains = rw (ep, el', target) (chains-more bytes ok (v .chains) (omega (arith, ok .few-threads)) line rest whole);
+                chains = rw (noted .notes, noted .takes, asks .naming) (chains-more bytes ok (v .chains) (omega (arith, ok .few-threads)) line rest whole);
                 breaking = breaking-rest;
               })
                 where
-                  put-items : take (itemCount case) items'' ≡ putItem true name value (take (itemCount case) items')
-                  put-items = rw em at eit
+                  put-items : take (itemCount case) items'' ≡ putItem true (r .name) value (take (itemCount case) items')
+                  put-items = rw (are .items) at eit
 
                   whole : reverseAux (line ∷ rest) (v .earlier) ≡ reverse (linesOf case t)
                   whole = sym (ap (λ (ls : List Line). reverseAux ls (v .earlier)) more) ∙ v .whole

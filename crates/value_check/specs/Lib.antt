@@ -1,4 +1,4 @@
 pub mod Rows
-pub mod LineFailing
+pub mod Asking
 pub mod Breaking
 pub mod Walked

@@ -1,43 +1,30 @@
 // Constraints 4 and 5: the value of each line, and what an assume or a lock demands. What a line reads, and which copies there are,
 // is kept along the lines of each thread.
 ghost use mathlib.Core.Path.{_≡_};
-ghost use mathlib.Core.List.{[]};
-ghost use Prim.Native.Nat.{ℕ, _+_, _<_, _≤_};
-ghost use lib.ListN.{length, set};
-ghost use Rattle.model.specs.Limits.{mostThreads, mostSwitches, mostGlobals, mostItems, mostConstraints, recordPlaces};
-ghost use Rattle.model.specs.CaseFile.{threadCount, caseOf};
-ghost use Rattle.laws.specs.Accepted.{Accepted};
-ghost use Rattle.copies.specs.Held.{copyIn, withCopy};
-ghost use Rattle.copies.specs.CopyChains.{CopyChains};
-ghost use Rattle.search.specs.Search.{Searched};
-ghost use Rattle.value_check.specs.Rows.{threadValues, allValues, ThreadOrdered, AllOrdered};
-ghost use Rattle.value_check.specs.LineFailing.{demandIn, lineFailingIn};
-ghost use Rattle.value_check.specs.Walked.{Entered, ThreadWalked, AllWalked};
+ghost use mathlib.Core.Bool.{true, false};
+ghost use Prim.Native.Nat.{_<_};
+ghost use Rattle.model.specs.Limits.{mostConstraints};
+ghost use Rattle.line.specs.CaseCounts.{Few};
+ghost use Rattle.assignment.specs.Numbers.{AtBlock};
+ghost use Rattle.value_check.specs.Asking.{AskedWhere, AskedOf, failingAsked};
+ghost use Rattle.value_check.specs.Walked.{HasPlaces, CopyNoted, Entered, ThreadToAsk, ThreadAsked, AllToAsk, AllAsked};
 use assignment::block_of;
 use assignment::start_of_block;
 use assignment::value_of;
 use case_file::Record;
 use case_file::first_of;
-use case_file::globals;
-use case_file::items;
 use case_file::next_of;
 use case_file::record_at;
 use case_file::threads;
 use copies::copy_of;
 use copies::take_copy;
-use line::target_name;
-use line::value_rows;
+use line::Counts;
+use line::counts_of;
 use model::ITEMS;
 use model::LOCALS;
 use model::NAMES;
 use model::RECORD_PLACES;
 use model::THREADS;
-
-// How many globals and how many items a case has.
-pub struct Counts {
-    pub globals: usize,
-    pub items: usize,
-}
 
 // Among the constraints of a walk: the number of the first that fails, 0 if all hold; and then the number of the next constraint,
 // and the record of the first line that breaks an assertion, 0 if none does.
@@ -47,53 +34,150 @@ pub struct Walk {
     pub broken: u16,
 }
 
-// A lock whose guard is true reads 0.
-fn lock_is_free(locals: &[u16; LOCALS], items: &[u16; ITEMS], counts: Counts, l: Record) -> bool
-    requires { ⌜ (counts .globals ≤ mostGlobals) × (counts .items ≤ mostItems) × (l .kind ≡ 7) ⌝ }
-    ensures { λ r. ⌜ ((value k : ℕ) → r ≡ demandIn counts (now (locals .entry)) (now (items .entry)) l value k) ⌝ }
+// What the constraints of a line ask, where it has a value: the value that its 4 asks for, whether its 5 holds or it has none,
+// how many they are, whether the line breaks an assertion, and the name of its target.
+pub struct Asked {
+    pub value: u16,
+    pub met: bool,
+    pub rows: u16,
+    pub breaks: bool,
+    pub name: usize,
+}
+
+// A 4 alone, of a line that breaks nothing.
+fn four(value: u16, name: usize) -> Asked
+    ensures { λ r. ⌜ r ≡ record { value = value; met = true; rows = 1; breaks = false; name = name } ⌝ }
 {
-    if line::guarded(locals, l) {
-        line::item_at(items, counts.items, counts.globals + l.target as usize) == 0
-    } else {
-        true
+    Asked {
+        value,
+        met: true,
+        rows: 1,
+        breaks: false,
+        name,
     }
 }
 
-// An assume's value is 1; a lock whose guard is true reads 0.
-fn demand_met(
-    locals: &[u16; LOCALS],
-    items: &[u16; ITEMS],
+// A line with a true guard, by its kind: compute, store, load, input, assert, assume, lock, unlock.
+fn asked_in<'a>(
+    locals: &'a [u16; LOCALS],
+    items: &'a [u16; ITEMS],
     counts: Counts,
     l: Record,
     value: u16,
-) -> bool
-    requires { ⌜ (counts .globals ≤ mostGlobals) × (counts .items ≤ mostItems) ⌝ }
-    ensures { λ r. ⌜ ((k : ℕ) → r ≡ demandIn counts (now (locals .entry)) (now (items .entry)) l value k) ⌝ }
+) -> Asked
+    requires { ⌜ Few counts ⌝ }
+    ensures { λ r. ⌜ AskedWhere true counts (now (locals .entry)) (now (items .entry)) l value r ⌝ }
 {
     let kind = l.kind;
+    let target = l.target as usize;
     match kind {
-        6 => value == 1,
-        7 => lock_is_free(locals, items, counts, l),
-        _ => true,
+        1 => four(line::expression_of(locals, l), line::local_name(l.target)),
+        2 => four(line::expression_of(locals, l), LOCALS + target),
+        3 => four(
+            line::item_at(items, counts.items, l.a as usize),
+            line::local_name(l.target),
+        ),
+        4 => four(value, line::local_name(l.target)),
+        5 => Asked {
+            value: line::bit_of(line::expression_of(locals, l) != 0),
+            met: true,
+            rows: 1,
+            breaks: line::breaks(locals, items, counts, l, value),
+            name: NAMES,
+        },
+        6 => Asked {
+            value: line::bit_of(line::expression_of(locals, l) != 0),
+            met: value == 1,
+            rows: 2,
+            breaks: false,
+            name: NAMES,
+        },
+        7 => Asked {
+            value: 1,
+            met: line::item_at(items, counts.items, counts.globals + target) == 0,
+            rows: 2,
+            breaks: false,
+            name: LOCALS + (counts.globals + target),
+        },
+        _ => four(0, LOCALS + (counts.globals + target)),
     }
+}
+
+// A line with a false guard: its target keeps its value, and an assert or assume has 1.
+fn asked_out<'a>(
+    locals: &'a [u16; LOCALS],
+    items: &'a [u16; ITEMS],
+    counts: Counts,
+    l: Record,
+    value: u16,
+) -> Asked
+    requires { ⌜ Few counts ⌝ }
+    ensures { λ r. ⌜ AskedWhere false counts (now (locals .entry)) (now (items .entry)) l value r ⌝ }
+{
+    let kind = l.kind;
+    let target = l.target as usize;
+    match kind {
+        1 => four(line::local_at(locals, l.target), line::local_name(l.target)),
+        2 => four(
+            line::item_at(items, counts.items, target),
+            LOCALS + target,
+        ),
+        3 => four(line::local_at(locals, l.target), line::local_name(l.target)),
+        4 => four(line::local_at(locals, l.target), line::local_name(l.target)),
+        5 => Asked {
+            value: 1,
+            met: true,
+            rows: 1,
+            breaks: line::breaks(locals, items, counts, l, value),
+            name: NAMES,
+        },
+        6 => Asked {
+            value: 1,
+            met: value == 1,
+            rows: 2,
+            breaks: false,
+            name: NAMES,
+        },
+        7 => Asked {
+            value: line::item_at(items, counts.items, counts.globals + target),
+            met: true,
+            rows: 2,
+            breaks: false,
+            name: LOCALS + (counts.globals + target),
+        },
+        _ => four(
+            line::item_at(items, counts.items, counts.globals + target),
+            LOCALS + (counts.globals + target),
+        ),
+    }
+}
+
+// A line, by its guard.
+fn asked_of<'a>(
+    locals: &'a [u16; LOCALS],
+    items: &'a [u16; ITEMS],
+    counts: Counts,
+    l: Record,
+    value: u16,
+) -> Asked
+    requires { ⌜ Few counts ⌝ }
+    ensures { λ r. ⌜ AskedOf counts (now (locals .entry)) (now (items .entry)) l value r ⌝ }
+{
+    if line::guarded(locals, l) {
+        return asked_in(locals, items, counts, l, value);
+    }
+    asked_out(locals, items, counts, l, value)
 }
 
 // The first of a line's 4 and 5 that fails, its 4 having number `at`; 0 if both hold.
-fn line_failing(
-    locals: &[u16; LOCALS],
-    items: &[u16; ITEMS],
-    counts: Counts,
-    at: u16,
-    l: Record,
-    value: u16,
-) -> u16
-    requires { ⌜ (counts .globals ≤ mostGlobals) × (counts .items ≤ mostItems) × (at < mostConstraints) ⌝ }
-    ensures { λ r. ⌜ ((k : ℕ) → r ≡ lineFailingIn counts at (now (locals .entry)) (now (items .entry)) l value k) ⌝ }
+fn line_failing(at: u16, asked: Asked, value: u16) -> u16
+    requires { ⌜ at < mostConstraints ⌝ }
+    ensures { λ r. ⌜ r ≡ failingAsked at asked value ⌝ }
 {
-    if value != line::value(locals, items, counts.globals, counts.items, l, value) {
+    if value != asked.value {
         return at;
     }
-    if demand_met(locals, items, counts, l, value) {
+    if asked.met {
         return 0;
     }
     at + 1
@@ -107,9 +191,8 @@ fn note_copy(
     name: usize,
     k: u16,
 )
-    requires { ⌜ (t < mostThreads) × (k < recordPlaces) ⌝ }
-    ensures { λ x. ⌜ now (previous .exit) ≡ set (now (previous .entry)) k (copyIn (now (latest .entry)) t name) ⌝ }
-    ensures { λ x. ⌜ now (latest .exit) ≡ withCopy (now (latest .entry)) t name k ⌝ }
+    requires { ⌜ HasPlaces t k ⌝ }
+    ensures { λ x. ⌜ CopyNoted t name k (now (previous .entry)) (now (latest .entry)) (now (previous .exit)) (now (latest .exit)) ⌝ }
 {
     let own = k as usize;
     previous[own] = copy_of(latest, t as usize, name);
@@ -118,7 +201,7 @@ fn note_copy(
 
 // A thread goes on in block i: the items' values stay where it is the same block, and are those that another block starts from.
 fn enter_block(case: &[u8], assignment: &[u16], items: &mut [u16; ITEMS], block: u16, i: u16)
-    requires { ⌜ Accepted (now case) × (i ≤ mostSwitches) ⌝ }
+    requires { ⌜ AtBlock (now case) i ⌝ }
     ensures { λ r. ⌜ Entered (now (case .entry)) (now (assignment .entry)) block i (now (items .entry)) (now (items .exit)) ⌝ }
 {
     if i == block {
@@ -137,17 +220,10 @@ fn thread_values(
     t: u16,
     from: Walk,
 ) -> Walk
-    requires { ⌜ Accepted (now case) × (t < threadCount (now case)) ⌝ }
-    requires { ⌜ (0 < from .next) × (from .next + length (threadValues (now case) t) ≤ mostConstraints) ⌝ }
-    requires { ⌜ CopyChains (caseOf (now case)) (now latest) (now previous) t [] ⌝ }
-    requires { ⌜ ThreadOrdered (now case) (now assignment) t ⌝ }
-    ensures { λ r. ⌜ Searched (now (case .entry)) (now (assignment .entry)) (from .next) (threadValues (now (case .entry)) t) (r .failed) (r .next) ⌝ }
-    ensures { λ r. ⌜ (r .failed ≡ 0 → ThreadWalked (now (case .entry)) (now (assignment .entry)) t (from .broken) (now (latest .exit)) (now (previous .exit)) (r .broken)) ⌝ }
+    requires { ⌜ ThreadToAsk (now case) (now assignment) t (from .next) (now latest) (now previous) ⌝ }
+    ensures { λ r. ⌜ ThreadAsked (now (case .entry)) (now (assignment .entry)) t from (now (latest .exit)) (now (previous .exit)) r ⌝ }
 {
-    let counts = Counts {
-        globals: globals(case) as usize,
-        items: items(case),
-    };
+    let counts = counts_of(case);
     let mut locals = [0u16; LOCALS];
     let mut items = start_of_block(case, assignment, 0);
     let mut block: u16 = 0;
@@ -160,7 +236,8 @@ fn thread_values(
         let value = value_of(assignment, k);
         enter_block(case, assignment, &mut items, block, i);
         block = i;
-        let failed = line_failing(&locals, &items, counts, at, l, value);
+        let asked = asked_of(&locals, &items, counts, l, value);
+        let failed = line_failing(at, asked, value);
         if failed != 0 {
             return Walk {
                 failed,
@@ -168,13 +245,11 @@ fn thread_values(
                 broken,
             };
         }
-        let breaks = line::breaks(&locals, &items, counts.globals, counts.items, l, value);
-        broken = line::noted(broken, k, breaks);
-        at += value_rows(l.kind) as u16;
-        let name = target_name(counts.globals, l);
-        note_copy(previous, latest, t, name, k);
-        line::put_local(&mut locals, name, value);
-        line::put_item(&mut items, counts.items, name, value);
+        broken = line::noted(broken, k, asked.breaks);
+        at += asked.rows;
+        note_copy(previous, latest, t, asked.name, k);
+        line::put_local(&mut locals, asked.name, value);
+        line::put_item(&mut items, counts.items, asked.name, value);
         k = next_of(case, k as usize) as u16;
     }
     Walk {
@@ -192,12 +267,8 @@ pub fn values_failing(
     latest: &mut [[u16; NAMES]; THREADS],
     start: u16,
 ) -> Walk
-    requires { ⌜ Accepted (now case) ⌝ }
-    requires { ⌜ (0 < start) × (start + length (allValues (now case)) ≤ mostConstraints) ⌝ }
-    requires { ⌜ CopyChains (caseOf (now case)) (now latest) (now previous) 0 [] ⌝ }
-    requires { ⌜ AllOrdered (now case) (now assignment) ⌝ }
-    ensures { λ r. ⌜ Searched (now (case .entry)) (now (assignment .entry)) start (allValues (now (case .entry))) (r .failed) (r .next) ⌝ }
-    ensures { λ r. ⌜ (r .failed ≡ 0 → AllWalked (now (case .entry)) (now (assignment .entry)) (now (latest .exit)) (now (previous .exit)) (r .broken)) ⌝ }
+    requires { ⌜ AllToAsk (now case) (now assignment) start (now latest) (now previous) ⌝ }
+    ensures { λ r. ⌜ AllAsked (now (case .entry)) (now (assignment .entry)) start (now (latest .exit)) (now (previous .exit)) r ⌝ }
 {
     let count = threads(case);
     let mut walk = Walk {

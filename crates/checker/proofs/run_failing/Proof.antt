@@ -14,28 +14,28 @@ returns c = record { found = order-fails (c .before .before .before .before .bef
 
 values-failing-requires : tie.Need-values-failing-requires
 values-failing-requires c κs =
-    let start = c .before .before .before .before .before .before .before in (
-      start .pre,
-      (
-        values-start (start .pre) _ (c .before .before .before .before .order-failing .ensures) (c .before .before .if1 .left),
-        (chains-start _ _ _ refl refl, all-ordered (start .pre) _ (c .before .before .before .before .order-failing .ensures) (c .before .before .if1 .left)),
-      ),
-    )
+    let start = c .before .before .before .before .before .before .before in
+    record {
+      accepted = start .pre;
+      numbers = values-start (start .pre) _ (c .before .before .before .before .order-failing .ensures) (c .before .before .if1 .left);
+      chains = chains-start _ _ _ refl refl;
+      ordered = all-ordered (start .pre) _ (c .before .before .before .before .order-failing .ensures) (c .before .before .if1 .left);
+    }
 
 returns-2 : tie.Need-returns-2
-returns-2 c = record { found = values-fail (c .before .before .before .before .before .before .before .before .before .before .pre) _ (c .before .before .before .before .before .before .before .order-failing .ensures) (c .before .before .before .before .before .if1 .left) (c .before .before .values-failing .ensures .0) (c .if2 .taken); breaking = λ z. absurd (c .if2 .taken z) }
+returns-2 c = record { found = values-fail (c .before .before .before .before .before .before .before .before .before .before .pre) _ (c .before .before .before .before .before .before .before .order-failing .ensures) (c .before .before .before .before .before .if1 .left) (c .before .before .values-failing .ensures .found) (c .if2 .taken); breaking = λ z. absurd (c .if2 .taken z) }
 
 slice-aggregate-blocks-failing : tie.Need-slice-aggregate-blocks-failing
-slice-aggregate-blocks-failing c = sym (c .before .before .before .values-failing .ensures .1 (c .before .if2 .left) .chains .places)
+slice-aggregate-blocks-failing c = sym (c .before .before .before .values-failing .ensures .walked (c .before .if2 .left) .chains .places)
 
 blocks-failing-requires : tie.Need-blocks-failing-requires
 blocks-failing-requires c κs =
     let start = c .before .before .before .before .before .before .before .before .before .before .before .before in
     record {
       accepted = start .pre;
-      chains = c .before .before .before .before .values-failing .ensures .1 (c .before .before .if2 .left) .chains;
+      chains = c .before .before .before .before .values-failing .ensures .walked (c .before .before .if2 .left) .chains;
       numbers = blocks-start (start .pre) _ (c .before .before .before .before .before .before .before .before .before .order-failing .ensures) (c .before .before .before .before .before .before .before .if1 .left)
-          (c .before .before .before .before .values-failing .ensures .0) (c .before .before .if2 .left);
+          (c .before .before .before .before .values-failing .ensures .found) (c .before .before .if2 .left);
     }
 
 returns-3 : tie.Need-returns-3
@@ -43,8 +43,8 @@ returns-3 c =
     let start = c .before .before .before .before .before .before .before .before .before .before .before .before .before in
     record {
       found = blocks-end (start .pre) _ (c .before .before .before .before .before .before .before .before .before .before .order-failing .ensures) (c .before .before .before .before .before .before .before .before .if1 .left)
-          (c .before .before .before .before .before .values-failing .ensures .0) (c .before .before .before .if2 .left) (c .blocks-failing .ensures);
-      breaking = λ _. c .before .before .before .before .before .values-failing .ensures .1 (c .before .before .before .if2 .left) .breaking;
+          (c .before .before .before .before .before .values-failing .ensures .found) (c .before .before .before .if2 .left) (c .blocks-failing .ensures);
+      breaking = λ _. c .before .before .before .before .before .values-failing .ensures .walked (c .before .before .before .if2 .left) .breaking;
     }
 
 pub run-failing-spec : {M : Type 1} → statement M

@@ -64,7 +64,7 @@ use Rattle.run.proofs.block_of.Symbol as block-of-def
 use Rattle.run.proofs.block_of.Symbol.{name as #run·block-of}
 use Rattle.run.proofs.block_of.Met as block-of-thm
 use Rattle.run.specs.RunState.{none, threadAt}
-use Rattle.run.specs.Promises.{RunReady, MovedBy}
+use Rattle.run.specs.Promises.{RunReady, RunAtBlock, MovedBy}
 use Rattle.run.proofs.Runs.{stored}
 use Rattle.run.proofs.Starts.{thread-below}
 use Rattle.run.proofs.WalkValues.{valOf, threadVal, sharedVal, Seen, seen-twice}
@@ -275,9 +275,9 @@ module _ {M : Type 1} (𝓤 : URA M) (H : Heap 𝓤) (A : Atoms 𝓤) (W : Given
   block-at-walks C Λ fm known-thread known = walked 𝓤 H A block-at.ended stayed (block-at.clauses 𝓤 H A mem run) (WpFn 𝓤 H C Λ code.function)
       (λ κs. (slice-vals, (slice-vals, (slice-vals, (slice-vals, (uint-vals w64, (LL.vals S.the-type S′.the-laws, tt)))))))
       (λ κs. (mut-slice-tells (named 0) (κs .0) T.the-row, (shr-slice-tells (named 1) (κs .1 .0) u8, (shr-slice-tells (named 2) (κs .1 .1 .0) u16, (shr-slice-tells (named 3) (κs .1 .1 .1 .0) u16, (uint-tells w64, (LL.tells S.the-type S′.the-laws, tt)))))))
-      (λ κs qs bounds a g are. needs 𝓤 (RunReady (a .1 .0 .now) (a .1 .1 .1 .0 .now) (a .0 .now) × (a .1 .1 .1 .1 .0 < length (a .1 .1 .0 .now))) _ (λ h.
+      (λ κs qs bounds a g are. needs 𝓤 (RunAtBlock (a .1 .0 .now) (a .1 .1 .0 .now) (a .1 .1 .1 .0 .now) (a .0 .now) (a .1 .1 .1 .1 .0)) _ (λ h.
       walk 𝓤 H A W mem run (κs .0) (κs .1 .0) (κs .1 .1 .0) (κs .1 .1 .1 .0) (qs .0) (qs .1 .0) (qs .1 .1 .0) (qs .1 .1 .1 .0) (a .0 .ptr .0) (a .0 .ptr .1) (a .0 .name) (a .0 .now) (a .1 .1 .1 .1 .0) (a .1 .0) (a .1 .1 .0) (a .1 .1 .1 .0) (a .1 .1 .1 .1 .1 .0)
-      (are .1 .1 .1 .1 .0 .1) (h .0) (h .1) C Λ fm known-thread known (are .0 .0 .1) (are .1 .0) (are .1 .1 .0) (are .1 .1 .1 .0) (are .1 .1 .1 .1 .1 .0)))
+      (are .1 .1 .1 .1 .0 .1) (h .ready) (h .is-block) C Λ fm known-thread known (are .0 .0 .1) (are .1 .0) (are .1 .1 .0) (are .1 .1 .1 .0) (are .1 .1 .1 .1 .1 .0)))
 
 block-at-meets : {M : Type 1} (𝓤 : URA M) (H : Heap 𝓤) (A : Atoms 𝓤) → Given 𝓤 H A → (mem : Memory → SProp 𝓤) (run : Routine → Fun 𝓤) (𝓣 : Tables 𝓤 H)
     → Triple 𝓤 (𝓣 .C #run·thread-of) (ThreadOf 𝓤 H A mem run) → Triple 𝓤 (𝓣 .C #run·block-of) (BlockOf 𝓤 H A mem run) → Meets 𝓤 H A block-at.signature (WpFn 𝓤 H (𝓣 .C) (𝓣 .Λ) code.function) (block-at.spec 𝓤 H A mem run)

@@ -180,7 +180,7 @@ module _ {M : Type 1} (𝓤 : URA M) (H : Heap 𝓤) (A : Atoms 𝓤) (W : Given
         -- [lengths; given; case; seen; the tokens; the slice]
         nothing ! $ owned ! S.the-row (Is S.the-row) (LL.makes S.the-type S′.the-plain 𝓤 H A) (x .sh) _ (x .typed) $ fjoin ! $ owned ! usize (Is usize) (uint-makes 𝓤 H A W w64) (x .i) _ (refl, i-fits) $ fjoin ! $
         move ! (2 ∷ 0 ∷ []) $ fjoin ! $ move ! (1 ∷ 0 ∷ []) $ fjoin ! $ move ! (1 ∷ 0 ∷ []) $ fjoin ! $ move ! (3 ∷ 0 ∷ []) $ fjoin ! $
-        move ! (2 ∷ 0 ∷ []) $ use2 W (raw (Block 𝓤 H A mem run .pre (to ν δ))) (qed W ((‵ (flft (ν ∷ []) fullShare) ⊛ tokens) ∷ ‵ (Owns ν δ) ∷ []) ∵ says ! (x .plays .ready, more) $ frame ! $ done !) $ frame ! $ done !
+        move ! (2 ∷ 0 ∷ []) $ use2 W (raw (Block 𝓤 H A mem run .pre (to ν δ))) (qed W ((‵ (flft (ν ∷ []) fullShare) ⊛ tokens) ∷ ‵ (Owns ν δ) ∷ []) ∵ says ! (record { ready = x .plays .ready; is-block = more }) $ frame ! $ done !) $ frame ! $ done !
 
     exits : length (l .now) ≤ x .i → Is S.the-row shared (sharedVal shared ∷ []) → ent 𝓤 (⋆ 𝓤 H A (‵ (Lent κ γ (x .zs) (length ys)) ∷ ‵ (flft κ q) ∷ tokens ∷ ‵ seen ∷ [])) (Post (sharedVal (x .sh)))
     exits over gs =

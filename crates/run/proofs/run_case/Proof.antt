@@ -11,10 +11,10 @@ first-shared-requires : tie.Need-first-shared-requires
 first-shared-requires c κs = search needs
 
 lend-requires : tie.Need-lend-requires
-lend-requires c κs = rw (c .before .first-threads .ensures) (ready-start _ (c .before .before .before .before .before .pre .0) _ (c .before .before .before .before .before .pre .1))
+lend-requires c κs = rw (c .before .first-threads .ensures) (ready-start _ (c .before .before .before .before .before .pre .accepted) _ (c .before .before .before .before .before .pre .all-given))
 
 returns : tie.Need-returns
-returns c = run-replies _ (c .before .before .before .before .before .before .pre .0) (c .before .before .before .before .before .before .args .given .now) (c .before .before .before .before .before .before .args .lengths .now) _ _ _ (c .before .before .first-threads .ensures) (c .before .first-shared .ensures) (c .lend .ensures)
+returns c = run-replies _ (c .before .before .before .before .before .before .pre .accepted) (c .before .before .before .before .before .before .args .given .now) (c .before .before .before .before .before .before .args .lengths .now) _ _ _ (c .before .before .first-threads .ensures) (c .before .first-shared .ensures) (c .lend .ensures)
 
 pub run-case-spec : {M : Type 1} → statement M
 run-case-spec =

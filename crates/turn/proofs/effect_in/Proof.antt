@@ -4,9 +4,9 @@ use Prim.Native.Nat.{ℕ}
 use Rattle.model.specs.Word.{bit, nonzero}
 use Rattle.model.specs.CaseFile.{compute, store, load, input, assert, assume, lock, unlock}
 use Rattle.model.specs.Line.{nameOfA, hasExpression, nameOfTarget, guardedInValue, stops, breaks}
-use Rattle.line.proofs.KindNumbers.{kind-1, kind-2, kind-3, kind-4, kind-5, kind-6, kind-7}
+use Rattle.line.proofs.KindNumbers.{kind-1, kind-2, kind-3, kind-4, kind-5, kind-6, kind-7, unlock-other, breaks-kind}
 use Rattle.line.proofs.Expressions.{reads-a, reads-target}
-use Rattle.turn.proofs.LineKinds.{unlock-other, breaks-kind, in-does, stops-assume, stops-lock}
+use Rattle.turn.proofs.LineKinds.{in-does, stops-assume, stops-lock}
 use borrow.Author.Needs.{needs}
 use Rattle.turn.proofs.effect_in.Statement.{statement}
 use Rattle.turn.proofs.effect_in.Tie as tie
@@ -71,11 +71,11 @@ add-item-at c = search needs
 item-at-requires-2 : tie.Need-item-at-requires-2
 item-at-requires-2 c κs = search needs
 
+add-t27 : tie.Need-add-t27
+add-t27 c = search needs
+
 add-t28 : tie.Need-add-t28
 add-t28 c = search needs
-
-add-t29 : tie.Need-add-t29
-add-t29 c = search needs
 
 add-put-2 : tie.Need-add-put-2
 add-put-2 c = search needs
@@ -88,15 +88,15 @@ put-requires-5 c κs = search needs
 
 returns : tie.Need-returns
 unfolding stops breaks guardedInValue nameOfTarget
-returns c = λ k on. rw (c .put .ensures) (in-does _ _ _ _ on compute (kind-1 _ (c .before .before .before .match .keys1)) refl refl refl (c .before .before .local-name .ensures) (c .before .expression-of .ensures _ _ _ _ _ (c .before .before .before .before .before .pre .1) (ap hasExpression (kind-1 _ (c .before .before .before .match .keys1)))))
+returns c = λ k on. rw (c .put .ensures) (in-does _ _ _ _ on compute (kind-1 _ (c .before .before .before .match .keys1)) refl refl refl (c .before .before .local-name .ensures) (c .before .expression-of .ensures _ _ _ _ _ (c .before .before .before .before .before .pre .items) (ap hasExpression (kind-1 _ (c .before .before .before .match .keys1)))))
 
 returns-2 : tie.Need-returns-2
 unfolding stops breaks guardedInValue nameOfTarget
-returns-2 c = λ k on. rw (c .put2 .ensures) (in-does _ _ _ _ on store (kind-2 _ (c .before .before .match .keys2)) refl refl refl refl (c .before .expression-of2 .ensures _ _ _ _ _ (c .before .before .before .before .pre .1) (ap hasExpression (kind-2 _ (c .before .before .match .keys2)))))
+returns-2 c = λ k on. rw (c .put2 .ensures) (in-does _ _ _ _ on store (kind-2 _ (c .before .before .match .keys2)) refl refl refl refl (c .before .expression-of2 .ensures _ _ _ _ _ (c .before .before .before .before .pre .items) (ap hasExpression (kind-2 _ (c .before .before .match .keys2)))))
 
 returns-3 : tie.Need-returns-3
 unfolding stops breaks guardedInValue nameOfTarget nameOfA
-returns-3 c = λ k on. rw (c .put3 .ensures) (in-does _ _ _ _ on load (kind-3 _ (c .before .before .before .before .match .keys3)) refl refl refl (c .before .before .before .local-name2 .ensures) (reads-a (c .before .before .before .before .before .before .args .locals .now) (c .before .before .before .before .before .before .args .items .now) (c .before .before .before .before .before .before .args .globals) (c .before .before .before .before .before .before .args .count) _ load (kind-3 _ (c .before .before .before .before .match .keys3)) _ _ (c .before .item-at .ensures _)))
+returns-3 c = λ k on. rw (c .put3 .ensures) (in-does _ _ _ _ on load (kind-3 _ (c .before .before .before .before .match .keys3)) refl refl refl (c .before .before .before .local-name2 .ensures) (reads-a (c .before .before .before .before .before .before .args .locals .now) (c .before .before .before .before .before .before .args .items .now) (c .before .before .before .before .before .before .args .counts .globals) (c .before .before .before .before .before .before .args .counts .items) _ load (kind-3 _ (c .before .before .before .before .match .keys3)) _ _ (c .before .item-at .ensures _)))
 
 returns-4 : tie.Need-returns-4
 unfolding stops breaks guardedInValue nameOfTarget
@@ -104,19 +104,19 @@ returns-4 c = λ k on. rw (c .put4 .ensures) (in-does _ _ _ _ on input (kind-4 _
 
 returns-5 : tie.Need-returns-5
 unfolding stops guardedInValue nameOfTarget
-returns-5 c = λ k on. in-does _ _ _ _ on assert (kind-5 _ (c .before .before .before .match .keys5)) refl refl (breaks-kind _ _ assert (kind-5 _ (c .before .before .before .match .keys5)) _ _ (c .breaks .ensures (c .before .before .before .before .before .args .given) k)) refl (c .before .bit-of .ensures ∙ ap (λ (x : ℕ). bit (nonzero x)) (c .before .before .expression-of3 .ensures _ _ _ _ _ (c .before .before .before .before .before .pre .1) (ap hasExpression (kind-5 _ (c .before .before .before .match .keys5)))))
+returns-5 c = λ k on. in-does _ _ _ _ on assert (kind-5 _ (c .before .before .before .match .keys5)) refl refl (breaks-kind _ _ assert (kind-5 _ (c .before .before .before .match .keys5)) _ _ (c .breaks .ensures (c .before .before .before .before .before .args .given) k)) refl (c .before .bit-of .ensures ∙ ap (λ (x : ℕ). bit (nonzero x)) (c .before .before .expression-of3 .ensures _ _ _ _ _ (c .before .before .before .before .before .pre .items) (ap hasExpression (kind-5 _ (c .before .before .before .match .keys5)))))
 
 returns-6 : tie.Need-returns-6
 unfolding breaks guardedInValue nameOfTarget
-returns-6 c = λ k on. in-does _ _ _ _ on assume (kind-6 _ (c .before .before .match .keys6)) refl (stops-assume _ _ on _ (c .before .expression-of4 .ensures _ _ _ _ _ (c .before .before .before .before .pre .1) (ap hasExpression (kind-6 _ (c .before .before .match .keys6))))) refl refl (c .bit-of2 .ensures ∙ ap (λ (x : ℕ). bit (nonzero x)) (c .before .expression-of4 .ensures _ _ _ _ _ (c .before .before .before .before .pre .1) (ap hasExpression (kind-6 _ (c .before .before .match .keys6)))))
+returns-6 c = λ k on. in-does _ _ _ _ on assume (kind-6 _ (c .before .before .match .keys6)) refl (stops-assume _ _ on _ (c .before .expression-of4 .ensures _ _ _ _ _ (c .before .before .before .before .pre .items) (ap hasExpression (kind-6 _ (c .before .before .match .keys6))))) refl refl (c .bit-of2 .ensures ∙ ap (λ (x : ℕ). bit (nonzero x)) (c .before .expression-of4 .ensures _ _ _ _ _ (c .before .before .before .before .pre .items) (ap hasExpression (kind-6 _ (c .before .before .match .keys6)))))
 
 returns-7 : tie.Need-returns-7
 unfolding breaks guardedInValue nameOfTarget
-returns-7 c = λ k on. in-does _ _ _ _ on lock (kind-7 _ (c .before .match .keys7)) refl (stops-lock _ _ on _ (reads-target (c .before .before .before .args .locals .now) (c .before .before .before .args .items .now) (c .before .before .before .args .globals) (c .before .before .before .args .count) _ lock (kind-7 _ (c .before .match .keys7)) _ _ (c .item-at2 .ensures _))) refl refl refl
+returns-7 c = λ k on. in-does _ _ _ _ on lock (kind-7 _ (c .before .before .before .match .keys7)) refl (stops-lock _ _ on _ (reads-target (c .before .before .before .before .before .args .locals .now) (c .before .before .before .before .before .args .items .now) (c .before .before .before .before .before .args .counts .globals) (c .before .before .before .before .before .args .counts .items) _ lock (kind-7 _ (c .before .before .before .match .keys7)) _ _ (c .before .item-at2 .ensures _))) refl refl refl
 
 returns-8 : tie.Need-returns-8
 unfolding stops breaks guardedInValue nameOfTarget
-returns-8 c = λ k on. rw (c .put5 .ensures) (in-does _ _ _ _ on unlock (unlock-other _ (c .before .match .rest)) refl refl refl refl refl)
+returns-8 c = λ k on. rw (c .put5 .ensures) (in-does _ _ _ _ on unlock (unlock-other _ (c .before .before .match .rest)) refl refl refl refl refl)
 
 pub effect-in-spec : {M : Type 1} → statement M
 effect-in-spec =
@@ -142,8 +142,8 @@ effect-in-spec =
     bit-of-requires-2
     add-item-at
     item-at-requires-2
+    add-t27
     add-t28
-    add-t29
     add-put-2
     add-put-3
     put-requires-5

@@ -10,10 +10,10 @@ put-requires : tie.Need-put-requires
 put-requires c κs = search needs
 
 returns : tie.Need-returns
-returns c = λ G count locals items k off. out-input _ _ _ _ off refl refl refl (kind-4 _ (c .match .keys1)) refl
+returns c = λ counts locals items k off. out-input _ _ _ _ off refl refl refl (kind-4 _ (c .match .keys1)) refl
 
 returns-2 : tie.Need-returns-2
-returns-2 c = λ G count locals items k off. rw (c .put .ensures) (out-other _ _ _ _ off refl refl refl (input-other _ (c .before .match .rest)) refl)
+returns-2 c = λ counts locals items k off. rw (c .put .ensures) (out-other _ _ _ _ off refl refl refl (input-other _ (c .before .match .rest)) refl)
 
 pub effect-out-spec : {M : Type 1} → statement M
 effect-out-spec = tie.close (tie.spec put-requires returns returns-2)

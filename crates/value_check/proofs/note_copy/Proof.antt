@@ -16,7 +16,7 @@ take-copy-requires : tie.Need-take-copy-requires
 take-copy-requires c κs = search needs
 
 returns : tie.Need-returns
-returns c = (rw (c .before .before .copy-of .ensures), c .take-copy .ensures)
+returns c = record { notes = rw (c .before .before .copy-of .ensures); takes = c .take-copy .ensures }
 
 pub note-copy-spec : {M : Type 1} → statement M
 note-copy-spec =

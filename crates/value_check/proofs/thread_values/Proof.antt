@@ -1,10 +1,8 @@
 -- `value_check::thread_values` meets its contract. Assumes nothing.
 use native.Mathlib.Omega.{arith}
 use lib.ListN.{length}
-use Rattle.model.specs.CaseFile.{kindOf}
 use Rattle.laws.specs.Accepted.{linesFrom}
 use Rattle.laws.proofs.Following.{next-low, lines-less}
-use Rattle.laws.proofs.Sizes.{value-count-at-most}
 use Rattle.value_check.proofs.ThreadWalk.{ThreadWalk, walk-start, walk-end, walk-notes, walk-room, walk-block, walk-room-after, walk-found, walk-more}
 use borrow.Author.Needs.{needs}
 use Rattle.value_check.proofs.thread_values.Statement.{statement}
@@ -18,14 +16,8 @@ abbrev μ-loop : tie.MeasureT-loop
 μ-loop case assignment previous₀ latest₀ t counts locals₀ items₀ block₀ broken₀ at₀ k₀ previous latest locals items block broken at k =
     length (linesFrom case t k)
 
-globals-requires : tie.Need-globals-requires Inv-loop μ-loop
-globals-requires c κs = search needs
-
-cast-k : tie.Need-cast-k Inv-loop μ-loop
-cast-k c = search needs
-
-items-requires : tie.Need-items-requires Inv-loop μ-loop
-items-requires c κs = search needs
+counts-of-requires : tie.Need-counts-of-requires Inv-loop μ-loop
+counts-of-requires c κs = search needs
 
 start-of-block-requires : tie.Need-start-of-block-requires Inv-loop μ-loop
 start-of-block-requires c κs = search needs
@@ -33,12 +25,11 @@ start-of-block-requires c κs = search needs
 first-of-requires : tie.Need-first-of-requires Inv-loop μ-loop
 first-of-requires c κs = search needs
 
-cast-k-2 : tie.Need-cast-k-2 Inv-loop μ-loop
-cast-k-2 c = record { fits = omega (arith, c .first-of .ensures, c .before .before .before .before .before .before .pre .0 .0 .firsts (c .before .before .before .before .before .before .args .t) (c .before .before .before .before .before .before .pre .0 .1), c .before .before .before .before .before .before .pre .0 .0 .few-records) }
+cast-k : tie.Need-cast-k Inv-loop μ-loop
+cast-k c = record { fits = omega (arith, c .first-of .ensures, c .before .before .before .before .before .pre .accepted .firsts (c .before .before .before .before .before .args .t) (c .before .before .before .before .before .pre .thread), c .before .before .before .before .before .pre .accepted .few-records) }
 
 loop-holds : tie.Need-loop-holds Inv-loop μ-loop
-loop-holds c =
-    walk-start (c .before .before .before .before .before .before .pre .0 .0) _ _ (c .before .before .before .before .before .before .pre .0 .1) _ _ _ _ _ _ (c .before .before .before .before .before .before .pre .1 .0 .0) (c .first-of .ensures) (c .before .start-of-block .ensures) (c .before .before .before .before .before .before .pre .1 .1 .0) (c .before .before .before .before .before .before .pre .1 .1 .1)
+loop-holds c = walk-start (c .before .before .before .before .before .pre) _ _ _ (c .first-of .ensures) (c .before .start-of-block .ensures)
 
 cast-record-at : tie.Need-cast-record-at Inv-loop μ-loop
 cast-record-at c = search needs
@@ -55,109 +46,87 @@ value-of-requires c κs = search needs
 enter-block-requires : tie.Need-enter-block-requires Inv-loop μ-loop
 enter-block-requires c κs =
     let line = c .before .before .before .before in
-    let start = line .before .before .before .before .before .before .before .before in
-    (start .pre .0 .0, walk-block (start .pre .0 .0) _ _ (start .pre .0 .1) (line .before .loop .inv) (line .loop-test .taken) _ (c .before .before .block-of .ensures))
+    let start = line .before .before .before .before .before .before .before in
+    record { accepted = start .pre .accepted; block = walk-block (start .pre) (line .before .loop .inv) (line .loop-test .taken) _ (c .before .before .block-of .ensures) }
+
+asked-of-requires : tie.Need-asked-of-requires Inv-loop μ-loop
+asked-of-requires c κs = search needs
 
 line-failing-requires : tie.Need-line-failing-requires Inv-loop μ-loop
 line-failing-requires c κs =
-    let line = c .before .before .before .before .before .before .before in
-    let start = line .before .before .before .before .before .before .before .before in (
-      omega (arith, line .before .before .before .before .before .globals .ensures, start .pre .0 .0 .few-globals),
-      line .before .before .before .before .items .ensures .most,
-      omega (arith, walk-room (start .pre .0 .0) _ _ (start .pre .0 .1) (line .before .loop .inv) (line .loop-test .taken), start .pre .1 .0 .1),
-    )
+    let line = c .before .before .before .before .before .before .before .before in
+    let start = line .before .before .before .before .before .before .before in
+    walk-room (start .pre) (line .before .loop .inv) (line .loop-test .taken)
 
 returns : tie.Need-returns Inv-loop μ-loop
 returns c =
-    let read = c .before .before .before .before in
-    let line = read .before .before .before .before .before in
-    let start = line .before .before .before .before .before .before .before .before in (
-      walk-found (start .pre .0 .0) _ _ (start .pre .0 .1) (line .before .loop .inv) (line .loop-test .taken) _ (read .before .before .before .block-of .ensures) _ (read .before .before .before .before .record-at .ensures) _
-          (read .before .before .value-of .ensures) _ (read .enter-block .ensures) _ (line .before .before .before .before .before .globals .ensures) (line .before .before .before .before .items .ensures .is) _ (c .before .line-failing .ensures)
-          (c .if1 .taken) _,
-      λ z. absurd (c .if1 .taken z),
-    )
-
-breaks-requires : tie.Need-breaks-requires Inv-loop μ-loop
-breaks-requires c κs = search needs
+    let read = c .before .before in
+    let line = read .before .before .before .before .before .before .before .before in
+    let start = line .before .before .before .before .before .before .before in
+    record {
+      found = walk-found (start .pre) (line .before .loop .inv) (line .loop-test .taken) _ (read .before .before .before .before .before .before .block-of .ensures) _ (read .before .before .before .before .before .before .before .record-at .ensures) _ (read .before .before .before .before .before .value-of .ensures) _ (read .before .before .before .enter-block .ensures) _ (line .before .before .before .before .counts-of .ensures) _ (read .asked-of .ensures) _ (c .before .line-failing .ensures) (c .if1 .taken) _;
+      walked = λ z. absurd (c .if1 .taken z);
+    }
 
 noted-requires : tie.Need-noted-requires Inv-loop μ-loop
 noted-requires c κs = search needs
 
-value-rows-requires : tie.Need-value-rows-requires Inv-loop μ-loop
-value-rows-requires c κs = search needs
-
-cast-at : tie.Need-cast-at Inv-loop μ-loop
-cast-at c = record { fits = omega (arith, value-count-at-most (kindOf (c .before .before .before .before .before .before .before .before .before .before .before .before .before .record-at .result .kind)), c .value-rows .ensures) }
-
 add-at : tie.Need-add-at Inv-loop μ-loop
 add-at c =
-    let read = c .before .before .before .before .before .before .before .before .before in
-    let line = read .before .before .before .before .before in
-    let start = line .before .before .before .before .before .before .before .before in
-    omega (
-      arith,
-      walk-room-after (start .pre .0 .0) _ _ (start .pre .0 .1) (line .before .loop .inv) (line .loop-test .taken) _ (read .before .before .before .block-of .ensures) _ (read .before .before .before .before .record-at .ensures) _
-          (read .before .before .value-of .ensures) _ (read .enter-block .ensures) _ (line .before .before .before .before .before .globals .ensures) (line .before .before .before .before .items .ensures .is) _ (c .value-rows .ensures),
-      start .pre .1 .0 .1,
-    )
-
-target-name-requires : tie.Need-target-name-requires Inv-loop μ-loop
-target-name-requires c κs = omega (arith, c .before .before .before .before .before .before .before .before .before .before .before .before .before .before .before .before .before .before .before .globals .ensures, c .before .before .before .before .before .before .before .before .before .before .before .before .before .before .before .before .before .before .before .before .before .before .pre .0 .0 .few-globals)
+    let read = c .before .before .before .before in
+    let line = read .before .before .before .before .before .before .before .before in
+    let start = line .before .before .before .before .before .before .before in
+    omega (arith, walk-room-after (start .pre) (line .before .loop .inv) (line .loop-test .taken) _ (read .before .before .before .before .before .before .block-of .ensures) _ (read .before .before .before .before .before .before .before .record-at .ensures) _ (read .before .before .before .before .before .value-of .ensures) _ (read .before .before .before .enter-block .ensures) _ (line .before .before .before .before .counts-of .ensures) _ (read .asked-of .ensures))
 
 note-copy-requires : tie.Need-note-copy-requires Inv-loop μ-loop
 note-copy-requires c κs =
-    let line = c .before .before .before .before .before .before .before .before .before .before .before .before .before .before .before .before .before in
-    let start = line .before .before .before .before .before .before .before .before in
-    (omega (arith, start .pre .0 .1, start .pre .0 .0 .few-threads), omega (arith, line .before .loop .inv .low, start .pre .0 .0 .few-records))
+    let read = c .before .before .before .before .before .before in
+    let line = read .before .before .before .before .before .before .before .before in
+    let start = line .before .before .before .before .before .before .before in
+    record { thread = omega (arith, start .pre .thread, start .pre .accepted .few-threads); number = omega (arith, line .before .loop .inv .low, start .pre .accepted .few-records) }
 
 put-local-requires : tie.Need-put-local-requires Inv-loop μ-loop
 put-local-requires c κs = search needs
 
 put-item-requires : tie.Need-put-item-requires Inv-loop μ-loop
-put-item-requires c κs = c .before .before .before .before .before .before .before .before .before .before .before .before .before .before .before .before .before .before .before .before .before .before .before .before .before .items .ensures .most
+put-item-requires c κs = c .before .before .before .before .before .before .before .before .before .before .before .before .before .before .before .before .before .before .before .before .before .before .counts-of .ensures .few .items
 
 cast-next-of : tie.Need-cast-next-of Inv-loop μ-loop
 cast-next-of c =
-    let line = c .before .before .before .before .before .before .before .before .before .before .before .before .before .before .before .before .before .before .before .before .before .before in
-    let start = line .before .before .before .before .before .before .before .before in
-    record { fits = omega (arith, line .before .loop .inv .low, start .pre .0 .0 .few-records) }
+    let line = c .before .before .before .before .before .before .before .before .before .before .before .before .before .before .before .before .before .before .before in
+    let start = line .before .before .before .before .before .before .before in
+    record { fits = omega (arith, line .before .loop .inv .low, start .pre .accepted .few-records) }
 
 next-of-requires : tie.Need-next-of-requires Inv-loop μ-loop
 next-of-requires c κs =
-    let line = c .before .before .before .before .before .before .before .before .before .before .before .before .before .before .before .before .before .before .before .before .before .before in
-    let start = line .before .before .before .before .before .before .before .before in
-    omega (arith, line .loop-test .taken, line .before .loop .inv .low, start .pre .0 .0 .size)
+    let line = c .before .before .before .before .before .before .before .before .before .before .before .before .before .before .before .before .before .before .before in
+    let start = line .before .before .before .before .before .before .before in
+    omega (arith, line .loop-test .taken, line .before .loop .inv .low, start .pre .accepted .size)
 
-cast-k-3 : tie.Need-cast-k-3 Inv-loop μ-loop
-cast-k-3 c =
-    let line = c .before .before .before .before .before .before .before .before .before .before .before .before .before .before .before .before .before .before .before .before .before .before .before in
-    let start = line .before .before .before .before .before .before .before .before in
-    record { fits = omega (arith, c .next-of .ensures, next-low _ (start .pre .0 .0) (start .args .t) _ (line .loop-test .taken) (line .before .loop .inv .low), start .pre .0 .0 .few-records) }
+cast-k-2 : tie.Need-cast-k-2 Inv-loop μ-loop
+cast-k-2 c =
+    let line = c .before .before .before .before .before .before .before .before .before .before .before .before .before .before .before .before .before .before .before .before in
+    let start = line .before .before .before .before .before .before .before in
+    record { fits = omega (arith, c .next-of .ensures, next-low _ (start .pre .accepted) (start .args .t) _ (line .loop-test .taken) (line .before .loop .inv .low), start .pre .accepted .few-records) }
 
 loop-less : tie.Need-loop-less Inv-loop μ-loop
 loop-less c =
-    let line = c .before .before .before .before .before .before .before .before .before .before .before .before .before .before .before .before .before .before .before .before .before .before .before in
-    let start = line .before .before .before .before .before .before .before .before in
-    lines-less _ (start .pre .0 .0) _ _ (line .loop-test .taken) (line .before .loop .inv .low) _ (c .next-of .ensures)
+    let line = c .before .before .before .before .before .before .before .before .before .before .before .before .before .before .before .before .before .before .before .before in
+    let start = line .before .before .before .before .before .before .before in
+    lines-less _ (start .pre .accepted) _ _ (line .loop-test .taken) (line .before .loop .inv .low) _ (c .next-of .ensures)
 
 loop-again : tie.Need-loop-again Inv-loop μ-loop
 loop-again c =
-    let read = c .before .before .before .before .before .before .before .before .before .before .before .before .before .before .before .before .before .before in
-    let line = read .before .before .before .before .before in
-    let start = line .before .before .before .before .before .before .before .before in
-    walk-more (start .pre .0 .0) _ _ (start .pre .0 .1) (line .before .loop .inv) (line .loop-test .taken) _ (read .before .before .before .block-of .ensures) _ (read .before .before .before .before .record-at .ensures) _
-    (read .before .before .value-of .ensures) _ (read .enter-block .ensures) _ (line .before .before .before .before .before .globals .ensures) (line .before .before .before .before .items .ensures .is) _
-    (c .before .before .before .before .before .before .before .before .before .before .before .before .before .before .before .line-failing .ensures)
-    (c .before .before .before .before .before .before .before .before .before .before .before .before .before .before .if1 .left) _ (c .before .before .before .before .before .before .before .before .before .value-rows .ensures) _
-    (c .before .before .before .before .before .before .before .before .before .before .before .breaks .ensures) _ (c .before .before .before .before .before .before .before .before .before .before .noted .ensures) _
-    (c .before .before .before .before .before .before .before .before .target-name .ensures) _ _ (c .before .before .before .before .before .note-copy .ensures .0) (c .before .before .before .before .before .note-copy .ensures .1) _ _
-    (c .before .before .before .put-local .ensures) (c .before .put-item .ensures) _ (c .next-of .ensures)
+    let read = c .before .before .before .before .before .before .before .before .before .before .before .before in
+    let line = read .before .before .before .before .before .before .before .before in
+    let start = line .before .before .before .before .before .before .before in
+    walk-more (start .pre) (line .before .loop .inv) (line .loop-test .taken) _ (read .before .before .before .before .before .before .block-of .ensures) _ (read .before .before .before .before .before .before .before .record-at .ensures) _ (read .before .before .before .before .before .value-of .ensures) _ (read .before .before .before .enter-block .ensures) _ (line .before .before .before .before .counts-of .ensures) _ (read .asked-of .ensures) _ (c .before .before .before .before .before .before .before .before .before .before .before .line-failing .ensures) (c .before .before .before .before .before .before .before .before .before .before .if1 .left) _ (c .before .before .before .before .before .before .before .before .before .noted .ensures)
+    (c .before .before .before .before .before .note-copy .ensures) _ _ (c .before .before .before .put-local .ensures) (c .before .put-item .ensures) _ (c .next-of .ensures)
 
 returns-2 : tie.Need-returns-2 Inv-loop μ-loop
 returns-2 c =
-    let start = c .before .before .before .before .before .before .before .before in
-    (walk-end (start .pre .0 .0) _ _ (start .pre .0 .1) (c .before .loop .inv) (c .loop-test .left), λ _. walk-notes (start .pre .0 .0) _ _ (start .pre .0 .1) (c .before .loop .inv) (c .loop-test .left))
+    let start = c .before .before .before .before .before .before .before in
+    record { found = walk-end (start .pre) (c .before .loop .inv) (c .loop-test .left); walked = λ _. walk-notes (start .pre) (c .before .loop .inv) (c .loop-test .left) }
 
 pub thread-values-spec : {M : Type 1} → statement M
 thread-values-spec =
@@ -165,32 +134,27 @@ thread-values-spec =
     (tie.spec
     Inv-loop
     μ-loop
-    globals-requires
-    cast-k
-    items-requires
+    counts-of-requires
     start-of-block-requires
     first-of-requires
-    cast-k-2
+    cast-k
     loop-holds
     cast-record-at
     record-at-requires
     block-of-requires
     value-of-requires
     enter-block-requires
+    asked-of-requires
     line-failing-requires
     returns
-    breaks-requires
     noted-requires
-    value-rows-requires
-    cast-at
     add-at
-    target-name-requires
     note-copy-requires
     put-local-requires
     put-item-requires
     cast-next-of
     next-of-requires
-    cast-k-3
+    cast-k-2
     loop-less
     loop-again
     returns-2)

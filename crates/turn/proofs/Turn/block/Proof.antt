@@ -1,48 +1,83 @@
 -- `turn::Turn::block` meets its contract. The invariant: the steps that are left decide. Assumes nothing.
-use mathlib.Core.Path.{sym, _∙_}
-use native.Mathlib.Omega.{arith}
+use mathlib.Core.Path.{refl, sym, _∙_}
 use borrow.Author.Tests.{not-true, not-false}
-use Rattle.turn.proofs.Blocks.{Going, going-start, going-on, block-ends, thread-ends, run-ended}
+use Rattle.turn.proofs.Steps.{step-strays, step-stops, step-goes}
+use Rattle.turn.proofs.Blocks.{Going, going-start, going-on, block-ends, thread-ends, line-ends, run-ended}
 use borrow.Author.Needs.{needs}
 use Rattle.turn.proofs.Turn.block.Statement.{statement}
 use Rattle.turn.proofs.Turn.block.Tie as tie
 
 abbrev Inv-loop : tie.InvT-loop
-Inv-loop self₀ t case given steps globals count left₀ self left = Going case given t steps self₀ left self
+Inv-loop t case given steps self₀ counts left₀ self left = Going case given t steps self₀ left self
 
 abbrev μ-loop : tie.MeasureT-loop
-μ-loop self₀ t case given steps globals count left₀ self left = left
-
-globals-requires : tie.Need-globals-requires Inv-loop μ-loop
-globals-requires c κs = search needs
-
-cast-globals : tie.Need-cast-globals Inv-loop μ-loop
-cast-globals c = search needs
-
-items-requires : tie.Need-items-requires Inv-loop μ-loop
-items-requires c κs = search needs
-
-loop-holds : tie.Need-loop-holds Inv-loop μ-loop
-loop-holds c = going-start _ _ _ _ _ (c .before .before .before .before .pre .within)
+μ-loop t case given steps self₀ counts left₀ self left = left
 
 goes-on-requires : tie.Need-goes-on-requires Inv-loop μ-loop
 goes-on-requires c κs = search needs
 
 returns : tie.Need-returns Inv-loop μ-loop
-returns c = run-ended _ _ _ _ _ _ _ (c .before .before .before .loop .inv) (sym (c .before .goes-on .ensures) ∙ not-true _ (c .if1 .taken))
+returns c = run-ended _ _ _ _ _ (c .before .before .before .before .pre .within) (sym (c .before .goes-on .ensures) ∙ not-true _ (c .if1 .taken))
+
+counts-of-requires : tie.Need-counts-of-requires Inv-loop μ-loop
+counts-of-requires c κs = search needs
+
+loop-holds : tie.Need-loop-holds Inv-loop μ-loop
+loop-holds c = going-start _ _ _ _ _ (c .before .before .before .before .before .pre .within) (sym (c .before .before .goes-on .ensures) ∙ not-false _ (c .before .if1 .left))
 
 returns-2 : tie.Need-returns-2 Inv-loop μ-loop
-returns-2 c = thread-ends _ _ _ _ _ _ _ (c .before .before .before .before .before .loop .inv) (c .if2 .taken)
+returns-2 c = thread-ends _ _ _ _ _ (c .before .before .loop .inv) (c .if2 .taken)
+
+cast-k : tie.Need-cast-k Inv-loop μ-loop
+cast-k c = search needs
+
+record-at-requires : tie.Need-record-at-requires Inv-loop μ-loop
+record-at-requires c κs = search needs
+
+mul-effect-of : tie.Need-mul-effect-of Inv-loop μ-loop
+mul-effect-of c = search needs
+
+shared-slice-read-effect-of : tie.Need-shared-slice-read-effect-of Inv-loop μ-loop
+shared-slice-read-effect-of c = search needs
+
+effect-of-requires : tie.Need-effect-of-requires Inv-loop μ-loop
+effect-of-requires c κs = search needs
+
+ended-requires : tie.Need-ended-requires Inv-loop μ-loop
+ended-requires c κs = search needs
+
+returns-3 : tie.Need-returns-3 Inv-loop μ-loop
+returns-3 c =
+    let read = c .before .before .before .before .before .before .before in
+    let line = read .before in
+    let start = line .before .before .before .before .before .before .before .before in
+    rw (c .ended .ensures)
+    (line-ends _ _ _ _ _ (line .before .before .loop .inv) (start .pre .accepted) (line .before .loop-test .taken) (line .if2 .left) _
+    (step-strays (start .args .given .now) _ (line .before .before .loop .self) (line .before .before .before .counts-of .ensures) (read .record-at .ensures) (c .before .before .effect-of .ensures _) (c .before .if3 .taken)) refl (line .before .before .loop .inv .within))
+
+ended-requires-2 : tie.Need-ended-requires-2 Inv-loop μ-loop
+ended-requires-2 c κs = search needs
+
+returns-4 : tie.Need-returns-4 Inv-loop μ-loop
+returns-4 c =
+    let read = c .before .before .before .before .before .before .before .before in
+    let line = read .before in
+    let start = line .before .before .before .before .before .before .before .before in
+    rw (c .ended2 .ensures)
+    (line-ends _ _ _ _ _ (line .before .before .loop .inv) (start .pre .accepted) (line .before .loop-test .taken) (line .if2 .left) _
+    (step-stops (start .args .given .now) _ (line .before .before .loop .self) (line .before .before .before .counts-of .ensures) (read .record-at .ensures) (c .before .before .before .effect-of .ensures _) (c .before .before .if3 .left) (c .before .if4 .taken)) refl (line .before .before .loop .inv .within))
+
+put-local-requires : tie.Need-put-local-requires Inv-loop μ-loop
+put-local-requires c κs = search needs
+
+put-item-requires : tie.Need-put-item-requires Inv-loop μ-loop
+put-item-requires c κs = search needs
+
+next-of-requires : tie.Need-next-of-requires Inv-loop μ-loop
+next-of-requires c κs = search needs
 
 step-requires : tie.Need-step-requires Inv-loop μ-loop
-step-requires c κs = record {
-  ready = record { accepted = c .before .before .before .before .before .before .before .before .before .before .pre .accepted; all-given = c .before .before .before .before .before .before .before .before .before .before .pre .all-given; within = c .before .before .before .before .before .loop .inv .within };
-  runs = sym (c .before .before .before .goes-on .ensures) ∙ not-false _ (c .before .before .if1 .left);
-  more = omega (arith, c .if2 .left);
-  globals = c .before .before .before .before .before .before .before .globals .ensures;
-  items =
-      c .before .before .before .before .before .before .items .ensures .is;
-}
+step-requires c κs = search needs
 
 sub-left : tie.Need-sub-left Inv-loop μ-loop
 sub-left c = search needs
@@ -51,10 +86,18 @@ loop-less : tie.Need-loop-less Inv-loop μ-loop
 loop-less c = search needs
 
 loop-again : tie.Need-loop-again Inv-loop μ-loop
-loop-again c = going-on _ _ _ _ _ _ _ (c .before .before .before .before .before .before .loop .inv) _ (c .before .before .before .before .before .before .before .before .before .before .before .pre .accepted) (sym (c .before .before .before .before .goes-on .ensures) ∙ not-false _ (c .before .before .before .if1 .left)) (c .before .before .before .before .before .loop-test .taken) (c .before .if2 .left) (c .step .ensures)
+loop-again c =
+    let does = c .before .before .before .before .before .before .before .before in
+    let read = does .before .before .before .before .before in
+    let line = read .before in
+    let start = line .before .before .before .before .before .before .before .before in
+    rw (c .step .ensures)
+    (going-on _ _ _ _ _ (line .before .before .loop .inv) (start .pre .accepted) (line .before .loop-test .taken) (line .if2 .left) _
+    (step-goes (start .args .given .now) _ (line .before .before .loop .self) (line .before .before .before .counts-of .ensures) (read .record-at .ensures) (does .effect-of .ensures _) (c .before .before .before .before .before .before .before .if3 .left)
+    (c .before .before .before .before .before .before .if4 .left) (line .before .before .loop .inv .runs) _ _ (c .before .before .before .before .put-local .ensures) (c .before .before .put-item .ensures) _) refl (c .before .next-of .ensures))
 
-returns-3 : tie.Need-returns-3 Inv-loop μ-loop
-returns-3 c = block-ends _ _ _ _ _ _ _ (c .before .loop .inv) (c .loop-test .left)
+returns-5 : tie.Need-returns-5 Inv-loop μ-loop
+returns-5 c = block-ends _ _ _ _ _ (c .before .loop .inv) (c .loop-test .left)
 
 pub block-spec : {M : Type 1} → statement M
 block-spec =
@@ -62,15 +105,25 @@ block-spec =
     (tie.spec
     Inv-loop
     μ-loop
-    globals-requires
-    cast-globals
-    items-requires
-    loop-holds
     goes-on-requires
     returns
+    counts-of-requires
+    loop-holds
     returns-2
+    cast-k
+    record-at-requires
+    mul-effect-of
+    shared-slice-read-effect-of
+    effect-of-requires
+    ended-requires
+    returns-3
+    ended-requires-2
+    returns-4
+    put-local-requires
+    put-item-requires
+    next-of-requires
     step-requires
     sub-left
     loop-less
     loop-again
-    returns-3)
+    returns-5)

@@ -1,0 +1,160 @@
+-- `value_check::asked_in` meets its contract: an arm for each kind. Assumes nothing.
+use mathlib.Core.Path.{refl, _∙_, ap}
+use mathlib.Core.Bool.{true}
+use Prim.Native.Nat.{ℕ}
+use Rattle.model.specs.Word.{bit, nonzero}
+use Rattle.model.specs.CaseFile.{compute, store, load, input, assert, assume, lock, unlock}
+use Rattle.model.specs.Line.{nameOfA, hasExpression, nameOfTarget, guardedInValue, breaks}
+use Rattle.model.specs.Holds.{demandMet}
+use Rattle.laws.specs.RowCounts.{valueRowCount}
+use Rattle.line.proofs.KindNumbers.{kind-1, kind-2, kind-3, kind-4, kind-5, kind-6, kind-7, unlock-other, breaks-kind}
+use Rattle.line.proofs.Expressions.{reads-a, reads-target}
+use Rattle.value_check.proofs.Asking.{asks-by, lock-in}
+use borrow.Author.Needs.{needs}
+use Rattle.value_check.proofs.asked_in.Statement.{statement}
+use Rattle.value_check.proofs.asked_in.Tie as tie
+
+cast-target : tie.Need-cast-target
+cast-target c = search needs
+
+expression-of-requires : tie.Need-expression-of-requires
+expression-of-requires c κs = search needs
+
+local-name-requires : tie.Need-local-name-requires
+local-name-requires c κs = search needs
+
+four-requires : tie.Need-four-requires
+four-requires c κs = search needs
+
+expression-of-requires-2 : tie.Need-expression-of-requires-2
+expression-of-requires-2 c κs = search needs
+
+add-four : tie.Need-add-four
+add-four c = search needs
+
+four-requires-2 : tie.Need-four-requires-2
+four-requires-2 c κs = search needs
+
+cast-item-at : tie.Need-cast-item-at
+cast-item-at c = search needs
+
+item-at-requires : tie.Need-item-at-requires
+item-at-requires c κs = search needs
+
+local-name-requires-2 : tie.Need-local-name-requires-2
+local-name-requires-2 c κs = search needs
+
+four-requires-3 : tie.Need-four-requires-3
+four-requires-3 c κs = search needs
+
+local-name-requires-3 : tie.Need-local-name-requires-3
+local-name-requires-3 c κs = search needs
+
+four-requires-4 : tie.Need-four-requires-4
+four-requires-4 c κs = search needs
+
+expression-of-requires-3 : tie.Need-expression-of-requires-3
+expression-of-requires-3 c κs = search needs
+
+bit-of-requires : tie.Need-bit-of-requires
+bit-of-requires c κs = search needs
+
+breaks-requires : tie.Need-breaks-requires
+breaks-requires c κs = search needs
+
+expression-of-requires-4 : tie.Need-expression-of-requires-4
+expression-of-requires-4 c κs = search needs
+
+bit-of-requires-2 : tie.Need-bit-of-requires-2
+bit-of-requires-2 c κs = search needs
+
+add-item-at : tie.Need-add-item-at
+add-item-at c = search needs
+
+item-at-requires-2 : tie.Need-item-at-requires-2
+item-at-requires-2 c κs = search needs
+
+add-t28 : tie.Need-add-t28
+add-t28 c = search needs
+
+add-t29 : tie.Need-add-t29
+add-t29 c = search needs
+
+add-four-2 : tie.Need-add-four-2
+add-four-2 c = search needs
+
+add-four-3 : tie.Need-add-four-3
+add-four-3 c = search needs
+
+four-requires-5 : tie.Need-four-requires-5
+four-requires-5 c κs = search needs
+
+returns : tie.Need-returns
+unfolding demandMet valueRowCount breaks guardedInValue nameOfTarget
+returns c = λ k guard. rw (c .four .ensures) (asks-by _ _ _ _ _ true guard compute (kind-1 _ (c .before .before .before .match .keys1)) (c .before .before .expression-of .ensures _ _ _ _ _ (c .before .before .before .before .before .pre .items) (ap hasExpression (kind-1 _ (c .before .before .before .match .keys1)))) refl refl refl (c .before .local-name .ensures))
+
+returns-2 : tie.Need-returns-2
+unfolding demandMet valueRowCount breaks guardedInValue nameOfTarget
+returns-2 c = λ k guard. rw (c .four2 .ensures) (asks-by _ _ _ _ _ true guard store (kind-2 _ (c .before .before .match .keys2)) (c .before .expression-of2 .ensures _ _ _ _ _ (c .before .before .before .before .pre .items) (ap hasExpression (kind-2 _ (c .before .before .match .keys2)))) refl refl refl refl)
+
+returns-3 : tie.Need-returns-3
+unfolding demandMet valueRowCount breaks guardedInValue nameOfTarget nameOfA
+returns-3 c = λ k guard. rw (c .four3 .ensures) (asks-by _ _ _ _ _ true guard load (kind-3 _ (c .before .before .before .before .match .keys3)) (reads-a (c .before .before .before .before .before .before .args .locals .now) (c .before .before .before .before .before .before .args .items .now) (c .before .before .before .before .before .before .args .counts .globals) (c .before .before .before .before .before .before .args .counts .items) _ load (kind-3 _ (c .before .before .before .before .match .keys3)) _ _ (c .before .before .item-at .ensures _)) refl refl refl (c .before .local-name2 .ensures))
+
+returns-4 : tie.Need-returns-4
+unfolding demandMet valueRowCount breaks guardedInValue nameOfTarget
+returns-4 c = λ k guard. rw (c .four4 .ensures) (asks-by _ _ _ _ _ true guard input (kind-4 _ (c .before .before .match .keys4)) refl refl refl refl (c .before .local-name3 .ensures))
+
+returns-5 : tie.Need-returns-5
+unfolding demandMet valueRowCount guardedInValue nameOfTarget
+returns-5 c = λ k guard. asks-by _ _ _ _ _ true guard assert (kind-5 _ (c .before .before .before .match .keys5)) (c .before .bit-of .ensures ∙ ap (λ (x : ℕ). bit (nonzero x)) (c .before .before .expression-of3 .ensures _ _ _ _ _ (c .before .before .before .before .before .pre .items) (ap hasExpression (kind-5 _ (c .before .before .before .match .keys5))))) refl refl (breaks-kind _ _ assert (kind-5 _ (c .before .before .before .match .keys5)) _ _ (c .breaks .ensures (c .before .before .before .before .before .args .value) k)) refl
+
+returns-6 : tie.Need-returns-6
+unfolding demandMet valueRowCount breaks guardedInValue nameOfTarget
+returns-6 c = λ k guard. asks-by _ _ _ _ _ true guard assume (kind-6 _ (c .before .before .match .keys6)) (c .bit-of2 .ensures ∙ ap (λ (x : ℕ). bit (nonzero x)) (c .before .expression-of4 .ensures _ _ _ _ _ (c .before .before .before .before .pre .items) (ap hasExpression (kind-6 _ (c .before .before .match .keys6))))) refl refl refl refl
+
+returns-7 : tie.Need-returns-7
+unfolding valueRowCount breaks guardedInValue nameOfTarget
+returns-7 c = λ k guard. asks-by _ _ _ _ _ true guard lock (kind-7 _ (c .before .before .before .match .keys7)) refl (lock-in _ _ _ guard _ (reads-target (c .before .before .before .before .before .args .locals .now) (c .before .before .before .before .before .args .items .now) (c .before .before .before .before .before .args .counts .globals) (c .before .before .before .before .before .args .counts .items) _ lock (kind-7 _ (c .before .before .before .match .keys7)) _ _ (c .before .item-at2 .ensures _))) refl refl refl
+
+returns-8 : tie.Need-returns-8
+unfolding demandMet valueRowCount breaks guardedInValue nameOfTarget
+returns-8 c = λ k guard. rw (c .four5 .ensures) (asks-by _ _ _ _ _ true guard unlock (unlock-other _ (c .before .before .match .rest)) refl refl refl refl refl)
+
+pub asked-in-spec : {M : Type 1} → statement M
+asked-in-spec =
+    tie.close
+    (tie.spec
+    cast-target
+    expression-of-requires
+    local-name-requires
+    four-requires
+    expression-of-requires-2
+    add-four
+    four-requires-2
+    cast-item-at
+    item-at-requires
+    local-name-requires-2
+    four-requires-3
+    local-name-requires-3
+    four-requires-4
+    expression-of-requires-3
+    bit-of-requires
+    breaks-requires
+    expression-of-requires-4
+    bit-of-requires-2
+    add-item-at
+    item-at-requires-2
+    add-t28
+    add-t29
+    add-four-2
+    add-four-3
+    four-requires-5
+    returns
+    returns-2
+    returns-3
+    returns-4
+    returns-5
+    returns-6
+    returns-7
+    returns-8)
