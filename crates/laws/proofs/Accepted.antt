@@ -26,13 +26,25 @@ passes : (test : Bool) (next : Verdict) (number place : ℕ) → unless test (ve
     → Passed (test ≡ true) (next ≡ verdicts.Accepted)
 passes test next number place e = past-unless (λ v. v ≡ verdicts.Accepted) test _ next (λ e'. let z : _≡_ {A = ℕ} 0 1 = cc in omega arith) e
 
--- What the checks say, with the refusals taken apart.
+module _ (bytes : List ℕ) where
+  abbrev firstOk : ℕ → Bool
+  firstOk t = leb (firstRecord bytes t) (records bytes)
+
+  abbrev nextOk : ℕ → Bool
+  nextOk k = leb (nextRecord bytes k) (records bytes)
+
+  abbrev onceOk : ℕ → Bool
+  onceOk k = leb (timesReached bytes k) 1
+
+-- What the checks say, with the refusals taken apart, and 6 in its parts.
 record Checked (bytes : List ℕ) : Type 0 where
   size : sizeOk bytes ≡ true
   threads : threadsOk bytes ≡ true
   switches : switchesOk bytes ≡ true
   items : itemsOk bytes ≡ true
-  links : linksOk bytes ≡ true
+  firsts : allFrom (firstOk bytes) 0 (threadCount bytes) ≡ true
+  nexts : allFrom (nextOk bytes) 1 (records bytes) ≡ true
+  once : allFrom (onceOk bytes) 1 (records bytes) ≡ true
   reached : reachedOk bytes ≡ true
   lengths : lengthsOk bytes ≡ true
   rules : brokenRecord bytes ≡ 0
@@ -46,6 +58,8 @@ checked-of bytes e =
     let four = passes (itemsOk bytes) _ 4 0 (three .later) in
     let five = passes (absentOk bytes) _ 5 0 (four .later) in
     let six = passes (linksOk bytes) _ 6 0 (five .later) in
+    let links = and-true (allFrom (firstOk bytes) 0 (threadCount bytes)) _ (six .here) in
+    let later = and-true (allFrom (nextOk bytes) 1 (records bytes)) _ (links .rest) in
     let seven = passes (reachedOk bytes) _ 7 0 (six .later) in
     let eight = passes (lengthsOk bytes) _ 8 0 (seven .later) in
     let nine = passes (eqb (brokenRecord bytes) 0) _ 9 (brokenRecord bytes) (eight .later) in
@@ -54,7 +68,9 @@ checked-of bytes e =
       threads = two .here;
       switches = three .here;
       items = four .here;
-      links = six .here;
+      firsts = links .first;
+      nexts = later .first;
+      once = later .rest;
       reached = seven .here;
       lengths = eight .here;
       rules = eqb-true (brokenRecord bytes) 0 (nine .here);
@@ -80,38 +96,17 @@ module _ (bytes : List ℕ) (checks : Checked bytes) where
   each-thread : (test : ℕ → Bool) → allFrom test 0 (threadCount bytes) ≡ true → (t : ℕ) → t < threadCount bytes → test t ≡ true
   each-thread test e t h = all-from-gives test 0 (threadCount bytes) e t (omega arith) (omega (arith, h))
 
-  abbrev firstOk : ℕ → Bool
-  firstOk t = leb (firstRecord bytes t) (records bytes)
-
-  abbrev nextOk : ℕ → Bool
-  nextOk k = leb (nextRecord bytes k) (records bytes)
-
-  abbrev onceOk : ℕ → Bool
-  onceOk k = leb (timesReached bytes k) 1
-
-  -- 6 in its parts
-  record LinkTests : Type 0 where
-    firsts : allFrom firstOk 0 (threadCount bytes) ≡ true
-    nexts : allFrom nextOk 1 (records bytes) ≡ true
-    once : allFrom onceOk 1 (records bytes) ≡ true
-
-  link-tests : LinkTests
-  link-tests =
-      let tests = and-true (allFrom firstOk 0 (threadCount bytes)) _ (checks .links) in
-      let later = and-true (allFrom nextOk 1 (records bytes)) _ (tests .rest) in
-      record { firsts = tests .first; nexts = later .first; once = later .rest }
-
   first-links : (t : ℕ) → t < threadCount bytes → firstRecord bytes t ≤ records bytes
-  first-links t h = leb-true (firstRecord bytes t) (records bytes) (each-thread firstOk (link-tests .firsts) t h)
+  first-links t h = leb-true (firstRecord bytes t) (records bytes) (each-thread (firstOk bytes) (checks .firsts) t h)
 
   next-links : (k : ℕ) → 0 < k → k ≤ records bytes → nextRecord bytes k ≤ records bytes
-  next-links k low high = leb-true (nextRecord bytes k) (records bytes) (each-record nextOk (link-tests .nexts) k low high)
+  next-links k low high = leb-true (nextRecord bytes k) (records bytes) (each-record (nextOk bytes) (checks .nexts) k low high)
 
   reached-just-once : (k : ℕ) → 0 < k → k ≤ records bytes → timesReached bytes k ≡ 1
   reached-just-once k low high =
       omega (
         arith,
-        leb-true (timesReached bytes k) 1 (each-record onceOk (link-tests .once) k low high),
+        leb-true (timesReached bytes k) 1 (each-record (onceOk bytes) (checks .once) k low high),
         leb-true 1 (timesReached bytes k) (each-record (λ j. leb 1 (timesReached bytes j)) (checks .reached) k low high),
       )
 
