@@ -44,6 +44,9 @@ pub struct Asked {
     pub name: usize,
 }
 
+// The value of an assert or assume that its guard leaves out.
+const LEFT_OUT: u16 = 1;
+
 // A 4 alone, of a line that breaks nothing.
 fn four(value: u16, name: usize) -> Asked
     ensures { λ r. ⌜ r ≡ record { value = value; met = true; rows = 1; breaks = false; name = name } ⌝ }
@@ -103,7 +106,7 @@ fn asked_in<'a>(
     }
 }
 
-// A line with a false guard: its target keeps its value, and an assert or assume has 1.
+// A line with a false guard: its target keeps its value.
 fn asked_out<'a>(
     locals: &'a [u16; LOCALS],
     items: &'a [u16; ITEMS],
@@ -118,21 +121,18 @@ fn asked_out<'a>(
     let target = l.target as usize;
     match kind {
         1 => four(line::local_at(locals, l.target), line::local_name(l.target)),
-        2 => four(
-            line::item_at(items, counts.items, target),
-            LOCALS + target,
-        ),
+        2 => four(line::item_at(items, counts.items, target), LOCALS + target),
         3 => four(line::local_at(locals, l.target), line::local_name(l.target)),
         4 => four(line::local_at(locals, l.target), line::local_name(l.target)),
         5 => Asked {
-            value: 1,
+            value: LEFT_OUT,
             met: true,
             rows: 1,
             breaks: line::breaks(locals, items, counts, l, value),
             name: NAMES,
         },
         6 => Asked {
-            value: 1,
+            value: LEFT_OUT,
             met: value == 1,
             rows: 2,
             breaks: false,
