@@ -10,7 +10,7 @@ use lib.Dec.{eqb, leb, ltb}
 use lib.ListN.{length}
 use lib.Seq.{set-out}
 use Rattle.model.specs.Word.{bit, nonzero}
-use Rattle.model.specs.Limits.{localCount, mostGlobals, mostMutexes}
+use Rattle.model.specs.Limits.{localCount, mostGlobals, mostMutexes, highestGuard}
 use Rattle.model.specs.CaseFile.{Kind, compute, store, load, input, assert, assume, lock, unlock, Line, Case, itemCount, records, lineOf, caseOf, linesOf}
 use Rattle.model.specs.Accept.{expressionOk, kindRule}
 use Rattle.model.specs.Line.{noName, localName, itemName, guardName, nameOfA, nameOfB, nameOfTarget, Reads, guardTrue, apply, operandValue, expression, guardedInValue, guardedOutValue, valueBy, stops, breaks, strayInput}
@@ -34,7 +34,7 @@ unfolding look
 look-item m g = rw (le-ltb (localCount + g) localCount (omega arith), item-of-name g)
 
 module _ (l : Line) (m : Memory) where
-  guard-is : (reads : Reads) → l .guard ≤ 32 → reads .guard ≡ look m (guardName l) → guardTrue l reads ≡ guardHolds l m
+  guard-is : (reads : Reads) → l .guard ≤ highestGuard → reads .guard ≡ look m (guardName l) → guardTrue l reads ≡ guardHolds l m
   unfolding guardTrue guardName
   guard-is reads h e = go (eq-view (l .guard) 0) (le-view (l .guard) 16)
     where
@@ -123,7 +123,7 @@ module _ (case : Case) (given : ℕ → ℕ) (l : Line) (m : Memory) where
   done-is lock r h = put-item (case .G + l .target) 1 m
   done-is unlock r h = put-item (case .G + l .target) 0 m
 
-  module _ (small : l .guard ≤ 32) where
+  module _ (small : l .guard ≤ highestGuard) where
     ends-is : (kind : Kind) → Rule kind → stops kind l (readsFor kind) ≡ (guardHolds l m && endsByKind kind case l m)
     unfolding kindRule nameOfA nameOfB nameOfTarget stops
     ends-is compute r = sym (and-false (guardHolds l m))

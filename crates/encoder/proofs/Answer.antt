@@ -1,6 +1,6 @@
 -- What the encoder answers and what it leaves in the slice.
 -- Assumes nothing. Met again where the listing is written.
-use mathlib.Core.Path.{_≡_, refl, sym, ap, _∙_}
+use mathlib.Core.Path.{_≡_, sym, ap, _∙_}
 use Prim.Native.Nat.{ℕ, _*_, _≤_, _<_}
 use mathlib.Core.List.{List}
 use native.Mathlib.Omega.{arith}
@@ -19,7 +19,6 @@ use Rattle.model.specs.declared.Encoded.{Encoded}
 use Rattle.model.specs.declared.Encoded.the-variants.{Table, Refused}
 use Rattle.laws.proofs.OnCase.{on-accepted, on-refused}
 use Rattle.laws.proofs.Sizes.{six-a-row}
-use Rattle.laws.proofs.Views.{LeView, within, beyond, le-view}
 use Rattle.encoder.specs.Parts.{tableNumbers}
 use Rattle.encoder.specs.Writers.{Answered}
 
@@ -66,18 +65,3 @@ module _ (bytes : List ℕ) where
       table-answered x vars h ev ex =
           let told : Table count vars ≡ encoded bytes (length d) = rw (ec, ev) (sym (long (length d) (omega (arith, size)))) in
           record { answer = told; slice = ex ∙ slice-after d (Table count vars) told }
-
-  -- For the caller: a table that was written fits.
-  pub written-fits : (room : ℕ) (r : Encoded) (constraints variables : ℕ) → r ≡ encoded bytes room → r ≡ Table constraints variables → 6 * constraints ≤ room
-  written-fits room r constraints variables e h = go (verdict bytes) refl (le-view (length (numbersOf (table (caseOf bytes)))) room)
-    where
-      never : (number place : ℕ) → encoded bytes room ≡ Refused number place → ⊥
-      never number place q = let z : _≡_ {A = ℕ} 0 1 = cc in omega arith
-
-      go : (v : Verdict) → verdict bytes ≡ v → LeView (length (numbersOf (table (caseOf bytes)))) room → 6 * constraints ≤ room
-      go (verdicts.Refused number place) ev w = absurd (never number place (sym (refused-answer room (verdict bytes) number place refl ev)))
-      go Accepted ev (beyond p q) = absurd (never 10 0 (short ev room p))
-      go Accepted ev (within p q) =
-          let written = long ev room p in
-          let same : constraints ≡ length (table (caseOf bytes)) = cc in
-          omega (arith, six-a-row (table (caseOf bytes)))

@@ -2,13 +2,11 @@
 -- Assumes nothing. Met again in Reached and Lines, and wherever code follows a chain.
 use mathlib.Core.Path.{_≡_, refl, sym, ap, _∙_, subst}
 use Prim.Native.Nat.{ℕ, zero, suc, _+_, _≤_, _<_}
-use mathlib.Core.Bool.{cond}
 use mathlib.Core.List.{List, [], _∷_}
 use native.Mathlib.Omega.{arith}
 use native.Mathlib.Nat.{add-zero, zero-add}
-use lib.Dec.{eqb}
 use lib.ListN.{getD, length}
-use Rattle.model.specs.CaseFile.{Line, records, threadCount, firstRecord, nextRecord, lineOf, chain, chains, caseOf, linesOf, sumOfLines, hasNumber, findLine}
+use Rattle.model.specs.CaseFile.{Line, records, threadCount, firstRecord, nextRecord, lineOf, chain, chains, caseOf, linesOf, sumOfLines, hasNumber}
 use Rattle.laws.specs.RecordNumber.{RecordNumber}
 use Rattle.laws.specs.Accepted.{linesFrom}
 use Rattle.laws.proofs.Views.{EqView, same, diff, eq-view, LtView, below, above, lt-view}
@@ -104,22 +102,6 @@ module _ (bytes : List ℕ) where
       go : LtView t (threadCount bytes) → P (linesOf (caseOf bytes) t)
       go (below h q) = subst P (sym (threads-are t h)) (some h)
       go (above h q) = subst P (sym (chains-beyond 0 (threadCount bytes) t h)) none
-
-  -- Looked for by number, a record is found where it is counted.
-  pub find-in-chain : (t k most j : ℕ) (other : Line) → 0 < sumOfLines (hasNumber k) (chain bytes t most j)
-      → findLine k (chain bytes t most j) other ≡ lineOf bytes t k
-  unfolding chain findLine
-  find-in-chain t k zero j other h = absurd (omega arith)
-  find-in-chain t k (suc most) zero other h = absurd (omega arith)
-  find-in-chain t k (suc most) (suc j) other h = go (eq-view (suc j) k) (find-in-chain t k most (nextRecord bytes (suc j)) other)
-    where
-      rest : List Line
-      rest = chain bytes t most (nextRecord bytes (suc j))
-
-      go : EqView (suc j) k → (0 < sumOfLines (hasNumber k) rest → findLine k rest other ≡ lineOf bytes t k)
-          → cond (eqb (suc j) k) (lineOf bytes t (suc j)) (findLine k rest other) ≡ lineOf bytes t k
-      go (same p q) later = rw q (ap (lineOf bytes t) p)
-      go (diff p q) later = rw q (later (omega (arith, rw q at h)))
 
   -- The records that chains reach are from 1 to R where their links are at most R.
   module _ (nexts : (k : ℕ) → 0 < k → k ≤ records bytes → nextRecord bytes k ≤ records bytes) where

@@ -1,17 +1,16 @@
 -- The lines of an accepted case: which records they are, how many there are, how they are found by number.
 -- Assumes nothing. Met again in correspondence's WellFormed and LineFound, and wherever code looks for a record's line.
-use mathlib.Core.Path.{_≡_, refl, ap, _∙_}
-use Prim.Native.Nat.{ℕ, zero, suc, _+_, _≤_, _<_}
+use mathlib.Core.Path.{_≡_, refl}
+use Prim.Native.Nat.{ℕ, zero, suc, _≤_, _<_}
 use mathlib.Core.List.{List, [], _∷_}
 use native.Mathlib.Omega.{arith}
-use native.Mathlib.Nat.{zero-add}
-use lib.ListN.{getD, length}
+use lib.ListN.{length}
 use Rattle.model.specs.Limits.{mostLines}
-use Rattle.model.specs.CaseFile.{Line, records, threadCount, firstRecord, lineOf, chains, caseOf, linesOf, sumOfLines, sumOfThreads, hasNumber, findLine, findThread, lineAt}
+use Rattle.model.specs.CaseFile.{Line, records, firstRecord, lineOf, caseOf, linesOf, sumOfLines, sumOfThreads, hasNumber, findLine}
 use Rattle.laws.specs.RecordNumber.{RecordNumber}
 use Rattle.laws.specs.Accepted.{Accepted, linesFrom}
-use Rattle.laws.proofs.Counting.{number-is-other, thread-sum-at-most}
-use Rattle.laws.proofs.Chains.{thread-by, chain-within-by, linesFrom-end, find-in-chain}
+use Rattle.laws.proofs.Counting.{number-is-other}
+use Rattle.laws.proofs.Chains.{thread-by, chain-within-by, linesFrom-end}
 use Rattle.laws.proofs.Reached.{reached-within, reached-at-most-once, some-thread-is-longer}
 
 -- a number that does not occur is not found
@@ -19,21 +18,6 @@ pub find-nothing : (k : ℕ) (ls : List Line) (other : Line) → sumOfLines (has
 unfolding findLine
 find-nothing k [] other e = refl
 find-nothing k (l ∷ ls) other e = rw (number-is-other k l (omega (arith, e))) (find-nothing k ls other (omega (arith, e)))
-
--- a record that occurs once is found in its thread
-find-in-its-thread : (bytes : List ℕ) (k t many j : ℕ) → j < many
-    → sumOfThreads (hasNumber k) (chains bytes t many) ≤ 1 → 0 < sumOfLines (hasNumber k) (getD (chains bytes t many) j [])
-    → findThread k (chains bytes t many) ≡ lineOf bytes (t + j) k
-unfolding findThread chains
-find-in-its-thread bytes k t zero j h once found = absurd (omega arith)
-find-in-its-thread bytes k t (suc many) zero h once found =
-    find-in-chain bytes t k (suc (records bytes)) (firstRecord bytes t) (findThread k (chains bytes (suc t) many)) found
-    ∙ ap (λ (x : ℕ). lineOf bytes x k) (omega arith)
-find-in-its-thread bytes k t (suc many) (suc j) h once found =
-    let later = thread-sum-at-most (hasNumber k) (chains bytes (suc t) many) j in
-    find-nothing k (linesFrom bytes t (firstRecord bytes t)) (findThread k (chains bytes (suc t) many)) (omega (arith, once, later, found))
-    ∙ find-in-its-thread bytes k (suc t) many j (omega arith) (omega arith) found
-    ∙ ap (λ (x : ℕ). lineOf bytes x k) (omega arith)
 
 module _ (bytes : List ℕ) (ok : Accepted bytes) where
   pub numbers-within : (k : ℕ) → 0 < sumOfThreads (hasNumber k) (caseOf bytes .threads) → RecordNumber (records bytes) k
@@ -53,7 +37,3 @@ module _ (bytes : List ℕ) (ok : Accepted bytes) where
       → P (linesOf (caseOf bytes) t)
   thread-lines-by t P none more =
       thread-by bytes t P none (λ h. chain-within-by bytes (ok .nexts) t P none more (suc (records bytes)) (firstRecord bytes t) (ok .firsts t h))
-
-  pub line-in-thread : (t k : ℕ) → t < threadCount bytes → 0 < sumOfLines (hasNumber k) (linesOf (caseOf bytes) t)
-      → lineAt (caseOf bytes) k ≡ lineOf bytes t k
-  line-in-thread t k h found = find-in-its-thread bytes k 0 (threadCount bytes) t h (numbers-once k) found ∙ ap (λ (x : ℕ). lineOf bytes x k) (zero-add t)

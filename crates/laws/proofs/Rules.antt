@@ -6,6 +6,7 @@ use mathlib.Core.Bool.{true}
 use mathlib.Core.List.{List}
 use borrow.Author.Tests.{leb-true}
 use lib.Dec.{leb}
+use Rattle.model.specs.Limits.{highestKind, highestGuard}
 use Rattle.model.specs.CaseFile.{Kind, compute, store, load, input, assert, assume, lock, unlock, records, globalCount, mutexCount, recordField, lineOf}
 use Rattle.model.specs.Accept.{kindRule}
 use Rattle.laws.specs.Accepted.{Accepted}
@@ -22,21 +23,17 @@ rule-any-thread bytes t k G M assume = refl
 rule-any-thread bytes t k G M lock = refl
 rule-any-thread bytes t k G M unlock = refl
 
--- The parts of a rule: the kind's number, the guard, and the kind's own rule.
+-- The parts of a rule: the guard, and the kind's own rule.
 pub record Obeys (bytes : List ℕ) (t k : ℕ) : Type 0 where
-  pub some-kind : 0 < recordField bytes k 1
-  pub few-kinds : recordField bytes k 1 ≤ 8
-  pub guard : recordField bytes k 2 ≤ 32
+  pub guard : recordField bytes k 2 ≤ highestGuard
   pub kind-rule : kindRule (lineOf bytes t k .kind) (globalCount bytes) (mutexCount bytes) (lineOf bytes t k) ≡ true
 
 pub records-obey : (bytes : List ℕ) → Accepted bytes → (t k : ℕ) → 0 < k → k ≤ records bytes → Obeys bytes t k
 records-obey bytes ok t k low high =
     let one = and-true (leb 1 (recordField bytes k 1)) _ (ok .rules k low high) in
-    let two = and-true (leb (recordField bytes k 1) 8) _ (one .rest) in
-    let three = and-true (leb (recordField bytes k 2) 32) _ (two .rest) in
+    let two = and-true (leb (recordField bytes k 1) highestKind) _ (one .rest) in
+    let three = and-true (leb (recordField bytes k 2) highestGuard) _ (two .rest) in
     record {
-      some-kind = leb-true 1 (recordField bytes k 1) (one .first);
-      few-kinds = leb-true (recordField bytes k 1) 8 (two .first);
-      guard = leb-true (recordField bytes k 2) 32 (three .first);
+      guard = leb-true (recordField bytes k 2) highestGuard (three .first);
       kind-rule = rw (← rule-any-thread bytes t k (globalCount bytes) (mutexCount bytes) (lineOf bytes t k .kind)) (three .rest);
     }

@@ -23,7 +23,6 @@ use Rattle.model.specs.Accept.{sizeOk, threadsOk, switchesOk, itemsOk, absentOk
 use Rattle.model.specs.Answers.{encoded, failedIn, decoded, answerOfRun, replayed, verdictNumbers, encodedNumbers, decodedNumbers, replayedNumbers}
 use Rattle.model.specs.declared.Verdict.{Verdict}
 use Rattle.model.specs.declared.Verdict.the-variants as verdicts
-use Rattle.model.specs.declared.Encoded.the-variants as encodeds
 use Rattle.model.specs.declared.Decoded.the-variants as decodeds
 use Rattle.model.specs.declared.Replayed.the-variants as replayeds
 use Rattle.laws.specs.Accepted.{Accepted}

@@ -6,8 +6,8 @@ use mathlib.Core.Bool.{true, false}
 use mathlib.Core.List.{List}
 use native.Mathlib.Omega.{arith}
 use lib.Dec.{eqb}
-use Rattle.model.specs.CaseFile.{Kind, compute, store, load, input, assert, assume, lock, unlock, Line, kindOf}
-use Rattle.model.specs.Line.{Reads, localName, nameOfA, nameOfB, nameOfTarget, hasExpression, apply, operandValue, expression, guardedInValue, guardedOutValue}
+use Rattle.model.specs.CaseFile.{Kind, compute, store, load, input, assert, assume, lock, unlock, kindOf}
+use Rattle.model.specs.Line.{localName, nameOfA, nameOfB, nameOfTarget, hasExpression, apply, operandValue, expression}
 use Rattle.model.specs.Machine.{look}
 use Rattle.laws.proofs.Views.{EqView, same, diff, eq-view}
 use Rattle.case_file.specs.declared.Record.{Record}

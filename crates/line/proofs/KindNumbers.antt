@@ -9,7 +9,7 @@ use borrow.Author.Tests.{ne-eqb, not-true, not-false}
 use Rattle.laws.specs.RowCounts.{valueRowCount}
 use Rattle.laws.proofs.Views.{EqView, same, diff, eq-view}
 use Rattle.model.specs.CaseFile.{Kind, compute, store, load, input, assert, assume, lock, unlock, Line, kindOf}
-use Rattle.model.specs.Line.{Reads, noName, itemName, localName, nameOfA, hasExpression, nameOfB, nameOfTarget, guardedInValue, guardedOutValue, breaks, isInput}
+use Rattle.model.specs.Line.{Reads, noName, itemName, localName, nameOfA, hasExpression, nameOfB, nameOfTarget, breaks, isInput}
 
 -- A kind of number k: one of 1 to 7, or an unlock, which every other number gives.
 pub data KindView (k : ℕ) : Kind → Type 0 where

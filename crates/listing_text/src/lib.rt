@@ -139,7 +139,7 @@ fn put_number(text: &mut [u8], at: usize, n: u16, end: u8) -> usize
     place + 1
 }
 
-// A number's digits: those of its tenth, and the last one.
+// A number's digits: those of its tenth, and the last one. The tenth of a number below 100 is a digit.
 fn put_digits(text: &mut [u8], at: usize, n: u16) -> usize
     requires { ⌜ at + 6 ≤ mostListingBytes ⌝ }
     ensures { λ r. ⌜ Put (decimal n) (now (text .entry)) at (now (text .exit)) r ⌝ }
@@ -150,6 +150,12 @@ fn put_digits(text: &mut [u8], at: usize, n: u16) -> usize
     }
     let high = n / 10;
     let low = n % 10;
+    if n < 100 {
+        put_byte(text, at, digit_of(high));
+        let next = at + 1;
+        put_byte(text, next, digit_of(low));
+        return next + 1;
+    }
     let place = put_digits(text, at, high);
     put_byte(text, place, digit_of(low));
     place + 1

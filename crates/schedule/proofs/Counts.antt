@@ -1,17 +1,18 @@
 -- Laws of the counts of a thread's lines by block, and of the lengths that they give.
 -- Assumes nothing. Met again in Walks.
-use mathlib.Core.Path.{_≡_, refl, sym, _∙_}
+use mathlib.Core.Path.{_≡_, refl, sym, ap, _∙_}
+use mathlib.Core.Logic.{_≢_}
 use Prim.Native.Nat.{ℕ, suc, _+_, _-_, _%_, _≤_, _<_}
 use mathlib.Core.Bool.{cond}
 use mathlib.Core.List.{List, [], _∷_, _++_}
 use native.Mathlib.Omega.{arith}
-use native.Mathlib.Nat.{mod-lt}
+use native.Mathlib.Nat.{mod-lt, mod-eq-of-lt, mod-self, suc-mod}
 use native.Mathlib.Numerals.{add-one}
 use lib.Dec.{ltb}
 use lib.ListN.{getD, set, length, replicate, length-set, getD-replicate, List·getD-eq-default}
 use lib.Seq.{getD-set-same, getD-set-other}
 use borrow.Author.Tests.{ne-eqb}
-use Rattle.model.specs.Limits.{mostThreads, mostBlocks}
+use Rattle.model.specs.Limits.{mostBlocks}
 use Rattle.model.specs.Lists.{numbersFrom}
 use Rattle.model.specs.CaseFile.{Line, threadCount, switchCount, caseOf, linesOf}
 use Rattle.model.specs.Assignment.{assignmentOf}
@@ -20,6 +21,7 @@ use Rattle.laws.specs.Accepted.{Accepted}
 use Rattle.laws.proofs.Chains.{threads-are}
 use Rattle.laws.proofs.Ranges.{same-numbers}
 use Rattle.laws.proofs.Schedules.{lines-in-block-few}
+use Rattle.laws.proofs.Writing.{Writing}
 use Rattle.laws.proofs.Views.{EqView, same, diff, eq-view, LtView, below, above, lt-view}
 use Rattle.assignment.specs.Numbers.{recordBlock}
 use Rattle.schedule.specs.Schedules.{AllCounts, withLine, lengthsIn}
@@ -64,21 +66,37 @@ pub counting-end : (counts : List ℕ) (block : ℕ → ℕ) (all : List Line) �
 unfolding linesInBlock
 counting-end counts block all v i h = omega (arith, v .each i h)
 
--- The thread of a block has counts.
-pub turn-few : (bytes : List ℕ) → Accepted bytes → (i many : ℕ) → many ≡ threadCount bytes → i % many < mostThreads
-turn-few bytes ok i many e = let some : 0 < many = omega (arith, ok .some-threads) in omega (arith, mod-lt i some, ok .few-threads)
+-- The thread of the next block: the next one, or thread 0 after the last.
+module _ (i : ℕ) {t many : ℕ} (few : t < many) (e : t ≡ i % many) where
+  next-is : (t + 1) % many ≡ (i + 1) % many
+  next-is = rw (e, add-one (i % many), ← (suc-mod i many), add-one i)
+
+  pub after-last : t + 1 ≡ many → 0 ≡ (i + 1) % many
+  after-last last = sym (mod-self many) ∙ ap (λ (n : ℕ). n % many) (sym last) ∙ next-is
+
+  pub after-other : t + 1 ≢ many → t + 1 ≡ (i + 1) % many
+  after-other other = sym (mod-eq-of-lt (omega (arith, other))) ∙ next-is
 
 -- The lengths of the blocks from block i on, by the counts.
 abbrev pub lengthsFrom : List ℕ → List (List ℕ) → ℕ → List ℕ
 lengthsFrom bytes counts i = numbersFrom (λ j. getD (getD counts (j % threadCount bytes) []) j 0) i (suc (switchCount bytes) - i)
 
+-- Before block i, whose thread is t.
+pub record Lengths (bytes : List ℕ) (counts : List (List ℕ)) (before out : List ℕ) (i t : ℕ) : Type 0 where
+  pub writing : Writing (lengthsIn bytes counts) before 0 out i (lengthsFrom bytes counts i)
+  pub turn : t ≡ i % threadCount bytes
+
+pub turn-few : {bytes : List ℕ} {counts : List (List ℕ)} {before out : List ℕ} {i t : ℕ} → Accepted bytes → Lengths bytes counts before out i t
+    → t < threadCount bytes
+turn-few {bytes} {i = i} ok v = let some : 0 < threadCount bytes = omega (arith, ok .some-threads) in omega (arith, v .turn, mod-lt i some)
+
 module _ (bytes : List ℕ) (counts : List (List ℕ)) (i : ℕ) where
-  pub lengths-go-on : i ≤ switchCount bytes → (many : ℕ) → many ≡ threadCount bytes
-      → lengthsFrom bytes counts i ≡ (getD (getD counts (i % many) []) i 0 ∷ []) ++ lengthsFrom bytes counts (i + 1)
+  pub lengths-go-on : i ≤ switchCount bytes → (t : ℕ) → t ≡ i % threadCount bytes
+      → lengthsFrom bytes counts i ≡ (getD (getD counts t []) i 0 ∷ []) ++ lengthsFrom bytes counts (i + 1)
   unfolding numbersFrom
-  lengths-go-on h many em =
+  lengths-go-on h t e =
       let s : suc (switchCount bytes) - i ≡ suc (suc (switchCount bytes) - (i + 1)) = omega arith in
-      rw (s, ← (add-one i), em)
+      rw (s, ← (add-one i), e)
 
   pub lengths-end : switchCount bytes < i → lengthsFrom bytes counts i ≡ []
   unfolding numbersFrom

@@ -1,6 +1,6 @@
 // The schedule of an assignment: how many numbers it has, and its numbers, written into a lent slice.
 ghost use mathlib.Core.Path.{_≡_};
-ghost use Prim.Native.Nat.{_+_, _≤_};
+ghost use Prim.Native.Nat.{ℕ, _+_, _%_, _≤_, _<_};
 ghost use lib.ListN.{length, getD};
 ghost use Rattle.model.specs.Word.{bit};
 ghost use Rattle.model.specs.Limits.{mostLines, mostScheduleNumbers};
@@ -66,6 +66,18 @@ pub fn write_schedule(case: &[u8], assignment: &[u16], schedule: &mut [u16])
     write_lengths(case, schedule, &counts);
 }
 
+// The thread of the next block, where this block's is thread t of so many.
+fn next_thread(t: usize, many: usize) -> usize
+    requires { ⌜ t < many ⌝ }
+    ensures { λ r. ⌜ ((i : ℕ) → t ≡ i % many → r ≡ (i + 1) % many) ⌝ }
+{
+    let next = t + 1;
+    if next == many {
+        return 0;
+    }
+    next
+}
+
 // The lengths of the blocks, from the slice's start: block i's is the count of thread i modulo T.
 fn write_lengths(case: &[u8], schedule: &mut [u16], counts: &[[u16; BLOCKS]; THREADS])
     requires { ⌜ RoomFor (now case) (switchCount (now case) + 1) (now schedule) ⌝ }
@@ -74,10 +86,11 @@ fn write_lengths(case: &[u8], schedule: &mut [u16], counts: &[[u16; BLOCKS]; THR
     let many = threads(case) as usize;
     let last = switches(case) as usize;
     let mut i = 0;
+    let mut t = 0;
     while i <= last {
-        let t = i % many;
         schedule[i] = counts[t][i];
         i += 1;
+        t = next_thread(t, many);
     }
 }
 

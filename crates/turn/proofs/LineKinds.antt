@@ -2,11 +2,11 @@
 -- Assumes nothing.
 use mathlib.Core.Path.{_≡_, refl, sym, ap, _∙_}
 use Prim.Native.Nat.{ℕ}
-use mathlib.Core.Bool.{Bool, true, false}
+use mathlib.Core.Bool.{true, false}
 use native.Mathlib.Omega.{arith}
 use lib.Dec.{eqb}
 use Rattle.model.specs.Word.{nonzero}
-use Rattle.model.specs.CaseFile.{Kind, compute, store, load, input, assert, assume, lock, unlock, Line, kindOf}
+use Rattle.model.specs.CaseFile.{Kind, compute, store, load, input, assert, assume, lock, unlock, Line}
 use Rattle.model.specs.Line.{Reads, noName, nameOfTarget, guardTrue, expression, guardedInValue, guardedOutValue, valueBy, valueOf, stops, breaks, isInput, strayInput}
 use Rattle.laws.proofs.Views.{and-false}
 use Rattle.turn.specs.declared.Effect.{Effect}

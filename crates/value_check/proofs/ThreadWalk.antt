@@ -9,7 +9,7 @@ use native.Mathlib.Omega.{arith}
 use lib.Dec.{eqb}
 use lib.ListN.{length, take, replicate}
 use Rattle.model.specs.Limits.{localCount, mostSwitches, mostConstraints}
-use Rattle.model.specs.CaseFile.{Line, Case, records, threadCount, firstRecord, nextRecord, lineOf, caseOf, linesOf, itemCount, lineAt}
+use Rattle.model.specs.CaseFile.{Line, Case, records, firstRecord, nextRecord, lineOf, caseOf, linesOf, itemCount, lineAt}
 use Rattle.model.specs.Machine.{putLocal, putItem}
 use Rattle.model.specs.Assignment.{Assignment, assignmentOf}
 use Rattle.model.specs.Copies.{readsAfter}

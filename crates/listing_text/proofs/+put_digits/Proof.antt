@@ -76,16 +76,6 @@ put-digits-returns : (t : ℕ) → put-digits-lts.Need-returns (
 put-digits-returns t c =
     put-one-digit (c .before .before .before .before .before .if1 .taken) (c .before .before .put-byte .ensures) (c .before .before .before .digit-of .ensures)
 
-put-digits-put-digits-requires : (t : ℕ) → put-digits-lts.Need-put-digits-requires (
-  digit-of-reads.Asked,
-  digit-of-reads.Learnt,
-  put-byte-reads.Asked,
-  put-byte-reads.Learnt,
-  put-digits-below t,
-  put-digits.Post,
-) (put-digits-at t) put-digits.Post
-put-digits-put-digits-requires t c κs = (omega (arith, c .before .before .before .pre .0), c .before .before .before .pre .1)
-
 put-digits-digit-of-requires-2 : (t : ℕ) → put-digits-lts.Need-digit-of-requires-2 (
   digit-of-reads.Asked,
   digit-of-reads.Learnt,
@@ -106,6 +96,36 @@ put-digits-put-byte-requires-2 : (t : ℕ) → put-digits-lts.Need-put-byte-requ
 ) (put-digits-at t) put-digits.Post
 put-digits-put-byte-requires-2 t c κs = tt
 
+put-digits-add-next : (t : ℕ) → put-digits-lts.Need-add-next (
+  digit-of-reads.Asked,
+  digit-of-reads.Learnt,
+  put-byte-reads.Asked,
+  put-byte-reads.Learnt,
+  put-digits-below t,
+  put-digits.Post,
+) (put-digits-at t) put-digits.Post
+put-digits-add-next t c = omega (arith, c .before .before .before .before .before .before .before .before .pre .1)
+
+put-digits-digit-of-requires-3 : (t : ℕ) → put-digits-lts.Need-digit-of-requires-3 (
+  digit-of-reads.Asked,
+  digit-of-reads.Learnt,
+  put-byte-reads.Asked,
+  put-byte-reads.Learnt,
+  put-digits-below t,
+  put-digits.Post,
+) (put-digits-at t) put-digits.Post
+put-digits-digit-of-requires-3 t c κs = omega arith
+
+put-digits-put-byte-requires-3 : (t : ℕ) → put-digits-lts.Need-put-byte-requires-3 (
+  digit-of-reads.Asked,
+  digit-of-reads.Learnt,
+  put-byte-reads.Asked,
+  put-byte-reads.Learnt,
+  put-digits-below t,
+  put-digits.Post,
+) (put-digits-at t) put-digits.Post
+put-digits-put-byte-requires-3 t c κs = tt
+
 put-digits-add-result-2 : (t : ℕ) → put-digits-lts.Need-add-result-2 (
   digit-of-reads.Asked,
   digit-of-reads.Learnt,
@@ -114,12 +134,7 @@ put-digits-add-result-2 : (t : ℕ) → put-digits-lts.Need-add-result-2 (
   put-digits-below t,
   put-digits.Post,
 ) (put-digits-at t) put-digits.Post
-put-digits-add-result-2 t c =
-    omega (
-      arith,
-      within-five _ _ _ (c .before .before .before .before .before .before .before .put-digits .ensures .place),
-      c .before .before .before .before .before .before .before .before .before .before .before .pre .1,
-    )
+put-digits-add-result-2 t c = omega (arith, c .before .before .before .before .before .before .before .before .before .before .before .before .before .pre .1)
 
 put-digits-same-length-2 : (t : ℕ) → put-digits-lts.Need-same-length-2 (
   digit-of-reads.Asked,
@@ -129,7 +144,7 @@ put-digits-same-length-2 : (t : ℕ) → put-digits-lts.Need-same-length-2 (
   put-digits-below t,
   put-digits.Post,
 ) (put-digits-at t) put-digits.Post
-put-digits-same-length-2 t c = c .before .before .put-byte2 .kept .0 ∙ c .before .before .before .before .before .before .before .put-digits .kept .0
+put-digits-same-length-2 t c = c .before .before .put-byte3 .kept .0 ∙ c .before .before .before .before .before .before .before .put-byte2 .kept .0
 
 put-digits-returns-2 : (t : ℕ) → put-digits-lts.Need-returns-2 (
   digit-of-reads.Asked,
@@ -141,11 +156,82 @@ put-digits-returns-2 : (t : ℕ) → put-digits-lts.Need-returns-2 (
 ) (put-digits-at t) put-digits.Post
 put-digits-returns-2 t c =
     put-last-digit
-    (c .before .before .before .before .before .before .before .before .before .if1 .left)
+    (c .before .before .before .before .before .before .before .before .before .before .before .if1 .left)
+    (omega arith)
+    (put-one-digit (omega arith) (c .before .before .before .before .before .before .before .put-byte2 .ensures) (c .before .before .before .before .before .before .before .before .digit-of2 .ensures))
+    (c .before .before .put-byte3 .ensures)
+    (c .before .before .before .digit-of3 .ensures)
+
+put-digits-put-digits-requires : (t : ℕ) → put-digits-lts.Need-put-digits-requires (
+  digit-of-reads.Asked,
+  digit-of-reads.Learnt,
+  put-byte-reads.Asked,
+  put-byte-reads.Learnt,
+  put-digits-below t,
+  put-digits.Post,
+) (put-digits-at t) put-digits.Post
+put-digits-put-digits-requires t c κs = (omega (arith, c .before .before .before .before .pre .0), c .before .before .before .before .pre .1)
+
+put-digits-digit-of-requires-4 : (t : ℕ) → put-digits-lts.Need-digit-of-requires-4 (
+  digit-of-reads.Asked,
+  digit-of-reads.Learnt,
+  put-byte-reads.Asked,
+  put-byte-reads.Learnt,
+  put-digits-below t,
+  put-digits.Post,
+) (put-digits-at t) put-digits.Post
+put-digits-digit-of-requires-4 t c κs = omega arith
+
+put-digits-put-byte-requires-4 : (t : ℕ) → put-digits-lts.Need-put-byte-requires-4 (
+  digit-of-reads.Asked,
+  digit-of-reads.Learnt,
+  put-byte-reads.Asked,
+  put-byte-reads.Learnt,
+  put-digits-below t,
+  put-digits.Post,
+) (put-digits-at t) put-digits.Post
+put-digits-put-byte-requires-4 t c κs = tt
+
+put-digits-add-result-3 : (t : ℕ) → put-digits-lts.Need-add-result-3 (
+  digit-of-reads.Asked,
+  digit-of-reads.Learnt,
+  put-byte-reads.Asked,
+  put-byte-reads.Learnt,
+  put-digits-below t,
+  put-digits.Post,
+) (put-digits-at t) put-digits.Post
+put-digits-add-result-3 t c =
+    omega (
+      arith,
+      within-five _ _ _ (c .before .before .before .before .before .before .before .put-digits .ensures .place),
+      c .before .before .before .before .before .before .before .before .before .before .before .before .pre .1,
+    )
+
+put-digits-same-length-3 : (t : ℕ) → put-digits-lts.Need-same-length-3 (
+  digit-of-reads.Asked,
+  digit-of-reads.Learnt,
+  put-byte-reads.Asked,
+  put-byte-reads.Learnt,
+  put-digits-below t,
+  put-digits.Post,
+) (put-digits-at t) put-digits.Post
+put-digits-same-length-3 t c = c .before .before .put-byte4 .kept .0 ∙ c .before .before .before .before .before .before .before .put-digits .kept .0
+
+put-digits-returns-3 : (t : ℕ) → put-digits-lts.Need-returns-3 (
+  digit-of-reads.Asked,
+  digit-of-reads.Learnt,
+  put-byte-reads.Asked,
+  put-byte-reads.Learnt,
+  put-digits-below t,
+  put-digits.Post,
+) (put-digits-at t) put-digits.Post
+put-digits-returns-3 t c =
+    put-last-digit
+    (c .before .before .before .before .before .before .before .before .before .before .if1 .left)
     (omega arith)
     (c .before .before .before .before .before .before .before .put-digits .ensures)
-    (c .before .before .put-byte2 .ensures)
-    (c .before .before .before .digit-of2 .ensures)
+    (c .before .before .put-byte4 .ensures)
+    (c .before .before .before .digit-of4 .ensures)
 
 pub +put-digits-spec : {M : Type 1} → statement M
 +put-digits-spec = close μ-put-digits λ t. put-digits-lts.spec (
@@ -163,9 +249,17 @@ pub +put-digits-spec : {M : Type 1} → statement M
     (put-digits-add-result t)
     (put-digits-same-length t)
     (put-digits-returns t)
-    (put-digits-put-digits-requires t)
     (put-digits-digit-of-requires-2 t)
     (put-digits-put-byte-requires-2 t)
+    (put-digits-add-next t)
+    (put-digits-digit-of-requires-3 t)
+    (put-digits-put-byte-requires-3 t)
     (put-digits-add-result-2 t)
     (put-digits-same-length-2 t)
     (put-digits-returns-2 t)
+    (put-digits-put-digits-requires t)
+    (put-digits-digit-of-requires-4 t)
+    (put-digits-put-byte-requires-4 t)
+    (put-digits-add-result-3 t)
+    (put-digits-same-length-3 t)
+    (put-digits-returns-3 t)
