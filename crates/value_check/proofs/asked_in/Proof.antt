@@ -91,15 +91,24 @@ four-requires-5 c κs = search needs
 
 returns : tie.Need-returns
 unfolding demandMet valueRowCount breaks guardedInValue nameOfTarget
-returns c = λ k guard. rw (c .four .ensures) (asks-by _ _ _ _ _ true guard compute (kind-1 _ (c .before .before .before .match .keys1)) (c .before .before .expression-of .ensures _ _ _ _ _ (c .before .before .before .before .before .pre .items) (ap hasExpression (kind-1 _ (c .before .before .before .match .keys1)))) refl refl refl (c .before .local-name .ensures))
+returns c =
+    let start = c .before .before .before .before .before in
+    let kind = kind-1 _ (c .before .before .before .match .keys1) in
+    λ k guard. rw (c .four .ensures) (asks-by _ _ _ _ _ true guard compute kind (c .before .before .expression-of .ensures _ _ _ _ _ (start .pre .items) (ap hasExpression kind)) refl refl refl (c .before .local-name .ensures))
 
 returns-2 : tie.Need-returns-2
 unfolding demandMet valueRowCount breaks guardedInValue nameOfTarget
-returns-2 c = λ k guard. rw (c .four2 .ensures) (asks-by _ _ _ _ _ true guard store (kind-2 _ (c .before .before .match .keys2)) (c .before .expression-of2 .ensures _ _ _ _ _ (c .before .before .before .before .pre .items) (ap hasExpression (kind-2 _ (c .before .before .match .keys2)))) refl refl refl refl)
+returns-2 c =
+    let start = c .before .before .before .before in
+    let kind = kind-2 _ (c .before .before .match .keys2) in
+    λ k guard. rw (c .four2 .ensures) (asks-by _ _ _ _ _ true guard store kind (c .before .expression-of2 .ensures _ _ _ _ _ (start .pre .items) (ap hasExpression kind)) refl refl refl refl)
 
 returns-3 : tie.Need-returns-3
 unfolding demandMet valueRowCount breaks guardedInValue nameOfTarget nameOfA
-returns-3 c = λ k guard. rw (c .four3 .ensures) (asks-by _ _ _ _ _ true guard load (kind-3 _ (c .before .before .before .before .match .keys3)) (reads-a (c .before .before .before .before .before .before .args .locals .now) (c .before .before .before .before .before .before .args .items .now) (c .before .before .before .before .before .before .args .counts .globals) (c .before .before .before .before .before .before .args .counts .items) _ load (kind-3 _ (c .before .before .before .before .match .keys3)) _ _ (c .before .before .item-at .ensures _)) refl refl refl (c .before .local-name2 .ensures))
+returns-3 c =
+    let start = c .before .before .before .before .before .before in
+    let kind = kind-3 _ (c .before .before .before .before .match .keys3) in
+    λ k guard. rw (c .four3 .ensures) (asks-by _ _ _ _ _ true guard load kind (reads-a (start .args .locals .now) (start .args .items .now) (start .args .counts .globals) (start .args .counts .items) _ load kind _ _ (c .before .before .item-at .ensures _)) refl refl refl (c .before .local-name2 .ensures))
 
 returns-4 : tie.Need-returns-4
 unfolding demandMet valueRowCount breaks guardedInValue nameOfTarget
@@ -107,15 +116,24 @@ returns-4 c = λ k guard. rw (c .four4 .ensures) (asks-by _ _ _ _ _ true guard i
 
 returns-5 : tie.Need-returns-5
 unfolding demandMet valueRowCount guardedInValue nameOfTarget
-returns-5 c = λ k guard. asks-by _ _ _ _ _ true guard assert (kind-5 _ (c .before .before .before .match .keys5)) (c .before .bit-of .ensures ∙ ap (λ (x : ℕ). bit (nonzero x)) (c .before .before .expression-of3 .ensures _ _ _ _ _ (c .before .before .before .before .before .pre .items) (ap hasExpression (kind-5 _ (c .before .before .before .match .keys5))))) refl refl (breaks-kind _ _ assert (kind-5 _ (c .before .before .before .match .keys5)) _ _ (c .breaks .ensures (c .before .before .before .before .before .args .value) k)) refl
+returns-5 c =
+    let start = c .before .before .before .before .before in
+    let kind = kind-5 _ (c .before .before .before .match .keys5) in
+    λ k guard. asks-by _ _ _ _ _ true guard assert kind (c .before .bit-of .ensures ∙ ap (λ (x : ℕ). bit (nonzero x)) (c .before .before .expression-of3 .ensures _ _ _ _ _ (start .pre .items) (ap hasExpression kind))) refl refl (breaks-kind _ _ assert kind _ _ (c .breaks .ensures (start .args .value) k)) refl
 
 returns-6 : tie.Need-returns-6
 unfolding demandMet valueRowCount breaks guardedInValue nameOfTarget
-returns-6 c = λ k guard. asks-by _ _ _ _ _ true guard assume (kind-6 _ (c .before .before .match .keys6)) (c .bit-of2 .ensures ∙ ap (λ (x : ℕ). bit (nonzero x)) (c .before .expression-of4 .ensures _ _ _ _ _ (c .before .before .before .before .pre .items) (ap hasExpression (kind-6 _ (c .before .before .match .keys6))))) refl refl refl refl
+returns-6 c =
+    let start = c .before .before .before .before in
+    let kind = kind-6 _ (c .before .before .match .keys6) in
+    λ k guard. asks-by _ _ _ _ _ true guard assume kind (c .bit-of2 .ensures ∙ ap (λ (x : ℕ). bit (nonzero x)) (c .before .expression-of4 .ensures _ _ _ _ _ (start .pre .items) (ap hasExpression kind))) refl refl refl refl
 
 returns-7 : tie.Need-returns-7
 unfolding valueRowCount breaks guardedInValue nameOfTarget
-returns-7 c = λ k guard. asks-by _ _ _ _ _ true guard lock (kind-7 _ (c .before .before .before .match .keys7)) refl (lock-in _ _ _ guard _ (reads-target (c .before .before .before .before .before .args .locals .now) (c .before .before .before .before .before .args .items .now) (c .before .before .before .before .before .args .counts .globals) (c .before .before .before .before .before .args .counts .items) _ lock (kind-7 _ (c .before .before .before .match .keys7)) _ _ (c .before .item-at2 .ensures _))) refl refl refl
+returns-7 c =
+    let start = c .before .before .before .before .before in
+    let kind = kind-7 _ (c .before .before .before .match .keys7) in
+    λ k guard. asks-by _ _ _ _ _ true guard lock kind refl (lock-in _ _ _ guard _ (reads-target (start .args .locals .now) (start .args .items .now) (start .args .counts .globals) (start .args .counts .items) _ lock kind _ _ (c .before .item-at2 .ensures _))) refl refl refl
 
 returns-8 : tie.Need-returns-8
 unfolding demandMet valueRowCount breaks guardedInValue nameOfTarget

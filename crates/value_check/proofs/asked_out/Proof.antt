@@ -83,19 +83,31 @@ four-requires-5 c κs = search needs
 
 returns : tie.Need-returns
 unfolding demandMet valueRowCount breaks guardedOutValue nameOfTarget
-returns c = λ k guard. rw (c .four .ensures) (asks-by _ _ _ _ _ false guard compute (kind-1 _ (c .before .before .before .match .keys1)) (reads-target (c .before .before .before .before .before .args .locals .now) (c .before .before .before .before .before .args .items .now) (c .before .before .before .before .before .args .counts .globals) (c .before .before .before .before .before .args .counts .items) _ compute (kind-1 _ (c .before .before .before .match .keys1)) _ _ (c .before .before .local-at .ensures (c .before .before .before .before .before .args .items .now) (c .before .before .before .before .before .args .counts .items) (c .before .before .before .before .before .pre .items))) refl refl refl (c .before .local-name .ensures))
+returns c =
+    let start = c .before .before .before .before .before in
+    let kind = kind-1 _ (c .before .before .before .match .keys1) in
+    λ k guard. rw (c .four .ensures) (asks-by _ _ _ _ _ false guard compute kind (reads-target (start .args .locals .now) (start .args .items .now) (start .args .counts .globals) (start .args .counts .items) _ compute kind _ _ (c .before .before .local-at .ensures (start .args .items .now) (start .args .counts .items) (start .pre .items))) refl refl refl (c .before .local-name .ensures))
 
 returns-2 : tie.Need-returns-2
 unfolding demandMet valueRowCount breaks guardedOutValue nameOfTarget
-returns-2 c = λ k guard. rw (c .four2 .ensures) (asks-by _ _ _ _ _ false guard store (kind-2 _ (c .before .before .match .keys2)) (reads-target (c .before .before .before .before .args .locals .now) (c .before .before .before .before .args .items .now) (c .before .before .before .before .args .counts .globals) (c .before .before .before .before .args .counts .items) _ store (kind-2 _ (c .before .before .match .keys2)) _ _ (c .before .item-at .ensures _)) refl refl refl refl)
+returns-2 c =
+    let start = c .before .before .before .before in
+    let kind = kind-2 _ (c .before .before .match .keys2) in
+    λ k guard. rw (c .four2 .ensures) (asks-by _ _ _ _ _ false guard store kind (reads-target (start .args .locals .now) (start .args .items .now) (start .args .counts .globals) (start .args .counts .items) _ store kind _ _ (c .before .item-at .ensures _)) refl refl refl refl)
 
 returns-3 : tie.Need-returns-3
 unfolding demandMet valueRowCount breaks guardedOutValue nameOfTarget
-returns-3 c = λ k guard. rw (c .four3 .ensures) (asks-by _ _ _ _ _ false guard load (kind-3 _ (c .before .before .before .match .keys3)) (reads-target (c .before .before .before .before .before .args .locals .now) (c .before .before .before .before .before .args .items .now) (c .before .before .before .before .before .args .counts .globals) (c .before .before .before .before .before .args .counts .items) _ load (kind-3 _ (c .before .before .before .match .keys3)) _ _ (c .before .before .local-at2 .ensures (c .before .before .before .before .before .args .items .now) (c .before .before .before .before .before .args .counts .items) (c .before .before .before .before .before .pre .items))) refl refl refl (c .before .local-name2 .ensures))
+returns-3 c =
+    let start = c .before .before .before .before .before in
+    let kind = kind-3 _ (c .before .before .before .match .keys3) in
+    λ k guard. rw (c .four3 .ensures) (asks-by _ _ _ _ _ false guard load kind (reads-target (start .args .locals .now) (start .args .items .now) (start .args .counts .globals) (start .args .counts .items) _ load kind _ _ (c .before .before .local-at2 .ensures (start .args .items .now) (start .args .counts .items) (start .pre .items))) refl refl refl (c .before .local-name2 .ensures))
 
 returns-4 : tie.Need-returns-4
 unfolding demandMet valueRowCount breaks guardedOutValue nameOfTarget
-returns-4 c = λ k guard. rw (c .four4 .ensures) (asks-by _ _ _ _ _ false guard input (kind-4 _ (c .before .before .before .match .keys4)) (reads-target (c .before .before .before .before .before .args .locals .now) (c .before .before .before .before .before .args .items .now) (c .before .before .before .before .before .args .counts .globals) (c .before .before .before .before .before .args .counts .items) _ input (kind-4 _ (c .before .before .before .match .keys4)) _ _ (c .before .before .local-at3 .ensures (c .before .before .before .before .before .args .items .now) (c .before .before .before .before .before .args .counts .items) (c .before .before .before .before .before .pre .items))) refl refl refl (c .before .local-name3 .ensures))
+returns-4 c =
+    let start = c .before .before .before .before .before in
+    let kind = kind-4 _ (c .before .before .before .match .keys4) in
+    λ k guard. rw (c .four4 .ensures) (asks-by _ _ _ _ _ false guard input kind (reads-target (start .args .locals .now) (start .args .items .now) (start .args .counts .globals) (start .args .counts .items) _ input kind _ _ (c .before .before .local-at3 .ensures (start .args .items .now) (start .args .counts .items) (start .pre .items))) refl refl refl (c .before .local-name3 .ensures))
 
 returns-5 : tie.Need-returns-5
 unfolding demandMet valueRowCount guardedOutValue nameOfTarget
@@ -107,11 +119,17 @@ returns-6 c = λ k guard. asks-by _ _ _ _ _ false guard assume (kind-6 _ (c .mat
 
 returns-7 : tie.Need-returns-7
 unfolding valueRowCount breaks guardedOutValue nameOfTarget
-returns-7 c = λ k guard. asks-by _ _ _ _ _ false guard lock (kind-7 _ (c .before .before .before .match .keys7)) (reads-target (c .before .before .before .before .before .args .locals .now) (c .before .before .before .before .before .args .items .now) (c .before .before .before .before .before .args .counts .globals) (c .before .before .before .before .before .args .counts .items) _ lock (kind-7 _ (c .before .before .before .match .keys7)) _ _ (c .before .item-at2 .ensures _)) (lock-out _ _ _ guard) refl refl refl
+returns-7 c =
+    let start = c .before .before .before .before .before in
+    let kind = kind-7 _ (c .before .before .before .match .keys7) in
+    λ k guard. asks-by _ _ _ _ _ false guard lock kind (reads-target (start .args .locals .now) (start .args .items .now) (start .args .counts .globals) (start .args .counts .items) _ lock kind _ _ (c .before .item-at2 .ensures _)) (lock-out _ _ _ guard) refl refl refl
 
 returns-8 : tie.Need-returns-8
 unfolding demandMet valueRowCount breaks guardedOutValue nameOfTarget
-returns-8 c = λ k guard. rw (c .four5 .ensures) (asks-by _ _ _ _ _ false guard unlock (unlock-other _ (c .before .before .before .before .match .rest)) (reads-target (c .before .before .before .before .before .before .args .locals .now) (c .before .before .before .before .before .before .args .items .now) (c .before .before .before .before .before .before .args .counts .globals) (c .before .before .before .before .before .before .args .counts .items) _ unlock (unlock-other _ (c .before .before .before .before .match .rest)) _ _ (c .before .before .item-at3 .ensures _)) refl refl refl refl)
+returns-8 c =
+    let start = c .before .before .before .before .before .before in
+    let kind = unlock-other _ (c .before .before .before .before .match .rest) in
+    λ k guard. rw (c .four5 .ensures) (asks-by _ _ _ _ _ false guard unlock kind (reads-target (start .args .locals .now) (start .args .items .now) (start .args .counts .globals) (start .args .counts .items) _ unlock kind _ _ (c .before .before .item-at3 .ensures _)) refl refl refl refl)
 
 pub asked-out-spec : {M : Type 1} → statement M
 asked-out-spec =

@@ -64,7 +64,8 @@ returns c =
     let line = read .before .before .before .before .before .before .before .before in
     let start = line .before .before .before .before .before .before .before in
     record {
-      found = walk-found (start .pre) (line .before .loop .inv) (line .loop-test .taken) _ (read .before .before .before .before .before .before .block-of .ensures) _ (read .before .before .before .before .before .before .before .record-at .ensures) _ (read .before .before .before .before .before .value-of .ensures) _ (read .before .before .before .enter-block .ensures) _ (line .before .before .before .before .counts-of .ensures) _ (read .asked-of .ensures) _ (c .before .line-failing .ensures) (c .if1 .taken) _;
+      found = walk-found (start .pre) (line .before .loop .inv) (line .loop-test .taken) _ (read .before .before .before .before .before .before .block-of .ensures) _ (read .before .before .before .before .before .before .before .record-at .ensures) _ (read .before .before .before .before .before .value-of .ensures) _ (read .before .before .before .enter-block .ensures) _
+          (line .before .before .before .before .counts-of .ensures) _ (read .asked-of .ensures) _ (c .before .line-failing .ensures) (c .if1 .taken) _;
       walked = λ z. absurd (c .if1 .taken z);
     }
 
@@ -76,7 +77,11 @@ add-at c =
     let read = c .before .before .before .before in
     let line = read .before .before .before .before .before .before .before .before in
     let start = line .before .before .before .before .before .before .before in
-    omega (arith, walk-room-after (start .pre) (line .before .loop .inv) (line .loop-test .taken) _ (read .before .before .before .before .before .before .block-of .ensures) _ (read .before .before .before .before .before .before .before .record-at .ensures) _ (read .before .before .before .before .before .value-of .ensures) _ (read .before .before .before .enter-block .ensures) _ (line .before .before .before .before .counts-of .ensures) _ (read .asked-of .ensures))
+    omega (
+      arith,
+      walk-room-after (start .pre) (line .before .loop .inv) (line .loop-test .taken) _ (read .before .before .before .before .before .before .block-of .ensures) _ (read .before .before .before .before .before .before .before .record-at .ensures) _ (read .before .before .before .before .before .value-of .ensures) _ (read .before .before .before .enter-block .ensures) _
+          (line .before .before .before .before .counts-of .ensures) _ (read .asked-of .ensures),
+    )
 
 note-copy-requires : tie.Need-note-copy-requires Inv-loop μ-loop
 note-copy-requires c κs =
@@ -120,7 +125,8 @@ loop-again c =
     let read = c .before .before .before .before .before .before .before .before .before .before .before .before in
     let line = read .before .before .before .before .before .before .before .before in
     let start = line .before .before .before .before .before .before .before in
-    walk-more (start .pre) (line .before .loop .inv) (line .loop-test .taken) _ (read .before .before .before .before .before .before .block-of .ensures) _ (read .before .before .before .before .before .before .before .record-at .ensures) _ (read .before .before .before .before .before .value-of .ensures) _ (read .before .before .before .enter-block .ensures) _ (line .before .before .before .before .counts-of .ensures) _ (read .asked-of .ensures) _ (c .before .before .before .before .before .before .before .before .before .before .before .line-failing .ensures) (c .before .before .before .before .before .before .before .before .before .before .if1 .left) _ (c .before .before .before .before .before .before .before .before .before .noted .ensures)
+    walk-more (start .pre) (line .before .loop .inv) (line .loop-test .taken) _ (read .before .before .before .before .before .before .block-of .ensures) _ (read .before .before .before .before .before .before .before .record-at .ensures) _ (read .before .before .before .before .before .value-of .ensures) _ (read .before .before .before .enter-block .ensures) _
+    (line .before .before .before .before .counts-of .ensures) _ (read .asked-of .ensures) _ (c .before .before .before .before .before .before .before .before .before .before .before .line-failing .ensures) (c .before .before .before .before .before .before .before .before .before .before .if1 .left) _ (c .before .before .before .before .before .before .before .before .before .noted .ensures)
     (c .before .before .before .before .before .note-copy .ensures) _ _ (c .before .before .before .put-local .ensures) (c .before .put-item .ensures) _ (c .next-of .ensures)
 
 returns-2 : tie.Need-returns-2 Inv-loop μ-loop
