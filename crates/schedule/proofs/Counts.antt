@@ -12,7 +12,7 @@ use lib.Dec.{ltb}
 use lib.ListN.{getD, set, length, replicate, length-set, getD-replicate, List·getD-eq-default}
 use lib.Seq.{getD-set-same, getD-set-other}
 use borrow.Author.Tests.{ne-eqb}
-use Rattle.model.specs.Limits.{mostBlocks}
+use Rattle.model.specs.Limits.{mostThreads, mostBlocks}
 use Rattle.model.specs.Lists.{numbersFrom}
 use Rattle.model.specs.CaseFile.{Line, threadCount, switchCount, caseOf, linesOf}
 use Rattle.model.specs.Assignment.{assignmentOf}
@@ -26,45 +26,71 @@ use Rattle.laws.proofs.Views.{EqView, same, diff, eq-view, LtView, below, above
 use Rattle.assignment.specs.Numbers.{recordBlock}
 use Rattle.schedule.specs.Schedules.{AllCounts, withLine, lengthsIn}
 
--- The counts so far of a thread's lines by block, the lines that are left, and all its lines.
-pub record Counting (counts : List ℕ) (block : ℕ → ℕ) (rest all : List Line) : Type 0 where
-  pub places : length counts ≡ mostBlocks
-  pub each : (i : ℕ) → i < mostBlocks → getD counts i 0 + linesInBlock block i rest ≡ linesInBlock block i all
+-- The counts so far of thread t's lines by block, the lines that are left, and all its lines; the counts of the other threads stay.
+pub record Counting (counts₀ counts : List (List ℕ)) (t : ℕ) (block : ℕ → ℕ) (rest all : List Line) : Type 0 where
+  pub rows : length counts ≡ mostThreads
+  pub places : length (getD counts t []) ≡ mostBlocks
+  pub each : (i : ℕ) → i < mostBlocks → getD (getD counts t []) i 0 + linesInBlock block i rest ≡ linesInBlock block i all
+  pub others : (u : ℕ) → u ≢ t → getD counts u [] ≡ getD counts₀ u []
 
-pub counting-start : (block : ℕ → ℕ) (ls : List Line) → Counting (replicate mostBlocks 0) block ls ls
-counting-start block ls = record { places = refl; each = λ i h. omega (arith, getD-replicate {A = ℕ} mostBlocks i 0 0 h) }
+pub counting-start : {counts : List (List ℕ)} {t : ℕ} → length counts ≡ mostThreads → getD counts t [] ≡ replicate mostBlocks 0 → (block : ℕ → ℕ) (ls : List Line)
+    → Counting counts counts t block ls ls
+counting-start rows fresh block ls = record {
+  rows = rows;
+  places = rw fresh;
+  each = λ i h. rw fresh (omega (arith, getD-replicate {A = ℕ} mostBlocks i 0 0 h));
+  others = λ u n. refl;
+}
 
-pub counting-few : (counts : List ℕ) (block : ℕ → ℕ) (rest all : List Line) → Counting counts block rest all → (i : ℕ) → getD counts i 0 ≤ length all
-counting-few counts block rest all v i = go (lt-view i mostBlocks)
-  where
-    go : LtView i mostBlocks → getD counts i 0 ≤ length all
-    go (below h q) = omega (arith, v .each i h, lines-in-block-few block i all)
-    go (above h q) = omega (arith, List·getD-eq-default counts 0 {n = i} (omega (arith, v .places)))
+module _ {counts₀ counts : List (List ℕ)} {t : ℕ} {block : ℕ → ℕ} {rest all : List Line} (v : Counting counts₀ counts t block rest all) where
+  pub counting-few : (i : ℕ) → getD (getD counts t []) i 0 ≤ length all
+  counting-few i = go (lt-view i mostBlocks)
+    where
+      go : LtView i mostBlocks → getD (getD counts t []) i 0 ≤ length all
+      go (below h q) = omega (arith, v .each i h, lines-in-block-few block i all)
+      go (above h q) = omega (arith, List·getD-eq-default (getD counts t []) 0 {n = i} (omega (arith, v .places)))
 
-pub counting-more : (counts : List ℕ) (block : ℕ → ℕ) (l : Line) (rest all : List Line) → Counting counts block (l ∷ rest) all
-    → Counting (withLine counts (block (l .number))) block rest all
+pub counting-more : {counts₀ counts : List (List ℕ)} {t : ℕ} {block : ℕ → ℕ} {l : Line} {rest all : List Line} → t < mostThreads
+    → Counting counts₀ counts t block (l ∷ rest) all → Counting counts₀ (withLine counts t (block (l .number))) t block rest all
 unfolding withLine linesInBlock
-counting-more counts block l rest all v = go (lt-view b mostBlocks)
+counting-more {counts₀} {counts} {t} {block} {l} {rest} {all} few v = go (lt-view b mostBlocks)
   where
     b : ℕ
     b = block (l .number)
 
-    up : List ℕ
-    up = set counts b (getD counts b 0 + 1)
+    row : List ℕ
+    row = getD counts t []
 
-    go : LtView b mostBlocks → Counting (cond (ltb b mostBlocks) up counts) block rest all
-    go (below h q) = rw q (record { places = length-set counts b _ ∙ v .places; each = λ i few. at i few (eq-view b i) })
+    up : List ℕ
+    up = set row b (getD row b 0 + 1)
+
+    own : getD (set counts t up) t [] ≡ up
+    own = getD-set-same counts t up [] (omega (arith, v .rows))
+
+    go : LtView b mostBlocks → Counting counts₀ (cond (ltb b mostBlocks) (set counts t up) counts) t block rest all
+    go (below h q) = rw q (record {
+      rows = length-set counts t up ∙ v .rows;
+      places = rw own (length-set row b _ ∙ v .places);
+      each = λ i under. rw own (at i under (eq-view b i));
+      others = λ u n. getD-set-other counts t u up [] n ∙ v .others u n;
+    })
       where
         at : (i : ℕ) → i < mostBlocks → EqView b i → getD up i 0 + linesInBlock block i rest ≡ linesInBlock block i all
-        at i few (same e s) =
-            let raised : getD up i 0 ≡ getD counts i 0 + 1 = rw (← e) (getD-set-same counts b (getD counts b 0 + 1) 0 (omega (arith, v .places))) in
-            omega (arith, raised, rw s at (v .each i few))
-        at i few (diff n s) = omega (arith, getD-set-other counts b i (getD counts b 0 + 1) 0 (λ z. n (sym z)), rw s at (v .each i few))
-    go (above h q) = rw q (record { places = v .places; each = λ i few. omega (arith, rw (ne-eqb b i (λ e. omega (arith, e))) at (v .each i few)) })
+        at i under (same e s) =
+            let raised : getD up i 0 ≡ getD row i 0 + 1 = rw (← e) (getD-set-same row b (getD row b 0 + 1) 0 (omega (arith, v .places))) in
+            omega (arith, raised, rw s at (v .each i under))
+        at i under (diff n s) = omega (arith, getD-set-other row b i (getD row b 0 + 1) 0 (λ z. n (sym z)), rw s at (v .each i under))
+    go (above h q) = rw q (record {
+      rows = v .rows;
+      places = v .places;
+      each = λ i under. omega (arith, rw (ne-eqb b i (λ e. omega (arith, e))) at (v .each i under));
+      others = v .others;
+    })
 
-pub counting-end : (counts : List ℕ) (block : ℕ → ℕ) (all : List Line) → Counting counts block [] all → (i : ℕ) → i < mostBlocks → getD counts i 0 ≡ linesInBlock block i all
+pub counting-end : {counts₀ counts : List (List ℕ)} {t : ℕ} {block : ℕ → ℕ} {all : List Line} → Counting counts₀ counts t block [] all
+    → (i : ℕ) → i < mostBlocks → getD (getD counts t []) i 0 ≡ linesInBlock block i all
 unfolding linesInBlock
-counting-end counts block all v i h = omega (arith, v .each i h)
+counting-end v i h = omega (arith, v .each i h)
 
 -- The thread of the next block: the next one, or thread 0 after the last.
 module _ (i : ℕ) {t many : ℕ} (few : t < many) (e : t ≡ i % many) where

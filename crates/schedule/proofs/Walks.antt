@@ -6,9 +6,8 @@ use Prim.Native.Nat.{ℕ, _+_, _-_, _≤_, _<_}
 use mathlib.Core.Bool.{Bool, true, false, cond}
 use mathlib.Core.List.{List, [], _∷_, _++_}
 use native.Mathlib.Omega.{arith}
-use lib.ListN.{getD, set, length, replicate, length-set}
-use lib.Seq.{getD-set-same, getD-set-other}
-use Rattle.model.specs.Limits.{mostThreads, mostLines, mostBlocks, localCount}
+use lib.ListN.{getD, set, length, replicate, getD-replicate}
+use Rattle.model.specs.Limits.{mostThreads, mostBlocks, localCount}
 use Rattle.model.specs.CaseFile.{Line, records, threadCount, globalCount, firstRecord, nextRecord, lineOf, chains, caseOf}
 use Rattle.model.specs.Line.{guardName, targetName, guardTrue, isInput}
 use Rattle.model.specs.Machine.{putLocal}
@@ -16,7 +15,7 @@ use Rattle.model.specs.Assignment.{assignmentOf}
 use Rattle.model.specs.Copies.{readsAfter}
 use Rattle.model.specs.Schedule.{decodedValues, allDecodedValues}
 use Rattle.laws.specs.Accepted.{Accepted, linesFrom, threadLines}
-use Rattle.laws.specs.Written.{Put}
+use Rattle.laws.specs.Written.{Put, RoomFor}
 use Rattle.laws.proofs.Following.{lines-end, lines-more, next-low, lines-less, chains-more, chains-end}
 use Rattle.laws.proofs.Lines.{few-lines-from}
 use Rattle.laws.proofs.Views.{EqView, same, diff, eq-view}
@@ -25,8 +24,7 @@ use Rattle.case_file.specs.declared.Record.{Record}
 use Rattle.case_file.specs.Records.{recordOf, asLine}
 use Rattle.line.proofs.KindNumbers.{kind-4, input-other}
 use Rattle.assignment.specs.Numbers.{recordBlock, recordValue}
-use Rattle.schedule.specs.Schedules.{valuesOf, threadValues, CountsOf, ThreadWritten, AllWritten, withLine, inputNumber, ownNumbers}
-use Rattle.schedule.specs.declared.Walked.{Walked}
+use Rattle.schedule.specs.Schedules.{valuesOf, threadValues, CountsOf, ThreadToWrite, ThreadWritten, AllWritten, FewCounted, withLine, inputNumber, ownNumbers}
 use Rattle.schedule.proofs.Locals.{LocalsAre, locals-start, locals-step, guard-same}
 use Rattle.schedule.proofs.Counts.{Counting, counting-start, counting-few, counting-more, counting-end}
 
@@ -37,26 +35,27 @@ valuesFrom bytes xs t earlier k = decodedValues (caseOf bytes) (assignmentOf (ca
 abbrev threadsFrom : List ℕ → List ℕ → ℕ → List ℕ
 threadsFrom bytes xs t = allDecodedValues (caseOf bytes) (assignmentOf (caseOf bytes) xs) (chains bytes t (threadCount bytes - t))
 
--- Before record k of thread t: the slice and the place so far, the locals and the counts; the slice and the place at the start.
-pub record Walk (bytes xs : List ℕ) (t : ℕ) (before : List ℕ) (start : ℕ) (out : List ℕ) (at : ℕ) (locals counts : List ℕ) (k : ℕ) : Type 0 where
+-- Before record k of thread t: the slice and the place so far, the locals and the counts; the slice, the place and the counts at the
+-- start.
+pub record Walk (bytes xs : List ℕ) (t : ℕ) (before : List ℕ) (start : ℕ) (counts₀ : List (List ℕ)) (out : List ℕ) (at : ℕ) (locals : List ℕ) (counts : List (List ℕ)) (k : ℕ) : Type 0 where
   pub ok : Accepted bytes
   pub thread : t < threadCount bytes
   pub within : k ≤ records bytes
   pub earlier : List Line
   pub held : LocalsAre (caseOf bytes) xs locals earlier
   pub writing : Writing (threadValues bytes xs t) before start out at (valuesFrom bytes xs t earlier k)
-  pub counting : Counting counts (recordBlock xs) (linesFrom bytes t k) (threadLines bytes t)
+  pub counting : Counting counts₀ counts t (recordBlock xs) (linesFrom bytes t k) (threadLines bytes t)
 
-pub walk-start : {bytes xs : List ℕ} {t : ℕ} {before : List ℕ} {start k : ℕ} → Accepted bytes → t < threadCount bytes → k ≡ firstRecord bytes t
-    → Walk bytes xs t before start before start (replicate localCount 0) (replicate mostBlocks 0) k
-walk-start {bytes} {xs} {t} {before} {start} {k} ok thread e = record {
-  ok = ok;
-  thread = thread;
-  within = rw e (ok .firsts t thread);
+pub walk-start : {bytes xs : List ℕ} {t : ℕ} {before : List ℕ} {start : ℕ} {counts : List (List ℕ)} {k : ℕ} → ThreadToWrite bytes xs t start before counts
+    → k ≡ firstRecord bytes t → Walk bytes xs t before start counts before start (replicate localCount 0) counts k
+walk-start {bytes} {xs} {t} ready e = record {
+  ok = ready .fits .accepted;
+  thread = ready .fits .thread;
+  within = rw e (ready .fits .accepted .firsts t (ready .fits .thread));
   earlier = [];
   held = locals-start (caseOf bytes) xs;
   writing = writing-start (ap (valuesFrom bytes xs t []) e);
-  counting = rw e (counting-start (recordBlock xs) (threadLines bytes t));
+  counting = rw e (counting-start (ready .rows) (ready .fresh) (recordBlock xs) (threadLines bytes t));
 }
 
 -- The number of an input, and none for another line, as the code writes them.
@@ -89,17 +88,24 @@ own-and-rest bytes xs ok t k low high locals earlier are l el value ev =
     go true = ap (λ (on : Bool). cond on (recordValue xs k) 0 ∷ rest) (sym (guard-same (caseOf bytes) xs (omega (arith, ok .few-globals, ok .few-mutexes)) locals earlier are (lineOf bytes t k)))
     go false = refl
 
-module _ {bytes xs : List ℕ} {t : ℕ} {before : List ℕ} {start : ℕ} {out : List ℕ} {at : ℕ} {locals counts : List ℕ} {k : ℕ}
-    (v : Walk bytes xs t before start out at locals counts k) where
-  pub walk-few : (i : ℕ) → getD counts i 0 ≤ mostLines
-  walk-few i =
-      omega (arith, counting-few counts (recordBlock xs) _ _ (v .counting) i, few-lines-from bytes (v .ok) t (firstRecord bytes t) (v .ok .firsts t (v .thread)))
+module _ {bytes xs : List ℕ} {t : ℕ} {before : List ℕ} {start : ℕ} {counts₀ : List (List ℕ)} {out : List ℕ} {at : ℕ} {locals : List ℕ} {counts : List (List ℕ)} {k : ℕ}
+    (v : Walk bytes xs t before start counts₀ out at locals counts k) where
+  few : t < mostThreads
+  few = omega (arith, v .thread, v .ok .few-threads)
 
-  pub walk-end : k ≡ 0 → ThreadWritten bytes xs t before start out (record { at = at; counts = counts })
+  pub walk-few : (block : ℕ) → FewCounted counts t block
+  walk-few block = record {
+    thread = few;
+    few = omega (arith, counting-few (v .counting) block, few-lines-from bytes (v .ok) t (firstRecord bytes t) (v .ok .firsts t (v .thread)));
+  }
+
+  pub walk-end : k ≡ 0 → ThreadWritten bytes xs t start before out counts₀ counts at
   unfolding decodedValues
   walk-end e = record {
     values = writing-end (v .writing) (rw (lines-end bytes t k e));
-    counts = counting-end counts (recordBlock xs) _ (rw (lines-end bytes t k e) at (v .counting));
+    rows = v .counting .rows;
+    own = counting-end (rw (lines-end bytes t k e) at (v .counting));
+    others = v .counting .others;
   }
 
   module _ (low : k ≢ 0) where
@@ -113,9 +119,9 @@ module _ {bytes xs : List ℕ} {t : ℕ} {before : List ℕ} {start : ℕ} {out 
       pub walk-room : start + length (threadValues bytes xs t) ≤ length before → at + length (ownNumbers l locals value) ≤ length out
       walk-room room = writing-room (v .writing) (ownNumbers l locals value) (valuesFrom bytes xs t (lineOf bytes t k ∷ v .earlier) (nextRecord bytes k)) go-on room
 
-      pub walk-more : {out' : List ℕ} {at' : ℕ} {locals' counts' : List ℕ} {globals name block next : ℕ} → Put (ownNumbers l locals value) out at out' at'
+      pub walk-more : {out' : List ℕ} {at' : ℕ} {locals' : List ℕ} {counts' : List (List ℕ)} {globals name block next : ℕ} → Put (ownNumbers l locals value) out at out' at'
           → globals ≡ globalCount bytes → ((j : ℕ) → name ≡ targetName globals (asLine l j)) → locals' ≡ putLocal true name value locals
-          → block ≡ recordBlock xs k → counts' ≡ withLine counts block → next ≡ nextRecord bytes k → Walk bytes xs t before start out' at' locals' counts' next
+          → block ≡ recordBlock xs k → counts' ≡ withLine counts t block → next ≡ nextRecord bytes k → Walk bytes xs t before start counts₀ out' at' locals' counts' next
       walk-more put eg en elocals eb ecounts ek = record {
         ok = v .ok;
         thread = v .thread;
@@ -123,8 +129,7 @@ module _ {bytes xs : List ℕ} {t : ℕ} {before : List ℕ} {start : ℕ} {out 
         earlier = lineOf bytes t k ∷ v .earlier;
         held = rw (elocals, en k, eg, el, ev) (locals-step (caseOf bytes) xs locals (v .earlier) (v .held) (lineOf bytes t k) (omega arith));
         writing = rw ek (writing-more (v .writing) go-on put);
-        counting = rw (ecounts, eb, ek)
-            (counting-more counts (recordBlock xs) (lineOf bytes t k) _ _ (rw (lines-more bytes (v .ok) t k low (v .within)) at (v .counting)));
+        counting = rw (ecounts, eb, ek) (counting-more few (rw (lines-more bytes (v .ok) t k low (v .within)) at (v .counting)));
       }
 
 -- Before thread t: the slice and the place so far, and the counts of the threads before it; the slice and the place at the start.
@@ -132,31 +137,47 @@ pub record Threads (bytes xs before : List ℕ) (start : ℕ) (out : List ℕ) (
   pub writing : Writing (valuesOf bytes xs) before start out at (threadsFrom bytes xs t)
   pub rows : length counts ≡ mostThreads
   pub counted : (u : ℕ) → u < t → CountsOf bytes xs u (getD counts u [])
+  pub fresh : (u : ℕ) → t ≤ u → u < mostThreads → getD counts u [] ≡ replicate mostBlocks 0
 
 pub threads-start : {bytes xs before : List ℕ} {start : ℕ} → Threads bytes xs before start before start (replicate mostThreads (replicate mostBlocks 0)) 0
-threads-start {bytes} {xs} {before} {start} =
+threads-start {bytes} =
     let all : threadCount bytes - 0 ≡ threadCount bytes = omega arith in
-    record { writing = writing-start (rw all); rows = refl; counted = λ u under. absurd (omega arith) }
+    record {
+      writing = writing-start (rw all);
+      rows = refl;
+      counted = λ u under. absurd (omega arith);
+      fresh = λ u from under. getD-replicate mostThreads u (replicate mostBlocks 0) [] under;
+    }
 
 module _ {bytes xs before : List ℕ} {start : ℕ} {out : List ℕ} {at : ℕ} {counts : List (List ℕ)} {t : ℕ} (v : Threads bytes xs before start out at counts t) where
-  threads-go-on : t < threadCount bytes → threadsFrom bytes xs t ≡ threadValues bytes xs t ++ threadsFrom bytes xs (t + 1)
-  unfolding allDecodedValues
-  threads-go-on h = rw (chains-more bytes t (threadCount bytes) h)
+  module _ (h : t < threadCount bytes) where
+    threads-go-on : threadsFrom bytes xs t ≡ threadValues bytes xs t ++ threadsFrom bytes xs (t + 1)
+    unfolding allDecodedValues
+    threads-go-on = rw (chains-more bytes t (threadCount bytes) h)
 
-  pub threads-room : t < threadCount bytes → start + length (valuesOf bytes xs) ≤ length before → at + length (threadValues bytes xs t) ≤ length out
-  threads-room h room = writing-room (v .writing) (threadValues bytes xs t) (threadsFrom bytes xs (t + 1)) (threads-go-on h) room
+    pub threads-next : RoomFor bytes (start + length (valuesOf bytes xs)) before → ThreadToWrite bytes xs t at out counts
+    threads-next fits = record {
+      fits = record {
+        accepted = fits .accepted;
+        thread = h;
+        room = writing-room (v .writing) (threadValues bytes xs t) (threadsFrom bytes xs (t + 1)) threads-go-on (fits .room);
+      };
+      rows = v .rows;
+      fresh = v .fresh t (omega arith) (omega (arith, fits .accepted .few-threads));
+    }
 
-  pub threads-more : {out' : List ℕ} {r : Walked} → t < threadCount bytes → t < mostThreads → ThreadWritten bytes xs t out at out' r
-      → Threads bytes xs before start out' (r .at) (set counts t (r .counts)) (t + 1)
-  threads-more {r = r} h few written = record {
-    writing = writing-more (v .writing) (threads-go-on h) (written .values);
-    rows = length-set counts t (r .counts) ∙ v .rows;
-    counted = λ u under. row u under (eq-view t u);
-  }
-    where
-      row : (u : ℕ) → u < t + 1 → EqView t u → CountsOf bytes xs u (getD (set counts t (r .counts)) u [])
-      row u under (same e s) = rw (← e, getD-set-same counts t (r .counts) [] (omega (arith, v .rows))) (written .counts)
-      row u under (diff n s) = rw (getD-set-other counts t u (r .counts) [] (λ z. n (sym z))) (v .counted u (omega arith))
+    pub threads-more : {out' : List ℕ} {counts' : List (List ℕ)} {r : ℕ} → ThreadWritten bytes xs t at out out' counts counts' r
+        → Threads bytes xs before start out' r counts' (t + 1)
+    threads-more {counts' = counts'} written = record {
+      writing = writing-more (v .writing) threads-go-on (written .values);
+      rows = written .rows;
+      counted = λ u under. row u under (eq-view t u);
+      fresh = λ u from under. written .others u (λ z. omega arith) ∙ v .fresh u (omega arith) under;
+    }
+      where
+        row : (u : ℕ) → u < t + 1 → EqView t u → CountsOf bytes xs u (getD counts' u [])
+        row u under (same e s) = rw (← e) (written .own)
+        row u under (diff n s) = rw (written .others u (λ z. n (sym z))) (v .counted u (omega arith))
 
   pub threads-end : threadCount bytes ≤ t → AllWritten bytes xs before start out counts
   unfolding allDecodedValues

@@ -1,18 +1,18 @@
 // The schedule of an assignment: how many numbers it has, and its numbers, written into a lent slice.
 ghost use mathlib.Core.Path.{_≡_};
 ghost use Prim.Native.Nat.{ℕ, _+_, _%_, _≤_, _<_};
-ghost use lib.ListN.{length, getD};
+ghost use lib.ListN.{length};
 ghost use Rattle.model.specs.Word.{bit};
-ghost use Rattle.model.specs.Limits.{mostLines, mostScheduleNumbers};
+ghost use Rattle.model.specs.Limits.{mostScheduleNumbers};
 ghost use Rattle.model.specs.Lists.{writtenOver};
 ghost use Rattle.model.specs.CaseFile.{kindOf, switchCount, caseOf};
 ghost use Rattle.model.specs.Line.{isInput};
 ghost use Rattle.model.specs.Schedule.{scheduleSize};
 ghost use Rattle.laws.specs.Accepted.{Accepted};
 ghost use Rattle.laws.specs.Bounded.{Bounded};
-ghost use Rattle.laws.specs.Written.{numbersAt, Put, RoomFor, ThreadRoom};
-ghost use Rattle.schedule.specs.Schedules.{scheduleOf, valuesOf, threadValues, lengthsIn, withLine, inputNumber, ownNumbers};
-ghost use Rattle.schedule.specs.Schedules.{ThreadWritten, AllWritten};
+ghost use Rattle.laws.specs.Written.{numbersAt, Put, RoomFor};
+ghost use Rattle.schedule.specs.Schedules.{scheduleOf, valuesOf, lengthsIn, withLine, inputNumber, ownNumbers};
+ghost use Rattle.schedule.specs.Schedules.{FewCounted, ThreadToWrite, ThreadWritten, AllWritten};
 use assignment::block_of;
 use assignment::value_of;
 use case_file::Record;
@@ -94,14 +94,14 @@ fn write_lengths(case: &[u8], schedule: &mut [u16], counts: &[[u16; BLOCKS]; THR
     }
 }
 
-// One more line is in a block; what is no block changes nothing.
-fn count_line(counts: &mut [u16; BLOCKS], block: u16)
-    requires { ⌜ getD (now counts) block 0 ≤ mostLines ⌝ }
-    ensures { λ r. ⌜ now (counts .exit) ≡ withLine (now (counts .entry)) block ⌝ }
+// One more line of thread t is in a block; what is no block changes nothing.
+fn count_line(counts: &mut [[u16; BLOCKS]; THREADS], t: usize, block: u16)
+    requires { ⌜ FewCounted (now counts) t block ⌝ }
+    ensures { λ r. ⌜ now (counts .exit) ≡ withLine (now (counts .entry)) t block ⌝ }
 {
     let i = block as usize;
     if i < BLOCKS {
-        counts[i] += 1;
+        counts[t][i] += 1;
     }
 }
 
@@ -133,26 +133,20 @@ fn put_number(
     }
 }
 
-// What a walk over a thread's lines gives: the place after its input values, and how many lines each block has.
-struct Walked {
-    at: usize,
-    counts: [u16; BLOCKS],
-}
-
-// The values of thread t's input lines, from a place on; its lines are counted by block on the way.
+// The values of thread t's input lines, from a place on; its lines are counted by block on the way. The place after them.
 fn write_values(
     case: &[u8],
     assignment: &[u16],
     schedule: &mut [u16],
+    counts: &mut [[u16; BLOCKS]; THREADS],
     start: usize,
     t: u16,
-) -> Walked
-    requires { ⌜ ThreadRoom (now case) t (start + length (threadValues (now case) (now assignment) t)) (now schedule) ⌝ }
-    ensures { λ r. ⌜ ThreadWritten (now (case .entry)) (now (assignment .entry)) t (now (schedule .entry)) start (now (schedule .exit)) r ⌝ }
+) -> usize
+    requires { ⌜ ThreadToWrite (now case) (now assignment) t start (now schedule) (now counts) ⌝ }
+    ensures { λ r. ⌜ ThreadWritten (now (case .entry)) (now (assignment .entry)) t start (now (schedule .entry)) (now (schedule .exit)) (now (counts .entry)) (now (counts .exit)) r ⌝ }
 {
     let many = globals(case) as usize;
     let mut locals = [0u16; LOCALS];
-    let mut counts = [0u16; BLOCKS];
     let mut at = start;
     let mut k = first_of(case, t as usize);
     while k != 0 {
@@ -161,10 +155,10 @@ fn write_values(
         let value = value_of(assignment, number);
         at = put_number(schedule, at, l, &locals, value);
         put_local(&mut locals, target_name(many, l), value);
-        count_line(&mut counts, block_of(assignment, number));
+        count_line(counts, t as usize, block_of(assignment, number));
         k = next_of(case, k);
     }
-    Walked { at, counts }
+    at
 }
 
 // The values of all input lines, by thread and then by chain, from a place on; how many lines of each thread each block has.
@@ -182,10 +176,7 @@ fn write_all_values(
     let mut at = start;
     let mut t = 0u16;
     while t < many {
-        let walked = write_values(case, assignment, schedule, at, t);
-        let own = walked.counts;
-        counts[t as usize] = own;
-        at = walked.at;
+        at = write_values(case, assignment, schedule, &mut counts, at, t);
         t += 1;
     }
     counts

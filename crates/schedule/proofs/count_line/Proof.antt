@@ -10,14 +10,23 @@ use Rattle.schedule.proofs.count_line.Tie as tie
 mul-counts : tie.Need-mul-counts
 mul-counts c = search needs
 
-element-copy-out-counts : tie.Need-element-copy-out-counts
-element-copy-out-counts c = search needs
+mul-counts-2 : tie.Need-mul-counts-2
+mul-counts-2 c = search needs
+
+index-1-counts : tie.Need-index-1-counts
+index-1-counts c = search needs
+
+index-2-counts : tie.Need-index-2-counts
+index-2-counts c = search needs
 
 add-counts : tie.Need-add-counts
 add-counts c = search needs
 
-element-write-counts : tie.Need-element-write-counts
-element-write-counts c = search needs
+index-1-counts-2 : tie.Need-index-1-counts-2
+index-1-counts-2 c = search needs
+
+index-2-counts-2 : tie.Need-index-2-counts-2
+index-2-counts-2 c = search needs
 
 returns : tie.Need-returns
 unfolding withLine
@@ -30,4 +39,13 @@ returns-2 c = rw (le-ltb (c .before .args .block) mostBlocks (omega arith))
 pub count-line-spec : {M : Type 1} → statement M
 count-line-spec =
     tie.close
-    (tie.spec mul-counts element-copy-out-counts add-counts element-write-counts returns returns-2)
+    (tie.spec
+    mul-counts
+    mul-counts-2
+    index-1-counts
+    index-2-counts
+    add-counts
+    index-1-counts-2
+    index-2-counts-2
+    returns
+    returns-2)

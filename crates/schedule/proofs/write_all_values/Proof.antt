@@ -2,7 +2,7 @@
 use native.Mathlib.Omega.{arith}
 use borrow.Author.Needs.{needs}
 use Prim.Native.Nat.{_-_}
-use Rattle.schedule.proofs.Walks.{Threads, threads-start, threads-room, threads-more, threads-end}
+use Rattle.schedule.proofs.Walks.{Threads, threads-start, threads-next, threads-more, threads-end}
 use Rattle.schedule.proofs.write_all_values.Statement.{statement}
 use Rattle.schedule.proofs.write_all_values.Tie as tie
 
@@ -19,16 +19,7 @@ loop-holds : tie.Need-loop-holds Inv-loop μ-loop
 loop-holds c = threads-start
 
 write-values-requires : tie.Need-write-values-requires Inv-loop μ-loop
-write-values-requires c κs = let room = threads-room (c .before .before .loop .inv) (omega (arith, c .before .before .before .threads .ensures)) (c .before .before .before .before .before .before .before .pre .room) in search needs
-
-cast-counts : tie.Need-cast-counts Inv-loop μ-loop
-cast-counts c = search needs
-
-mul-counts : tie.Need-mul-counts Inv-loop μ-loop
-mul-counts c = search needs
-
-array-set-from-counts : tie.Need-array-set-from-counts Inv-loop μ-loop
-array-set-from-counts c = search needs
+write-values-requires c κs = threads-next (c .before .before .before .loop .inv) (omega (arith, c .before .before .loop-test .taken, c .before .before .before .before .threads .ensures)) (c .before .before .before .before .before .before .before .before .pre)
 
 add-t : tie.Need-add-t Inv-loop μ-loop
 add-t c = search needs
@@ -37,15 +28,13 @@ loop-less : tie.Need-loop-less Inv-loop μ-loop
 loop-less c = omega arith
 
 loop-again : tie.Need-loop-again Inv-loop μ-loop
-loop-again c =
-    threads-more (c .before .before .before .before .before .before .loop .inv) (omega (arith, c .before .before .before .before .before .before .before .threads .ensures)) (omega (arith, c .before .before .before .before .before .before .before .threads .ensures, c .before .before .before .before .before .before .before .before .before .before .before .pre .accepted .few-threads))
-    (c .before .before .before .write-values .ensures)
+loop-again c = threads-more (c .before .before .before .before .before .before .loop .inv) (omega (arith, c .before .before .before .before .before .loop-test .taken, c .before .before .before .before .before .before .before .threads .ensures)) (c .before .before .write-values .ensures)
 
 same-length : tie.Need-same-length Inv-loop μ-loop
 same-length c = c .before .loop .inv .writing .same
 
 returns : tie.Need-returns Inv-loop μ-loop
-returns c = threads-end (c .before .loop .inv) (omega (arith, c .before .before .threads .ensures))
+returns c = threads-end (c .before .loop .inv) (omega (arith, c .loop-test .left, c .before .before .threads .ensures))
 
 pub write-all-values-spec : {M : Type 1} → statement M
 write-all-values-spec =
@@ -56,9 +45,6 @@ write-all-values-spec =
     threads-requires
     loop-holds
     write-values-requires
-    cast-counts
-    mul-counts
-    array-set-from-counts
     add-t
     loop-less
     loop-again

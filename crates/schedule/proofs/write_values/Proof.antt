@@ -8,10 +8,10 @@ use Rattle.schedule.proofs.write_values.Statement.{statement}
 use Rattle.schedule.proofs.write_values.Tie as tie
 
 abbrev Inv-loop : tie.InvT-loop
-Inv-loop case assignment schedule₀ start t many locals₀ counts₀ at₀ k₀ schedule locals counts at k = Walk case assignment t schedule₀ start schedule at locals counts k
+Inv-loop case assignment schedule₀ counts₀ start t many locals₀ at₀ k₀ schedule counts locals at k = Walk case assignment t schedule₀ start counts₀ schedule at locals counts k
 
 abbrev μ-loop : tie.MeasureT-loop
-μ-loop case assignment schedule₀ start t many locals₀ counts₀ at₀ k₀ schedule locals counts at k = length (linesFrom case t k)
+μ-loop case assignment schedule₀ counts₀ start t many locals₀ at₀ k₀ schedule counts locals at k = length (linesFrom case t k)
 
 globals-requires : tie.Need-globals-requires Inv-loop μ-loop
 globals-requires c κs = search needs
@@ -23,7 +23,7 @@ first-of-requires : tie.Need-first-of-requires Inv-loop μ-loop
 first-of-requires c κs = search needs
 
 loop-holds : tie.Need-loop-holds Inv-loop μ-loop
-loop-holds c = walk-start (c .before .before .before .before .before .pre .accepted) (c .before .before .before .before .before .pre .thread) (c .first-of .ensures)
+loop-holds c = walk-start (c .before .before .before .before .before .pre) (c .first-of .ensures)
 
 record-at-requires : tie.Need-record-at-requires Inv-loop μ-loop
 record-at-requires c κs = search needs
@@ -35,7 +35,7 @@ value-of-requires : tie.Need-value-of-requires Inv-loop μ-loop
 value-of-requires c κs = search needs
 
 put-number-requires : tie.Need-put-number-requires Inv-loop μ-loop
-put-number-requires c κs = walk-room (c .before .before .before .before .before .loop .inv) (c .before .before .before .before .loop-test .taken) (c .before .before .before .record-at .ensures) (c .before .before .value-of .ensures) (c .before .before .before .before .before .before .before .before .before .before .before .pre .room)
+put-number-requires c κs = walk-room (c .before .before .before .before .before .loop .inv) (c .before .before .before .before .loop-test .taken) (c .before .before .before .record-at .ensures) (c .before .before .value-of .ensures) (c .before .before .before .before .before .before .before .before .before .before .before .pre .fits .room)
 
 target-name-requires : tie.Need-target-name-requires Inv-loop μ-loop
 target-name-requires c κs = search needs
