@@ -30,8 +30,8 @@ use Rattle.correspondence.proofs.Endings.{AddsUp, adds-up-of-finished}
 abbrev pub eventsOf : Case → List ℕ → List Event
 eventsOf case schedule = events case (givenIn case schedule) 0 (blockLengths case schedule) (start case)
 
-abbrev pub itemsOf : Case → List ℕ → List (List ℕ)
-itemsOf case schedule = snapshots case (givenIn case schedule) 0 (blockLengths case schedule) (start case)
+abbrev pub snapshotsOf : Case → List ℕ → List (List ℕ)
+snapshotsOf case schedule = snapshots case (givenIn case schedule) 0 (blockLengths case schedule) (start case)
 
 abbrev pub FinishesRun : Case → List ℕ → Type 0
 FinishesRun case schedule = Finishes case (givenIn case schedule) 0 (blockLengths case schedule) (start case)
@@ -61,7 +61,7 @@ module _ (case : Case) (wf : WellFormed case) where
 
   -- An assignment that meets constraints 1 to 6 decodes to a complete legal run that has its numbers.
   pub run-of-meets : (α : Assignment) → Meets case α
-      → FinishesRun case (decode case α) × Agrees α (eventsOf case (decode case α)) × AgreesItems case α 0 (itemsOf case (decode case α))
+      → FinishesRun case (decode case α) × Agrees α (eventsOf case (decode case α)) × AgreesItems case α 0 (snapshotsOf case (decode case α))
       × (breakCount case α ≡ brokenIn (eventsOf case (decode case α)))
   run-of-meets α m = sound case wf α (blockLengths case (decode case α)) (givenIn case (decode case α)) m (decodes-to-own α)
 
@@ -76,7 +76,7 @@ module _ (case : Case) (wf : WellFormed case) where
     all-values : length (inputValues case schedule) ≡ length (allInputLines (case .threads))
     all-values = omega (arith, length-drop (suc (case .n)) schedule, sized)
 
-    filled-agrees : Agrees filled (eventsOf case schedule) × AgreesItems case filled 0 (itemsOf case schedule)
+    filled-agrees : Agrees filled (eventsOf case schedule) × AgreesItems case filled 0 (snapshotsOf case schedule)
     unfolding fill
     filled-agrees =
         let α = tracedRun case (blockLengths case schedule) (givenIn case schedule) in
@@ -86,7 +86,7 @@ module _ (case : Case) (wf : WellFormed case) where
               let own = record-of-numbers case α k (w .some) (w .low) in
               (sym (own .0), sym (own .1)))
               (agrees .0),
-          items-transfer α filled case 0 (itemsOf case schedule) (λ i g hi hg. sym (block-value-of-numbers case α i g hi hg)) (agrees .1),
+          items-transfer α filled case 0 (snapshotsOf case schedule) (λ i g hi hg. sym (block-value-of-numbers case α i g hi hg)) (agrees .1),
         )
 
     -- The filled assignment of a complete legal run meets constraints 1 to 6,

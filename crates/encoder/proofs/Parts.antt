@@ -22,7 +22,7 @@ use Rattle.laws.proofs.Writing.{numbers-from-start, put-then}
 use Rattle.copies.specs.Held.{copyIn, Held}
 use Rattle.copies.proofs.Held.{held-last}
 use Rattle.encoder.proofs.Series.{Series, Going, going-more, going-end}
-use Rattle.encoder.specs.Parts.{orderNumbers, allOrderNumbers, valueNumbers, allValueNumbers, itemNumbers, blockNumbers, runNumbers, tableNumbers}
+use Rattle.encoder.specs.Parts.{orderNumbers, allOrderNumbers, valueNumbers, allValueNumbers, itemNumbers, allItemNumbers, runNumbers, tableNumbers}
 use Rattle.encoder.specs.Writers.{PutCopies}
 
 module _ (bytes : List ℕ) where
@@ -85,8 +85,8 @@ module _ (bytes : List ℕ) where
   unfoldable pub blocksFrom : ℕ → ℕ → List ℕ
   blocksFrom to i = numbersOf (blockRows (caseOf bytes) i (to - i))
 
-  pub blocks-all : (to : ℕ) → to ≡ switchCount bytes → blocksFrom to 0 ≡ blockNumbers bytes
-  unfolding blocksFrom blockNumbers
+  pub blocks-all : (to : ℕ) → to ≡ switchCount bytes → blocksFrom to 0 ≡ allItemNumbers bytes
+  unfolding blocksFrom allItemNumbers
   blocks-all to e = let z : to - 0 ≡ switchCount bytes = omega arith in rw z
 
   pub blocks-more : (to i : ℕ) → i < to → blocksFrom to i ≡ itemNumbers bytes i ++ blocksFrom to (i + 1)
@@ -141,24 +141,24 @@ module _ (bytes : List ℕ) where
       rw (← last, ← eT, ← ec, ← ew) (record { slice = ea; place = omega (arith, six-a-row (w ∷ [])) })
 
   -- All rows but the goal.
-  pub run-parts : runNumbers bytes ≡ allOrderNumbers bytes ++ (allValueNumbers bytes ++ blockNumbers bytes)
-  unfolding runNumbers allOrderNumbers allValueNumbers blockNumbers runRows
+  pub run-parts : runNumbers bytes ≡ allOrderNumbers bytes ++ (allValueNumbers bytes ++ allItemNumbers bytes)
+  unfolding runNumbers allOrderNumbers allValueNumbers allItemNumbers runRows
   run-parts =
       numbers-of-append (allOrderRows (caseOf bytes) 0 (caseOf bytes .threads)) (allValueRows (caseOf bytes) (caseOf bytes .threads) ++ blockRows (caseOf bytes) 0 (switchCount bytes))
       ∙ ap (λ (xs : List ℕ). numbersOf (allOrderRows (caseOf bytes) 0 (caseOf bytes .threads)) ++ xs)
       (numbers-of-append (allValueRows (caseOf bytes) (caseOf bytes .threads)) (blockRows (caseOf bytes) 0 (switchCount bytes)))
 
-  pub run-size : length (runNumbers bytes) ≡ length (allOrderNumbers bytes) + length (allValueNumbers bytes) + length (blockNumbers bytes)
+  pub run-size : length (runNumbers bytes) ≡ length (allOrderNumbers bytes) + length (allValueNumbers bytes) + length (allItemNumbers bytes)
   run-size =
       omega (
         arith,
         ap length run-parts,
-        length-append (allOrderNumbers bytes) (allValueNumbers bytes ++ blockNumbers bytes),
-        length-append (allValueNumbers bytes) (blockNumbers bytes),
+        length-append (allOrderNumbers bytes) (allValueNumbers bytes ++ allItemNumbers bytes),
+        length-append (allValueNumbers bytes) (allItemNumbers bytes),
       )
 
   pub run-written :
-      {d a b c : List ℕ} {p q r : ℕ} → Put (allOrderNumbers bytes) d 0 a p → Put (allValueNumbers bytes) a p b q → Put (blockNumbers bytes) b q c r
+      {d a b c : List ℕ} {p q r : ℕ} → Put (allOrderNumbers bytes) d 0 a p → Put (allValueNumbers bytes) a p b q → Put (allItemNumbers bytes) b q c r
       → Put (runNumbers bytes) d 0 c r
   run-written orders values blocks = rw run-parts (put-then orders (put-then values blocks))
 

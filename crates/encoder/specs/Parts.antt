@@ -24,8 +24,8 @@ allValueNumbers bytes = numbersOf (allValueRows (caseOf bytes) (caseOf bytes .th
 unfoldable pub itemNumbers : List ℕ → ℕ → List ℕ
 itemNumbers bytes i = numbersOf (itemRows (caseOf bytes) (reverse (linesOf (caseOf bytes) (i % threadCount bytes))) i 0 (itemCount (caseOf bytes)))
 
-unfoldable pub blockNumbers : List ℕ → List ℕ
-blockNumbers bytes = numbersOf (blockRows (caseOf bytes) 0 (switchCount bytes))
+unfoldable pub allItemNumbers : List ℕ → List ℕ
+allItemNumbers bytes = numbersOf (blockRows (caseOf bytes) 0 (switchCount bytes))
 
 -- All rows but the goal, and all rows.
 unfoldable pub runNumbers : List ℕ → List ℕ

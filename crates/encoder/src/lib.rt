@@ -11,7 +11,7 @@ ghost use Rattle.model.specs.Answers.{encoded, encodedInto};
 ghost use Rattle.model.specs.declared.Verdict.the-variants as verdicts;
 ghost use Rattle.laws.specs.Accepted.{Accepted};
 ghost use Rattle.laws.specs.Written.{Put, RoomFor, ThreadRoom};
-ghost use Rattle.encoder.specs.Parts.{orderNumbers, allOrderNumbers, valueNumbers, allValueNumbers, itemNumbers, blockNumbers, runNumbers, tableNumbers};
+ghost use Rattle.encoder.specs.Parts.{orderNumbers, allOrderNumbers, valueNumbers, allValueNumbers, itemNumbers, allItemNumbers, runNumbers, tableNumbers};
 ghost use Rattle.encoder.specs.Writers.{CopiesRoom, ThreadCopiesRoom, PutCopies, Answered};
 use accept::accept;
 use case_file::Link;
@@ -198,8 +198,8 @@ fn write_blocks(
     start: usize,
     latest: &[[u16; NAMES]; THREADS],
 ) -> usize
-    requires { ⌜ CopiesRoom (now case) (now latest) (threadCount (now case)) (start + length (blockNumbers (now case))) (now table) ⌝ }
-    ensures { λ r. ⌜ Put (blockNumbers (now (case .entry))) (now (table .entry)) start (now (table .exit)) r ⌝ }
+    requires { ⌜ CopiesRoom (now case) (now latest) (threadCount (now case)) (start + length (allItemNumbers (now case))) (now table) ⌝ }
+    ensures { λ r. ⌜ Put (allItemNumbers (now (case .entry))) (now (table .entry)) start (now (table .exit)) r ⌝ }
 {
     let last = switches(case);
     let mut at = start;

@@ -12,7 +12,7 @@ use Rattle.model.specs.Machine.{look}
 use Rattle.laws.proofs.Views.{EqView, same, diff, eq-view}
 use Rattle.case_file.specs.declared.Record.{Record}
 use Rattle.case_file.specs.Records.{asLine}
-use Rattle.line.specs.LineReads.{memory, readsAt}
+use Rattle.line.specs.LineReads.{memory, readsFrom}
 
 -- Operands of a kind with an expression are locals; op 0 has no operand b.
 name-a : (κ : Kind) (a : ℕ) → hasExpression κ ≡ true → nameOfA κ a ≡ localName a
@@ -48,7 +48,7 @@ module _ (G count given : ℕ) (locals items : List ℕ) (l : Record) (k : ℕ) 
 
   pub expression-is : (x y r : ℕ) → x ≡ operandValue (l .a) (l .c) (value (localName (l .a)))
       → y ≡ operandValue (l .b) (l .c) (value (localName (l .b))) → r ≡ apply (l .op) x y
-      → r ≡ expression (asLine l k) (readsAt G count given locals items (asLine l k))
+      → r ≡ expression (asLine l k) (readsFrom G count given locals items (asLine l k))
   unfolding expression
   expression-is x y r is-x is-y is-r =
       is-r

@@ -13,7 +13,7 @@ pub record Few (counts : Counts) : Type 0 where
   pub items : counts .items ≤ mostItems
 
 -- Those of this case.
-pub record CountsOf (bytes : List ℕ) (counts : Counts) : Type 0 where
+pub record HasCounts (bytes : List ℕ) (counts : Counts) : Type 0 where
   pub globals : counts .globals ≡ globalCount bytes
   pub items : counts .items ≡ itemCount (caseOf bytes)
   pub few : Few counts

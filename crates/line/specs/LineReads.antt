@@ -18,14 +18,14 @@ abbrev pub memory : List ℕ → List ℕ → ℕ → Memory
 memory locals items count = record { locals = locals; items = take count items }
 
 -- What a line reads there, in a case with G globals, if it is given this value.
-abbrev pub readsAt : ℕ → ℕ → ℕ → List ℕ → List ℕ → Line → Reads
-readsAt G count given locals items l = readsOf G (look (memory locals items count)) l given
+abbrev pub readsFrom : ℕ → ℕ → ℕ → List ℕ → List ℕ → Line → Reads
+readsFrom G count given locals items l = readsOf G (look (memory locals items count)) l given
 
 -- The same, where the case has these counts.
 abbrev pub readsBy : Counts → ℕ → List ℕ → List ℕ → Line → Reads
-readsBy counts given locals items l = readsAt (counts .globals) (counts .items) given locals items l
+readsBy counts given locals items l = readsFrom (counts .globals) (counts .items) given locals items l
 
 -- The value of a record's expression, of a kind that has one: the thread's locals alone decide it.
 abbrev pub Expressed : List ℕ → Record → ℕ → Type 0
 Expressed locals l r = (G count given : ℕ) (items : List ℕ) (k : ℕ) → count ≤ mostItems → hasExpression (kindOf (l .kind)) ≡ true
-    → r ≡ expression (asLine l k) (readsAt G count given locals items (asLine l k))
+    → r ≡ expression (asLine l k) (readsFrom G count given locals items (asLine l k))

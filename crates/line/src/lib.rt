@@ -14,8 +14,8 @@ ghost use Rattle.model.specs.Machine.{look, putLocal, putItem};
 ghost use Rattle.laws.specs.Accepted.{Accepted};
 ghost use Rattle.laws.specs.RowCounts.{valueRowCount};
 ghost use Rattle.case_file.specs.Records.{asLine};
-ghost use Rattle.line.specs.LineReads.{memory, readsAt, readsBy, Expressed};
-ghost use Rattle.line.specs.CaseCounts.{CountsOf};
+ghost use Rattle.line.specs.LineReads.{memory, readsFrom, readsBy, Expressed};
+ghost use Rattle.line.specs.CaseCounts.{HasCounts};
 use case_file::Record;
 use model::ITEMS;
 use model::LOCALS;
@@ -31,7 +31,7 @@ pub struct Counts {
 
 pub fn counts_of(case: &[u8]) -> Counts
     requires { ⌜ Accepted (now case) ⌝ }
-    ensures { λ r. ⌜ CountsOf (now (case .entry)) r ⌝ }
+    ensures { λ r. ⌜ HasCounts (now (case .entry)) r ⌝ }
 {
     Counts {
         globals: case_file::globals(case) as usize,
@@ -151,7 +151,7 @@ pub fn item_at(items: &[u16; ITEMS], count: usize, g: usize) -> u16
 
 // Whether the line is guarded in: of what it reads, only the guard's local matters.
 pub fn guarded(locals: &[u16; LOCALS], l: Record) -> bool
-    ensures { λ r. ⌜ ((G count given : ℕ) (items : List ℕ) (k : ℕ) → count ≤ mostItems → r ≡ guardTrue (asLine l k) (readsAt G count given (now (locals .entry)) items (asLine l k))) ⌝ }
+    ensures { λ r. ⌜ ((G count given : ℕ) (items : List ℕ) (k : ℕ) → count ≤ mostItems → r ≡ guardTrue (asLine l k) (readsFrom G count given (now (locals .entry)) items (asLine l k))) ⌝ }
 {
     let guard = l.guard;
     match guard {

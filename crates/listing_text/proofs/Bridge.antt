@@ -31,7 +31,7 @@ use Rattle.laws.proofs.Views.{LeView, within, beyond, le-view}
 use Rattle.laws.proofs.Accepted.{accepted-of}
 use Rattle.laws.proofs.Writing.{numbers-from-start, put-size}
 use Rattle.laws.proofs.Sizes.{table-rows, table-numbers}
-use Rattle.listing_text.specs.Text.{sixAt, sixLines, rowsOf, textOf, WholeText}
+use Rattle.listing_text.specs.Text.{sixAt, sixLines, rowCount, textOf, WholeText}
 use Rattle.listing_text.proofs.Rows.{line-size}
 use Rattle.listing_text.proofs.Answer.{lines-size}
 
@@ -93,10 +93,10 @@ module _ (bytes : List ℕ) (room : ℕ) (large : room ≡ mostTableNumbers) whe
   case-refused number place e = on-refused _ _ _ number place e
 
   -- The rows that it says it has written are in its slice.
-  pub rows-fit : (r : Encoded) → r ≡ encoded bytes room → 6 * rowsOf r ≤ room
+  pub rows-fit : (r : Encoded) → r ≡ encoded bytes room → 6 * rowCount r ≤ room
   rows-fit r er = go (verdict bytes) refl
     where
-      go : (v : Verdict) → verdict bytes ≡ v → 6 * rowsOf r ≤ room
+      go : (v : Verdict) → verdict bytes ≡ v → 6 * rowCount r ≤ room
       go Accepted e = rw (er, table-fits e) (omega (arith, table-rows bytes (accepted-of bytes e)))
       go (verdicts.Refused number place) e = rw (er, case-refused number place e) (omega arith)
 

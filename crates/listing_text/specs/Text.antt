@@ -25,9 +25,9 @@ sixLines xs from zero = []
 sixLines xs from (suc many) = numbersLine (sixAt xs from) ++ sixLines xs (from + 6) many
 
 -- How many rows the encoder says that it has written, and the text of its answer.
-abbrev pub rowsOf : Encoded → ℕ
-rowsOf (Table constraints variables) = constraints
-rowsOf (Refused number place) = 0
+abbrev pub rowCount : Encoded → ℕ
+rowCount (Table constraints variables) = constraints
+rowCount (Refused number place) = 0
 
 unfoldable pub textOf : Encoded → List ℕ → List ℕ
 textOf (Table constraints variables) xs = numbersLine (constraints ∷ (variables ∷ [])) ++ sixLines xs 0 constraints
@@ -35,7 +35,7 @@ textOf (Refused number place) xs = numbersLine (number ∷ (place ∷ []))
 
 -- The rows of the answer are in the table, which is no larger than any table.
 pub record TableAnswered (answer : Encoded) (xs : List ℕ) : Type 0 where
-  pub inside : 6 * rowsOf answer ≤ length xs
+  pub inside : 6 * rowCount answer ≤ length xs
   pub few : length xs ≤ mostTableNumbers
 
 -- So many numbers are there to be put, and their text ends within the longest listing.

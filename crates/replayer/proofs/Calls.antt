@@ -23,7 +23,7 @@ use Rattle.laws.proofs.Accepted.{accepted-of}
 use Rattle.laws.proofs.OnCase.{on-accepted, on-refused}
 use Rattle.turn.specs.TurnState.{itemsOf, givenBy}
 use Rattle.run.specs.declared.Ended.{Ended}
-use Rattle.run.specs.Promises.{Leaves, Replies}
+use Rattle.run.specs.Promises.{EndState, Replies}
 use Rattle.replayer.specs.InputValues.{Inputs, putThreads, noInputs}
 use Rattle.replayer.specs.Promises.{outcomeIn, Ran, Answered}
 use Rattle.replayer.specs.Ready.{ItemsFit}
@@ -63,7 +63,7 @@ writes-by r r' e w = rw e w
 -- The run, to what is written.
 module _ (bytes lengths givens : List ℕ) (e : Ended) (replies : Replies bytes (outcomeIn bytes lengths givens) e) where
   -- what is left of the run is what is written of it
-  writes : (outcome : Outcome) → Leaves bytes outcome (e .threads) (e .items) → (slice : List ℕ)
+  writes : (outcome : Outcome) → EndState bytes outcome (e .threads) (e .items) → (slice : List ℕ)
       → afterReplayed (answerOfRun outcome) (itemsOf bytes (e .items)) slice ≡ afterReplayed (answerOfRun outcome) (itemsAfter outcome) slice
   writes (refused14 k) left slice = refl
   writes (cutOff k items) left slice = ap (λ (xs : List ℕ). writtenOver xs slice) left

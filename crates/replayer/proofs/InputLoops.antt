@@ -16,7 +16,7 @@ use Rattle.laws.proofs.Views.{EqView, same, diff, eq-view}
 use Rattle.laws.proofs.Lines.{few-lines-from}
 use Rattle.line.proofs.KindNumbers.{input-other}
 use Rattle.replayer.specs.InputValues.{Inputs, putNext, putLines, putThreads, ThreadPut, AllPut}
-use Rattle.replayer.specs.Ready.{ThreadReady}
+use Rattle.replayer.specs.Ready.{InputsReady}
 
 module _ (schedule : List ℕ) (kind k : ℕ) (f f' : Inputs) where
   pub next-is-input : (v : ℕ) → kind ≡ 4 → v ≡ getD schedule (f .used) 0 → f' .given ≡ set (f .given) k v → f' .used ≡ f .used + 1
@@ -49,7 +49,7 @@ pub record Putting (bytes schedule : List ℕ) (t : ℕ) (f₀ : Inputs) (k : �
   pub fits : f .used + length (linesFrom bytes t k) ≤ f₀ .used + mostLines
   pub counted : lines + length (linesFrom bytes t k) ≡ length (threadLines bytes t)
 
-module _ {bytes : List ℕ} {t start : ℕ} (ready : ThreadReady bytes t start) (schedule : List ℕ) (f₀ : Inputs) where
+module _ {bytes : List ℕ} {t start : ℕ} (ready : InputsReady bytes t start) (schedule : List ℕ) (f₀ : Inputs) where
   few : length (threadLines bytes t) ≤ mostLines
   few = few-lines-from bytes (ready .accepted) t (firstRecord bytes t) (ready .accepted .firsts t (ready .thread))
 

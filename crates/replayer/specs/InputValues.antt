@@ -41,10 +41,10 @@ pub record ThreadPut (bytes schedule : List ℕ) (t : ℕ) (entry exit : Inputs)
   pub counted : lines ≡ length (threadLines bytes t)
 
 -- So many lines has each thread.
-abbrev pub Counted : List ℕ → List ℕ → Type 0
-Counted bytes lines = (t : ℕ) → t < threadCount bytes → getD lines t 0 ≡ length (linesOf (caseOf bytes) t)
+abbrev pub LinesCounted : List ℕ → List ℕ → Type 0
+LinesCounted bytes lines = (t : ℕ) → t < threadCount bytes → getD lines t 0 ≡ length (linesOf (caseOf bytes) t)
 
 -- The inputs of all threads have their values, and the threads have so many lines.
 pub record AllPut (bytes schedule : List ℕ) (entry exit : Inputs) (lines : List ℕ) : Type 0 where
   pub values : exit ≡ putThreads schedule (caseOf bytes .threads) entry
-  pub counted : Counted bytes lines
+  pub counted : LinesCounted bytes lines

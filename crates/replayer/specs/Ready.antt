@@ -6,10 +6,10 @@ use lib.ListN.{length}
 use Rattle.model.specs.Limits.{mostBlocks, mostItems, mostScheduleNumbers}
 use Rattle.model.specs.CaseFile.{records, threadCount, caseOf, itemCount}
 use Rattle.laws.specs.Accepted.{Accepted}
-use Rattle.replayer.specs.InputValues.{Counted}
+use Rattle.replayer.specs.InputValues.{LinesCounted}
 
 -- A thread of an accepted case, and how many numbers of a schedule are used before it.
-pub record ThreadReady (bytes : List ℕ) (t start : ℕ) : Type 0 where
+pub record InputsReady (bytes : List ℕ) (t start : ℕ) : Type 0 where
   pub accepted : Accepted bytes
   pub thread : t < threadCount bytes
   pub few : start ≤ mostScheduleNumbers
@@ -22,7 +22,7 @@ pub record LengthsReady (bytes : List ℕ) (lengths : ℕ) : Type 0 where
 -- The same, with how many lines each thread has.
 pub record SumsReady (bytes lengths lines : List ℕ) : Type 0 where
   pub ready : LengthsReady bytes (length lengths)
-  pub counted : Counted bytes lines
+  pub counted : LinesCounted bytes lines
 
 -- So many items have a place in a slice.
 pub record ItemsFit (count : ℕ) (slice : List ℕ) : Type 0 where

@@ -11,7 +11,7 @@ ghost use Rattle.model.specs.Answers.{replayed, replayedInto};
 ghost use Rattle.model.specs.declared.Verdict.the-variants as verdicts;
 ghost use Rattle.replayer.specs.InputValues.{inputs, ThreadPut, AllPut};
 ghost use Rattle.replayer.specs.Promises.{Ran, Answered};
-ghost use Rattle.replayer.specs.Ready.{ThreadReady, LengthsReady, SumsReady, ItemsFit, BlocksReady};
+ghost use Rattle.replayer.specs.Ready.{InputsReady, LengthsReady, SumsReady, ItemsFit, BlocksReady};
 use model::ITEMS;
 use model::RECORD_PLACES;
 use model::Replayed;
@@ -39,7 +39,7 @@ fn put_thread(
     start: usize,
     given: &mut [u16; RECORD_PLACES],
 ) -> Walked
-    requires { ⌜ ThreadReady (now case) t start ⌝ }
+    requires { ⌜ InputsReady (now case) t start ⌝ }
     ensures { λ r. ⌜ ThreadPut (now (case .entry)) (now (schedule .entry)) t (inputs (now (given .entry)) start) (inputs (now (given .exit)) (r .used)) (r .lines) ⌝ }
 {
     let mut k = case_file::first_of(case, t);

@@ -74,16 +74,16 @@ pub record Played (bytes givens lengths : List ℕ) (threads : List Thread) (sha
   pub comes : outcomeOf bytes after last ≡ outcomeFrom bytes givens 0 lengths threads shared
 
 -- Threads and items at the end of a run with this outcome: they stand for its state; of a run that is cut off, the items do.
-abbrev pub Leaves : List ℕ → Outcome → List Thread → List ℕ → Type 0
-Leaves bytes (refused14 k) threads items = Unit {0}
-Leaves bytes (cutOff k left) threads items = itemsOf bytes items ≡ left
-Leaves bytes (violated k s) threads items = stateOf bytes threads items ≡ s
-Leaves bytes (clean s) threads items = stateOf bytes threads items ≡ s
+abbrev pub EndState : List ℕ → Outcome → List Thread → List ℕ → Type 0
+EndState bytes (refused14 k) threads items = Unit {0}
+EndState bytes (cutOff k left) threads items = itemsOf bytes items ≡ left
+EndState bytes (violated k s) threads items = stateOf bytes threads items ≡ s
+EndState bytes (clean s) threads items = stateOf bytes threads items ≡ s
 
 -- A run that came to this outcome: the reply, and what is left.
 pub record Replies (bytes : List ℕ) (outcome : Outcome) (e : Ended) : Type 0 where
   pub reply : e .reply ≡ answerOfRun outcome
-  pub left : Leaves bytes outcome (e .threads) (e .items)
+  pub left : EndState bytes outcome (e .threads) (e .items)
 
 -- The run in blocks with these lengths, from these threads on.
 abbrev pub Comes : List ℕ → List ℕ → List ℕ → List Thread → Shared → Ended → Type 0

@@ -27,33 +27,33 @@ use Rattle.assignment.specs.Numbers.{recordBlock}
 use Rattle.schedule.specs.Schedules.{AllCounts, withLine, lengthsIn}
 
 -- The counts so far of thread t's lines by block, the lines that are left, and all its lines; the counts of the other threads stay.
-pub record Counting (counts₀ counts : List (List ℕ)) (t : ℕ) (block : ℕ → ℕ) (rest all : List Line) : Type 0 where
+pub record CountingLines (counts₀ counts : List (List ℕ)) (t : ℕ) (block : ℕ → ℕ) (rest all : List Line) : Type 0 where
   pub rows : length counts ≡ mostThreads
   pub places : length (getD counts t []) ≡ mostBlocks
   pub each : (i : ℕ) → i < mostBlocks → getD (getD counts t []) i 0 + linesInBlock block i rest ≡ linesInBlock block i all
   pub others : (u : ℕ) → u ≢ t → getD counts u [] ≡ getD counts₀ u []
 
-pub counting-start : {counts : List (List ℕ)} {t : ℕ} → length counts ≡ mostThreads → getD counts t [] ≡ replicate mostBlocks 0 → (block : ℕ → ℕ) (ls : List Line)
-    → Counting counts counts t block ls ls
-counting-start rows fresh block ls = record {
+pub counting-lines-start : {counts : List (List ℕ)} {t : ℕ} → length counts ≡ mostThreads → getD counts t [] ≡ replicate mostBlocks 0 → (block : ℕ → ℕ) (ls : List Line)
+    → CountingLines counts counts t block ls ls
+counting-lines-start rows fresh block ls = record {
   rows = rows;
   places = rw fresh;
   each = λ i h. rw fresh (omega (arith, getD-replicate {A = ℕ} mostBlocks i 0 0 h));
   others = λ u n. refl;
 }
 
-module _ {counts₀ counts : List (List ℕ)} {t : ℕ} {block : ℕ → ℕ} {rest all : List Line} (v : Counting counts₀ counts t block rest all) where
-  pub counting-few : (i : ℕ) → getD (getD counts t []) i 0 ≤ length all
-  counting-few i = go (lt-view i mostBlocks)
+module _ {counts₀ counts : List (List ℕ)} {t : ℕ} {block : ℕ → ℕ} {rest all : List Line} (v : CountingLines counts₀ counts t block rest all) where
+  pub counting-lines-few : (i : ℕ) → getD (getD counts t []) i 0 ≤ length all
+  counting-lines-few i = go (lt-view i mostBlocks)
     where
       go : LtView i mostBlocks → getD (getD counts t []) i 0 ≤ length all
       go (below h q) = omega (arith, v .each i h, lines-in-block-few block i all)
       go (above h q) = omega (arith, List·getD-eq-default (getD counts t []) 0 {n = i} (omega (arith, v .places)))
 
-pub counting-more : {counts₀ counts : List (List ℕ)} {t : ℕ} {block : ℕ → ℕ} {l : Line} {rest all : List Line} → t < mostThreads
-    → Counting counts₀ counts t block (l ∷ rest) all → Counting counts₀ (withLine counts t (block (l .number))) t block rest all
+pub counting-lines-more : {counts₀ counts : List (List ℕ)} {t : ℕ} {block : ℕ → ℕ} {l : Line} {rest all : List Line} → t < mostThreads
+    → CountingLines counts₀ counts t block (l ∷ rest) all → CountingLines counts₀ (withLine counts t (block (l .number))) t block rest all
 unfolding withLine linesInBlock
-counting-more {counts₀} {counts} {t} {block} {l} {rest} {all} few v = go (lt-view b mostBlocks)
+counting-lines-more {counts₀} {counts} {t} {block} {l} {rest} {all} few v = go (lt-view b mostBlocks)
   where
     b : ℕ
     b = block (l .number)
@@ -67,7 +67,7 @@ counting-more {counts₀} {counts} {t} {block} {l} {rest} {all} few v = go (lt-v
     own : getD (set counts t up) t [] ≡ up
     own = getD-set-same counts t up [] (omega (arith, v .rows))
 
-    go : LtView b mostBlocks → Counting counts₀ (cond (ltb b mostBlocks) (set counts t up) counts) t block rest all
+    go : LtView b mostBlocks → CountingLines counts₀ (cond (ltb b mostBlocks) (set counts t up) counts) t block rest all
     go (below h q) = rw q (record {
       rows = length-set counts t up ∙ v .rows;
       places = rw own (length-set row b _ ∙ v .places);
@@ -87,10 +87,10 @@ counting-more {counts₀} {counts} {t} {block} {l} {rest} {all} few v = go (lt-v
       others = v .others;
     })
 
-pub counting-end : {counts₀ counts : List (List ℕ)} {t : ℕ} {block : ℕ → ℕ} {all : List Line} → Counting counts₀ counts t block [] all
+pub counting-lines-end : {counts₀ counts : List (List ℕ)} {t : ℕ} {block : ℕ → ℕ} {all : List Line} → CountingLines counts₀ counts t block [] all
     → (i : ℕ) → i < mostBlocks → getD (getD counts t []) i 0 ≡ linesInBlock block i all
 unfolding linesInBlock
-counting-end v i h = omega (arith, v .each i h)
+counting-lines-end v i h = omega (arith, v .each i h)
 
 -- The thread of the next block: the next one, or thread 0 after the last.
 module _ (i : ℕ) {t many : ℕ} (few : t < many) (e : t ≡ i % many) where

@@ -18,7 +18,7 @@ use Rattle.model.specs.Assignment.{Assignment, assignmentOf}
 use Rattle.model.specs.Copies.{latest, readLocal, readName, readAfter, readsAfter}
 use Rattle.laws.proofs.Views.{EqView, same, diff, eq-view, LtView, below, above, lt-view}
 use Rattle.laws.proofs.Copies.{latest-target, latest-other, readName-no-name}
-use Rattle.line.specs.LineReads.{memory, readsAt}
+use Rattle.line.specs.LineReads.{memory, readsFrom}
 use Rattle.line.proofs.Memories.{local-name, no-local-name, look-local, look-no-local}
 use Rattle.assignment.specs.Numbers.{recordValue}
 
@@ -49,7 +49,7 @@ module _ (case : Case) (xs : List ℕ) where
         go (above h q) = sym (look-no-local locals [] 0 (omega arith) x h) ∙ rw (no-local-name x h) (sym (readName-no-name case α i noName _ (omega arith)))
 
     -- Whether a line's guard is true, by the locals and by the copies.
-    pub guard-same : (l : Line) → guardTrue l (readsAt 0 0 0 locals [] l) ≡ guardTrue l (readsAfter case α earlier l)
+    pub guard-same : (l : Line) → guardTrue l (readsFrom 0 0 0 locals [] l) ≡ guardTrue l (readsAfter case α earlier l)
     unfolding guardTrue guardName
     guard-same l = go (eqb (l .guard) 0) (ltb (l .guard) 17)
       where

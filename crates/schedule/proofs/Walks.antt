@@ -24,9 +24,9 @@ use Rattle.case_file.specs.declared.Record.{Record}
 use Rattle.case_file.specs.Records.{recordOf, asLine}
 use Rattle.line.proofs.KindNumbers.{kind-4, input-other}
 use Rattle.assignment.specs.Numbers.{recordBlock, recordValue}
-use Rattle.schedule.specs.Schedules.{valuesOf, threadValues, CountsOf, ThreadToWrite, ThreadWritten, AllWritten, FewCounted, withLine, inputNumber, ownNumbers}
+use Rattle.schedule.specs.Schedules.{valuesOf, threadInputs, CountsOf, ThreadToWrite, ThreadWritten, AllWritten, FewCounted, withLine, inputNumber, ownNumbers}
 use Rattle.schedule.proofs.Locals.{LocalsAre, locals-start, locals-step, guard-same}
-use Rattle.schedule.proofs.Counts.{Counting, counting-start, counting-few, counting-more, counting-end}
+use Rattle.schedule.proofs.Counts.{CountingLines, counting-lines-start, counting-lines-few, counting-lines-more, counting-lines-end}
 
 -- The values of the lines from record k of thread t on, after these earlier lines, and of the threads from thread t on.
 abbrev valuesFrom : List ℕ → List ℕ → ℕ → List Line → ℕ → List ℕ
@@ -43,8 +43,8 @@ pub record Walk (bytes xs : List ℕ) (t : ℕ) (before : List ℕ) (start : ℕ
   pub within : k ≤ records bytes
   pub earlier : List Line
   pub held : LocalsAre (caseOf bytes) xs locals earlier
-  pub writing : Writing (threadValues bytes xs t) before start out at (valuesFrom bytes xs t earlier k)
-  pub counting : Counting counts₀ counts t (recordBlock xs) (linesFrom bytes t k) (threadLines bytes t)
+  pub writing : Writing (threadInputs bytes xs t) before start out at (valuesFrom bytes xs t earlier k)
+  pub counting : CountingLines counts₀ counts t (recordBlock xs) (linesFrom bytes t k) (threadLines bytes t)
 
 pub walk-start : {bytes xs : List ℕ} {t : ℕ} {before : List ℕ} {start : ℕ} {counts : List (List ℕ)} {k : ℕ} → ThreadToWrite bytes xs t start before counts
     → k ≡ firstRecord bytes t → Walk bytes xs t before start counts before start (replicate localCount 0) counts k
@@ -55,7 +55,7 @@ walk-start {bytes} {xs} {t} ready e = record {
   earlier = [];
   held = locals-start (caseOf bytes) xs;
   writing = writing-start (ap (valuesFrom bytes xs t []) e);
-  counting = rw e (counting-start (ready .rows) (ready .fresh) (recordBlock xs) (threadLines bytes t));
+  counting = rw e (counting-lines-start (ready .rows) (ready .fresh) (recordBlock xs) (threadLines bytes t));
 }
 
 -- The number of an input, and none for another line, as the code writes them.
@@ -96,7 +96,7 @@ module _ {bytes xs : List ℕ} {t : ℕ} {before : List ℕ} {start : ℕ} {coun
   pub walk-few : (block : ℕ) → FewCounted counts t block
   walk-few block = record {
     thread = few;
-    few = omega (arith, counting-few (v .counting) block, few-lines-from bytes (v .ok) t (firstRecord bytes t) (v .ok .firsts t (v .thread)));
+    few = omega (arith, counting-lines-few (v .counting) block, few-lines-from bytes (v .ok) t (firstRecord bytes t) (v .ok .firsts t (v .thread)));
   }
 
   pub walk-end : k ≡ 0 → ThreadWritten bytes xs t start before out counts₀ counts at
@@ -104,7 +104,7 @@ module _ {bytes xs : List ℕ} {t : ℕ} {before : List ℕ} {start : ℕ} {coun
   walk-end e = record {
     values = writing-end (v .writing) (rw (lines-end bytes t k e));
     rows = v .counting .rows;
-    own = counting-end (rw (lines-end bytes t k e) at (v .counting));
+    own = counting-lines-end (rw (lines-end bytes t k e) at (v .counting));
     others = v .counting .others;
   }
 
@@ -116,7 +116,7 @@ module _ {bytes xs : List ℕ} {t : ℕ} {before : List ℕ} {start : ℕ} {coun
       go-on : valuesFrom bytes xs t (v .earlier) k ≡ ownNumbers l locals value ++ valuesFrom bytes xs t (lineOf bytes t k ∷ v .earlier) (nextRecord bytes k)
       go-on = own-and-rest bytes xs (v .ok) t k low (v .within) locals (v .earlier) (v .held) l el value ev
 
-      pub walk-room : start + length (threadValues bytes xs t) ≤ length before → at + length (ownNumbers l locals value) ≤ length out
+      pub walk-room : start + length (threadInputs bytes xs t) ≤ length before → at + length (ownNumbers l locals value) ≤ length out
       walk-room room = writing-room (v .writing) (ownNumbers l locals value) (valuesFrom bytes xs t (lineOf bytes t k ∷ v .earlier) (nextRecord bytes k)) go-on room
 
       pub walk-more : {out' : List ℕ} {at' : ℕ} {locals' : List ℕ} {counts' : List (List ℕ)} {globals name block next : ℕ} → Put (ownNumbers l locals value) out at out' at'
@@ -129,7 +129,7 @@ module _ {bytes xs : List ℕ} {t : ℕ} {before : List ℕ} {start : ℕ} {coun
         earlier = lineOf bytes t k ∷ v .earlier;
         held = rw (elocals, en k, eg, el, ev) (locals-step (caseOf bytes) xs locals (v .earlier) (v .held) (lineOf bytes t k) (omega arith));
         writing = rw ek (writing-more (v .writing) go-on put);
-        counting = rw (ecounts, eb, ek) (counting-more few (rw (lines-more bytes (v .ok) t k low (v .within)) at (v .counting)));
+        counting = rw (ecounts, eb, ek) (counting-lines-more few (rw (lines-more bytes (v .ok) t k low (v .within)) at (v .counting)));
       }
 
 -- Before thread t: the slice and the place so far, and the counts of the threads before it; the slice and the place at the start.
@@ -151,7 +151,7 @@ threads-start {bytes} =
 
 module _ {bytes xs before : List ℕ} {start : ℕ} {out : List ℕ} {at : ℕ} {counts : List (List ℕ)} {t : ℕ} (v : Threads bytes xs before start out at counts t) where
   module _ (h : t < threadCount bytes) where
-    threads-go-on : threadsFrom bytes xs t ≡ threadValues bytes xs t ++ threadsFrom bytes xs (t + 1)
+    threads-go-on : threadsFrom bytes xs t ≡ threadInputs bytes xs t ++ threadsFrom bytes xs (t + 1)
     unfolding allDecodedValues
     threads-go-on = rw (chains-more bytes t (threadCount bytes) h)
 
@@ -160,7 +160,7 @@ module _ {bytes xs before : List ℕ} {start : ℕ} {out : List ℕ} {at : ℕ} 
       fits = record {
         accepted = fits .accepted;
         thread = h;
-        room = writing-room (v .writing) (threadValues bytes xs t) (threadsFrom bytes xs (t + 1)) threads-go-on (fits .room);
+        room = writing-room (v .writing) (threadInputs bytes xs t) (threadsFrom bytes xs (t + 1)) threads-go-on (fits .room);
       };
       rows = v .rows;
       fresh = v .fresh t (omega arith) (omega (arith, fits .accepted .few-threads));

@@ -17,7 +17,7 @@ use Rattle.laws.specs.Accepted.{threadLines}
 use Rattle.laws.specs.Written.{numbersAt, Put, ThreadRoom}
 use Rattle.case_file.specs.declared.Record.{Record}
 use Rattle.case_file.specs.Records.{asLine}
-use Rattle.line.specs.LineReads.{readsAt}
+use Rattle.line.specs.LineReads.{readsFrom}
 use Rattle.assignment.specs.Numbers.{recordBlock}
 
 -- The schedule, and its numbers for all input lines and for those of thread t.
@@ -27,8 +27,8 @@ scheduleOf bytes xs = decode (caseOf bytes) (assignmentOf (caseOf bytes) xs)
 abbrev pub valuesOf : List ℕ → List ℕ → List ℕ
 valuesOf bytes xs = allDecodedValues (caseOf bytes) (assignmentOf (caseOf bytes) xs) (caseOf bytes .threads)
 
-abbrev pub threadValues : List ℕ → List ℕ → ℕ → List ℕ
-threadValues bytes xs t = decodedValues (caseOf bytes) (assignmentOf (caseOf bytes) xs) [] (threadLines bytes t)
+abbrev pub threadInputs : List ℕ → List ℕ → ℕ → List ℕ
+threadInputs bytes xs t = decodedValues (caseOf bytes) (assignmentOf (caseOf bytes) xs) [] (threadLines bytes t)
 
 -- Thread t has so many lines in each block; each thread has.
 abbrev pub CountsOf : List ℕ → List ℕ → ℕ → List ℕ → Type 0
@@ -39,13 +39,13 @@ AllCounts bytes xs counts = (t : ℕ) → t < threadCount bytes → CountsOf byt
 
 -- Thread t has room for the values of its input lines from a place on, and none of its lines is counted yet.
 pub record ThreadToWrite (bytes xs : List ℕ) (t at : ℕ) (slice : List ℕ) (counts : List (List ℕ)) : Type 0 where
-  pub fits : ThreadRoom bytes t (at + length (threadValues bytes xs t)) slice
+  pub fits : ThreadRoom bytes t (at + length (threadInputs bytes xs t)) slice
   pub rows : length counts ≡ mostThreads
   pub fresh : getD counts t [] ≡ replicate mostBlocks 0
 
 -- These values are written, thread t's lines are counted, and the counts of the other threads stay.
 pub record ThreadWritten (bytes xs : List ℕ) (t at : ℕ) (before after : List ℕ) (counts counts' : List (List ℕ)) (r : ℕ) : Type 0 where
-  pub values : Put (threadValues bytes xs t) before at after r
+  pub values : Put (threadInputs bytes xs t) before at after r
   pub rows : length counts' ≡ mostThreads
   pub own : CountsOf bytes xs t (getD counts' t [])
   pub others : (u : ℕ) → u ≢ t → getD counts' u [] ≡ getD counts u []
@@ -71,7 +71,7 @@ lengthsIn bytes counts = numbersFrom (λ i. getD (getD counts (i % threadCount b
 -- The number of an input line with this value, where its thread's locals have these: of what the line reads, only the guard's
 -- local matters, and the line's number does not.
 unfoldable pub inputNumber : Record → List ℕ → ℕ → ℕ
-inputNumber l locals value = cond (guardTrue (asLine l 0) (readsAt 0 0 0 locals [] (asLine l 0))) value 0
+inputNumber l locals value = cond (guardTrue (asLine l 0) (readsFrom 0 0 0 locals [] (asLine l 0))) value 0
 
 -- The schedule's numbers for a line: none unless it is an input.
 unfoldable pub ownNumbers : Record → List ℕ → ℕ → List ℕ

@@ -14,15 +14,15 @@ use Rattle.laws.proofs.Chains.{linesFrom-end}
 use Rattle.turn.specs.declared.Stand.{Stand}
 use Rattle.turn.specs.declared.Stand.the-variants.{Running, Strayed, Stopped}
 use Rattle.turn.specs.declared.Turn.{Turn}
-use Rattle.turn.specs.TurnState.{memoryOf, restOf, givenBy, isRunning}
+use Rattle.turn.specs.TurnState.{memoryOf, linesLeft, givenBy, isRunning}
 use Rattle.turn.specs.Promises.{endBy, endOf, continued, endAfter, BlockRan}
 use Rattle.turn.proofs.Steps.{Stepped}
 
 -- After some of the steps of a block of thread t, with so many left: the run goes on.
-pub record Going (bytes givens : List ℕ) (t steps : ℕ) (turn₀ : Turn) (left : ℕ) (turn : Turn) : Type 0 where
+pub record Stepping (bytes givens : List ℕ) (t steps : ℕ) (turn₀ : Turn) (left : ℕ) (turn : Turn) : Type 0 where
   pub does : endAfter bytes givens t left turn ≡ endAfter bytes givens t steps turn₀
   pub runs : turn .stand ≡ Running
-  pub moves : drop left (restOf bytes t turn) ≡ drop steps (restOf bytes t turn₀)
+  pub moves : drop left (linesLeft bytes t turn) ≡ drop steps (linesLeft bytes t turn₀)
   pub within : turn .next ≤ records bytes
 
 running-of : (stand : Stand) → isRunning stand ≡ true → stand ≡ Running
@@ -75,20 +75,20 @@ module _ (bytes givens : List ℕ) (t steps : ℕ) (turn₀ : Turn) where
   next = runBlock (caseOf bytes) (givenBy givens)
 
   module _ (low : turn₀ .next ≤ records bytes) where
-    pub going-start : isRunning (turn₀ .stand) ≡ true → Going bytes givens t steps turn₀ steps turn₀
-    going-start runs = record { does = refl; runs = running-of (turn₀ .stand) runs; moves = refl; within = low }
+    pub stepping-start : isRunning (turn₀ .stand) ≡ true → Stepping bytes givens t steps turn₀ steps turn₀
+    stepping-start runs = record { does = refl; runs = running-of (turn₀ .stand) runs; moves = refl; within = low }
 
     pub run-ended : isRunning (turn₀ .stand) ≡ false → BlockRan bytes givens t steps turn₀ turn₀
     run-ended ended = record {
-      does = halts bytes (turn₀ .stand) turn₀ (next steps (restOf bytes t turn₀)) ended;
+      does = halts bytes (turn₀ .stand) turn₀ (next steps (linesLeft bytes t turn₀)) ended;
       moves = never-running (turn₀ .stand) ended;
       within = low;
     }
 
-  module _ {left : ℕ} {turn : Turn} (g : Going bytes givens t steps turn₀ left turn) where
+  module _ {left : ℕ} {turn : Turn} (g : Stepping bytes givens t steps turn₀ left turn) where
     pub block-ends : left ≤ 0 → BlockRan bytes givens t steps turn₀ turn
     block-ends none =
-        let rest = restOf bytes t turn in
+        let rest = linesLeft bytes t turn in
         record {
           does = sym (g .does) ∙ passes bytes (turn .stand) turn (next left rest) (no-steps bytes givens left rest none);
           moves = λ _. sym (drop-none left rest none) ∙ g .moves;
@@ -97,7 +97,7 @@ module _ (bytes givens : List ℕ) (t steps : ℕ) (turn₀ : Turn) where
 
     pub thread-ends : turn .next ≡ 0 → BlockRan bytes givens t steps turn₀ turn
     thread-ends ended =
-        let rest = restOf bytes t turn in
+        let rest = linesLeft bytes t turn in
         let none : rest ≡ [] = ap (linesFrom bytes t) ended ∙ linesFrom-end bytes t in
         record {
           does = sym (g .does) ∙ passes bytes (turn .stand) turn (next left rest) (nothing-left bytes givens left rest none);
@@ -113,7 +113,7 @@ module _ (bytes givens : List ℕ) (t steps : ℕ) (turn₀ : Turn) where
       abbrev later : List Line
       later = linesFrom bytes t (nextRecord bytes (turn .next))
 
-      rest-is : restOf bytes t turn ≡ lineOf bytes t (turn .next) ∷ later
+      rest-is : linesLeft bytes t turn ≡ lineOf bytes t (turn .next) ∷ later
       rest-is = ok .lines-go-on t (turn .next) (omega arith) (g .within)
 
       left-is : left ≡ suc n
@@ -123,8 +123,8 @@ module _ (bytes givens : List ℕ) (t steps : ℕ) (turn₀ : Turn) where
       does-line =
           sym (s n later)
           ∙ ap (λ (x : List Line). next (suc n) x (memoryOf bytes turn) (turn .note)) (sym rest-is)
-          ∙ ap (λ (x : ℕ). next x (restOf bytes t turn) (memoryOf bytes turn) (turn .note)) (sym left-is)
-          ∙ sym (goes bytes (turn .stand) turn (next left (restOf bytes t turn)) (g .runs))
+          ∙ ap (λ (x : ℕ). next x (linesLeft bytes t turn) (memoryOf bytes turn) (turn .note)) (sym left-is)
+          ∙ sym (goes bytes (turn .stand) turn (next left (linesLeft bytes t turn)) (g .runs))
           ∙ g .does
 
       pub line-ends : isRunning (after .stand) ≡ false → after .next ≤ records bytes → BlockRan bytes givens t steps turn₀ after
@@ -134,11 +134,11 @@ module _ (bytes givens : List ℕ) (t steps : ℕ) (turn₀ : Turn) where
         within = low;
       }
 
-      pub going-on : after .stand ≡ turn .stand → after .next ≡ nextRecord bytes (turn .next) → Going bytes givens t steps turn₀ n after
-      going-on runs moves = record {
+      pub stepping-on : after .stand ≡ turn .stand → after .next ≡ nextRecord bytes (turn .next) → Stepping bytes givens t steps turn₀ n after
+      stepping-on runs moves = record {
         does = ap (λ (x : ℕ). continued (endOf bytes after) (next n (linesFrom bytes t x))) moves ∙ does-line;
         runs = runs ∙ g .runs;
         moves = ap (λ (x : ℕ). drop n (linesFrom bytes t x)) moves ∙ ap (drop (suc n)) (sym rest-is)
-            ∙ ap (λ (x : ℕ). drop x (restOf bytes t turn)) (sym left-is) ∙ g .moves;
+            ∙ ap (λ (x : ℕ). drop x (linesLeft bytes t turn)) (sym left-is) ∙ g .moves;
         within = omega (arith, moves, ok .nexts (turn .next) (omega arith) (g .within));
       }

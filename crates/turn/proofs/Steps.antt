@@ -12,7 +12,7 @@ use Rattle.model.specs.Line.{Reads, noName, targetName, guardTrue, valueOf, sto
 use Rattle.model.specs.Machine.{putLocal, putItem, noted, readsIn, stepped, runBlock}
 use Rattle.case_file.specs.declared.Record.{Record}
 use Rattle.case_file.specs.Records.{recordOf, asLine}
-use Rattle.line.specs.CaseCounts.{CountsOf}
+use Rattle.line.specs.CaseCounts.{HasCounts}
 use Rattle.line.specs.LineReads.{readsBy}
 use Rattle.line.specs.declared.Counts.{Counts}
 use Rattle.line.proofs.Memories.{put-beyond}
@@ -46,7 +46,7 @@ Stepped bytes givens t turn after = (steps : ℕ) (ls : List Line)
     ≡ continued (endOf bytes after) (runBlock (caseOf bytes) (givenBy givens) steps ls)
 
 -- A turn's next line is line l of a case with these counts, and e is what it does.
-module _ {bytes : List ℕ} (givens : List ℕ) (t : ℕ) (turn : Turn) {counts : Counts} (are : CountsOf bytes counts) {l : Record} (is-l : l ≡ recordOf bytes t (turn .next))
+module _ {bytes : List ℕ} (givens : List ℕ) (t : ℕ) (turn : Turn) {counts : Counts} (are : HasCounts bytes counts) {l : Record} (is-l : l ≡ recordOf bytes t (turn .next))
     {e : Effect} (does : Effective (counts .globals) (asLine l (turn .next)) (readsBy counts (givenBy givens (turn .next)) (turn .locals) (turn .items) (asLine l (turn .next))) e)
   where
     abbrev line : Line

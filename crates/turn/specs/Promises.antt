@@ -14,7 +14,7 @@ use Rattle.turn.specs.declared.Effect.{Effect}
 use Rattle.turn.specs.declared.Stand.{Stand}
 use Rattle.turn.specs.declared.Stand.the-variants.{Running, Strayed, Stopped}
 use Rattle.turn.specs.declared.Turn.{Turn}
-use Rattle.turn.specs.TurnState.{itemsOf, memoryOf, restOf, givenBy}
+use Rattle.turn.specs.TurnState.{itemsOf, memoryOf, linesLeft, givenBy}
 
 -- The case is accepted, each of its records is given a value, and the turn is at one of them or at its thread's end.
 pub record Ready (bytes givens : List ℕ) (turn : Turn) : Type 0 where
@@ -61,10 +61,10 @@ goneOn turn next k broken = record {
 
 -- The end of a turn of thread t with so many steps.
 abbrev pub endAfter : List ℕ → List ℕ → ℕ → ℕ → Turn → BlockEnd
-endAfter bytes givens t steps turn = continued (endOf bytes turn) (runBlock (caseOf bytes) (givenBy givens) steps (restOf bytes t turn))
+endAfter bytes givens t steps turn = continued (endOf bytes turn) (runBlock (caseOf bytes) (givenBy givens) steps (linesLeft bytes t turn))
 
 -- A block of thread t with so many steps; nothing moves where the run has ended.
 pub record BlockRan (bytes givens : List ℕ) (t steps : ℕ) (turn after : Turn) : Type 0 where
   pub does : endAfter bytes givens t steps turn ≡ endOf bytes after
-  pub moves : after .stand ≡ Running → restOf bytes t after ≡ drop steps (restOf bytes t turn)
+  pub moves : after .stand ≡ Running → linesLeft bytes t after ≡ drop steps (linesLeft bytes t turn)
   pub within : after .next ≤ records bytes

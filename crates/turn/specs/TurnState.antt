@@ -18,8 +18,8 @@ abbrev pub memoryOf : List ℕ → Turn → Memory
 memoryOf bytes turn = record { locals = turn .locals; items = itemsOf bytes (turn .items) }
 
 -- The lines that are left, as lines of thread t.
-abbrev pub restOf : List ℕ → ℕ → Turn → List Line
-restOf bytes t turn = linesFrom bytes t (turn .next)
+abbrev pub linesLeft : List ℕ → ℕ → Turn → List Line
+linesLeft bytes t turn = linesFrom bytes t (turn .next)
 
 -- The values given, by record number.
 abbrev pub givenBy : List ℕ → ℕ → ℕ

@@ -24,7 +24,7 @@ use Rattle.laws.proofs.Following.{lines-end, lines-more, next-low}
 use Rattle.laws.proofs.Sizes.{item-numbers, line-value-length}
 use Rattle.case_file.specs.declared.Record.{Record}
 use Rattle.case_file.specs.Records.{recordOf, asLine}
-use Rattle.line.specs.CaseCounts.{CountsOf}
+use Rattle.line.specs.CaseCounts.{HasCounts}
 use Rattle.line.specs.LineReads.{memory, readsBy}
 use Rattle.line.specs.declared.Counts.{Counts}
 use Rattle.copies.specs.CopyChains.{CopyChains}
@@ -137,7 +137,7 @@ module _ {bytes xs : List ℕ} {t start : ℕ} {latest₀ : List (List ℕ)} {pr
 
         -- In its block, what it reads is known, and what it is asked.
         module _ (l : Record) (el : l ≡ recordOf bytes t k) (value : ℕ) (ev : value ≡ recordValue xs k) (items' : List ℕ) (entered : Entered bytes xs block i items items')
-            (counts : Counts) (are : CountsOf bytes counts) (r : Asked) (asked : AskedOf counts locals items' l value r) where
+            (counts : Counts) (are : HasCounts bytes counts) (r : Asked) (asked : AskedOf counts locals items' l value r) where
           own-value : value ≡ α .value (line .number)
           unfolding assignmentOf
           own-value = ev

@@ -1,14 +1,14 @@
 -- `write_blocks` writes the 6s, a block at a time. Assumes nothing.
 use borrow.Author.Needs.{needs}
 use Prim.Native.Nat.{_-_}
-use Rattle.encoder.specs.Parts.{blockNumbers}
+use Rattle.encoder.specs.Parts.{allItemNumbers}
 use Rattle.encoder.proofs.Series.{Going, going-start, going-fits, going-more, going-end}
 use Rattle.encoder.proofs.Parts.{blocks-all, blockSeries}
 use Rattle.encoder.proofs.write_blocks.Statement.{statement}
 use Rattle.encoder.proofs.write_blocks.Tie as tie
 
 abbrev Inv-loop : tie.InvT-loop
-Inv-loop case table₀ start latest last at₀ i₀ table at i = Going (blockSeries case last) i (blockNumbers case) table₀ start table at
+Inv-loop case table₀ start latest last at₀ i₀ table at i = Going (blockSeries case last) i (allItemNumbers case) table₀ start table at
 
 abbrev μ-loop : tie.MeasureT-loop
 μ-loop case table₀ start latest last at₀ i₀ table at i = last - i

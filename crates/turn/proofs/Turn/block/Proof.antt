@@ -2,13 +2,13 @@
 use mathlib.Core.Path.{refl, sym, _∙_}
 use borrow.Author.Tests.{not-true, not-false}
 use Rattle.turn.proofs.Steps.{step-strays, step-stops, step-goes}
-use Rattle.turn.proofs.Blocks.{Going, going-start, going-on, block-ends, thread-ends, line-ends, run-ended}
+use Rattle.turn.proofs.Blocks.{Stepping, stepping-start, stepping-on, block-ends, thread-ends, line-ends, run-ended}
 use borrow.Author.Needs.{needs}
 use Rattle.turn.proofs.Turn.block.Statement.{statement}
 use Rattle.turn.proofs.Turn.block.Tie as tie
 
 abbrev Inv-loop : tie.InvT-loop
-Inv-loop t case given steps self₀ counts left₀ self left = Going case given t steps self₀ left self
+Inv-loop t case given steps self₀ counts left₀ self left = Stepping case given t steps self₀ left self
 
 abbrev μ-loop : tie.MeasureT-loop
 μ-loop t case given steps self₀ counts left₀ self left = left
@@ -23,7 +23,7 @@ counts-of-requires : tie.Need-counts-of-requires Inv-loop μ-loop
 counts-of-requires c κs = search needs
 
 loop-holds : tie.Need-loop-holds Inv-loop μ-loop
-loop-holds c = going-start _ _ _ _ _ (c .before .before .before .before .before .pre .within) (sym (c .before .before .goes-on .ensures) ∙ not-false _ (c .before .if1 .left))
+loop-holds c = stepping-start _ _ _ _ _ (c .before .before .before .before .before .pre .within) (sym (c .before .before .goes-on .ensures) ∙ not-false _ (c .before .if1 .left))
 
 returns-2 : tie.Need-returns-2 Inv-loop μ-loop
 returns-2 c = thread-ends _ _ _ _ _ (c .before .before .loop .inv) (c .if2 .taken)
@@ -92,7 +92,7 @@ loop-again c =
     let line = read .before in
     let start = line .before .before .before .before .before .before .before .before in
     rw (c .step .ensures)
-    (going-on _ _ _ _ _ (line .before .before .loop .inv) (start .pre .accepted) (line .before .loop-test .taken) (line .if2 .left) _
+    (stepping-on _ _ _ _ _ (line .before .before .loop .inv) (start .pre .accepted) (line .before .loop-test .taken) (line .if2 .left) _
     (step-goes (start .args .given .now) _ (line .before .before .loop .self) (line .before .before .before .counts-of .ensures) (read .record-at .ensures) (does .effect-of .ensures _) (c .before .before .before .before .before .before .before .if3 .left)
     (c .before .before .before .before .before .before .if4 .left) (line .before .before .loop .inv .runs) _ _ (c .before .before .before .before .put-local .ensures) (c .before .before .put-item .ensures) _) refl (c .before .next-of .ensures))
 
