@@ -9,13 +9,14 @@ use native.Mathlib.Omega.{arith}
 use lib.Dec.{eqb}
 use lib.ListN.{length, take, replicate}
 use Rattle.model.specs.Limits.{localCount, mostSwitches, mostConstraints}
-use Rattle.model.specs.CaseFile.{Line, Case, records, firstRecord, nextRecord, lineOf, caseOf, linesOf, itemCount, lineAt}
+use Rattle.model.specs.CaseFile.{kindOf, Line, Case, records, firstRecord, nextRecord, lineOf, caseOf, linesOf, itemCount, lineAt}
 use Rattle.model.specs.Machine.{putLocal, putItem}
 use Rattle.model.specs.Assignment.{Assignment, assignmentOf}
 use Rattle.model.specs.Copies.{readsAfter}
 use Rattle.model.specs.Table.{Row, valueRow, demandRows, valueRows}
 use Rattle.laws.specs.Accepted.{Accepted, linesFrom, threadLines}
 use Rattle.laws.specs.Order.{AllLines, Ordered}
+use Rattle.laws.specs.RowCounts.{valueRowCount}
 use Rattle.laws.proofs.Views.{EqView, same, diff, eq-view}
 use Rattle.laws.proofs.Chains.{threads-are}
 use Rattle.laws.proofs.Lines.{numbers-once}
@@ -148,11 +149,11 @@ module _ {bytes xs : List ℕ} {t start : ℕ} {latest₀ : List (List ℕ)} {pr
           asks : Asks (case .G) line (readsAfter case α (v .earlier) line) (α .value (line .number)) r
           asks = rw (reads-are, own-value, el, are .globals) at (asked k)
 
-          walk-place : r .rows ≡ length rows
-          walk-place = asks .counting ∙ sym (line-value-length (line .kind) case (v .earlier) line)
+          walk-place : {n : ℕ} → n ≡ valueRowCount (kindOf (l .kind)) → n ≡ length rows
+          walk-place en = en ∙ ap (λ (r' : Record). valueRowCount (kindOf (r' .kind))) el ∙ sym (line-value-length (line .kind) case (v .earlier) line)
 
-          pub walk-room-after : at + r .rows ≤ mostConstraints
-          walk-room-after = omega (arith, searching-room (v .seeks) rows _ split, walk-place, pre .numbers .room)
+          pub walk-room-after : {n : ℕ} → n ≡ valueRowCount (kindOf (l .kind)) → at + n ≤ mostConstraints
+          walk-room-after en = omega (arith, searching-room (v .seeks) rows _ split, walk-place en, pre .numbers .room)
 
           module _ (f : ℕ) (ef : f ≡ failingAsked at r value) where
             here : Searched bytes xs at rows f (at + length rows)
@@ -166,17 +167,18 @@ module _ {bytes xs : List ℕ} {t start : ℕ} {latest₀ : List (List ℕ)} {pr
             walk-found h n = searching-found (v .seeks) here _ split h n
 
             -- The next record, with everything that is kept.
-            module _ (none : f ≡ 0) (broken' : ℕ) (en : broken' ≡ cond (eqb broken 0) (cond (r .breaks) k 0) broken) where
+            module _ (none : f ≡ 0) (broken' : ℕ) (eb : broken' ≡ cond (eqb broken 0) (cond (r .breaks) k 0) broken)
+                (n : ℕ) (en : n ≡ valueRowCount (kindOf (l .kind))) where
               breaking-rest : breakingAfter case α broken' (line ∷ v .earlier) rest ≡ breakingAfter case α was [] (threadLines bytes t)
               unfolding breakingAfter
-              breaking-rest = rw (en, asks .breaking) (sym (ap (breakingAfter case α broken (v .earlier)) more) ∙ v .breaking)
+              breaking-rest = rw (eb, asks .breaking) (sym (ap (breakingAfter case α broken (v .earlier)) more) ∙ v .breaking)
 
               pub walk-more : {latest' : List (List ℕ)} {previous' : List ℕ} → CopyNoted t (r .name) k previous latest previous' latest'
                   → (locals' items'' : List ℕ) → locals' ≡ putLocal true (r .name) value locals
                   → take (counts .items) items'' ≡ putItem true (r .name) value (take (counts .items) items')
                   → (next : ℕ) → next ≡ nextRecord bytes k
-                  → ThreadWalk bytes xs t start was latest' previous' locals' items'' i broken' (at + r .rows) next
-              walk-more noted locals' items'' elo eit next ex = rw (ex, walk-place) (record {
+                  → ThreadWalk bytes xs t start was latest' previous' locals' items'' i broken' (at + n) next
+              walk-more noted locals' items'' elo eit next ex = rw (ex, walk-place en) (record {
                 earlier = line ∷ v .earlier;
                 low = next-low bytes ok t k some (v .low);
                 whole = whole;

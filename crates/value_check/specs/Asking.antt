@@ -8,7 +8,6 @@ use lib.Dec.{eqb}
 use Rattle.model.specs.CaseFile.{Line}
 use Rattle.model.specs.Line.{Reads, targetName, guardTrue, valueOf, breaks}
 use Rattle.model.specs.Holds.{demandMet}
-use Rattle.laws.specs.RowCounts.{valueRowCount}
 use Rattle.case_file.specs.declared.Record.{Record}
 use Rattle.case_file.specs.Records.{asLine}
 use Rattle.line.specs.LineReads.{readsBy}
@@ -19,7 +18,6 @@ use Rattle.value_check.specs.declared.Asked.{Asked}
 pub record Asks (G : ℕ) (l : Line) (reads : Reads) (value : ℕ) (r : Asked) : Type 0 where
   pub asking : r .value ≡ valueOf l reads
   pub meeting : r .met ≡ demandMet (l .kind) l reads value
-  pub counting : r .rows ≡ valueRowCount (l .kind)
   pub breaking : r .breaks ≡ breaks (l .kind) l reads value
   pub naming : r .name ≡ targetName G l
 

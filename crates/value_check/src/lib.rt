@@ -20,6 +20,7 @@ use copies::copy_of;
 use copies::take_copy;
 use line::Counts;
 use line::counts_of;
+use line::value_rows;
 use model::ITEMS;
 use model::LOCALS;
 use model::NAMES;
@@ -35,11 +36,10 @@ pub struct Walk {
 }
 
 // What the constraints of a line ask, where it has a value: the value that its 4 asks for, whether its 5 holds or it has none,
-// how many they are, whether the line breaks an assertion, and the name of its target.
+// whether the line breaks an assertion, and the name of its target.
 pub struct Asked {
     pub value: u16,
     pub met: bool,
-    pub rows: u16,
     pub breaks: bool,
     pub name: usize,
 }
@@ -49,12 +49,11 @@ const LEFT_OUT: u16 = 1;
 
 // A 4 alone, of a line that breaks nothing.
 fn four(value: u16, name: usize) -> Asked
-    ensures { λ r. ⌜ r ≡ record { value = value; met = true; rows = 1; breaks = false; name = name } ⌝ }
+    ensures { λ r. ⌜ r ≡ record { value = value; met = true; breaks = false; name = name } ⌝ }
 {
     Asked {
         value,
         met: true,
-        rows: 1,
         breaks: false,
         name,
     }
@@ -84,21 +83,18 @@ fn asked_in<'a>(
         5 => Asked {
             value: line::bit_of(line::expression_of(locals, l) != 0),
             met: true,
-            rows: 1,
             breaks: line::breaks(locals, items, counts, l, value),
             name: NAMES,
         },
         6 => Asked {
             value: line::bit_of(line::expression_of(locals, l) != 0),
             met: value == 1,
-            rows: 2,
             breaks: false,
             name: NAMES,
         },
         7 => Asked {
             value: 1,
             met: line::item_at(items, counts.items, counts.globals + target) == 0,
-            rows: 2,
             breaks: false,
             name: LOCALS + (counts.globals + target),
         },
@@ -127,21 +123,18 @@ fn asked_out<'a>(
         5 => Asked {
             value: LEFT_OUT,
             met: true,
-            rows: 1,
             breaks: line::breaks(locals, items, counts, l, value),
             name: NAMES,
         },
         6 => Asked {
             value: LEFT_OUT,
             met: value == 1,
-            rows: 2,
             breaks: false,
             name: NAMES,
         },
         7 => Asked {
             value: line::item_at(items, counts.items, counts.globals + target),
             met: true,
-            rows: 2,
             breaks: false,
             name: LOCALS + (counts.globals + target),
         },
@@ -246,7 +239,7 @@ fn thread_values(
             };
         }
         broken = line::noted(broken, k, asked.breaks);
-        at += asked.rows;
+        at += value_rows(l.kind) as u16;
         note_copy(previous, latest, t, asked.name, k);
         line::put_local(&mut locals, asked.name, value);
         line::put_item(&mut items, counts.items, asked.name, value);

@@ -6,7 +6,6 @@ use Rattle.model.specs.Word.{bit, nonzero}
 use Rattle.model.specs.CaseFile.{compute, store, load, input, assert, assume, lock, unlock}
 use Rattle.model.specs.Line.{nameOfA, hasExpression, nameOfTarget, guardedInValue, breaks}
 use Rattle.model.specs.Holds.{demandMet}
-use Rattle.laws.specs.RowCounts.{valueRowCount}
 use Rattle.line.proofs.KindNumbers.{kind-1, kind-2, kind-3, kind-4, kind-5, kind-6, kind-7, unlock-other, breaks-kind}
 use Rattle.line.proofs.Expressions.{reads-a, reads-target}
 use Rattle.value_check.proofs.Asking.{asks-by, lock-in}
@@ -90,54 +89,54 @@ four-requires-5 : tie.Need-four-requires-5
 four-requires-5 c κs = search needs
 
 returns : tie.Need-returns
-unfolding demandMet valueRowCount breaks guardedInValue nameOfTarget
+unfolding demandMet breaks guardedInValue nameOfTarget
 returns c =
     let start = c .before .before .before .before .before in
     let kind = kind-1 _ (c .before .before .before .match .keys1) in
-    λ k guard. rw (c .four .ensures) (asks-by _ _ _ _ _ true guard compute kind (c .before .before .expression-of .ensures _ _ _ _ _ (start .pre .items) (ap hasExpression kind)) refl refl refl (c .before .local-name .ensures))
+    λ k guard. rw (c .four .ensures) (asks-by _ _ _ _ _ true guard compute kind (c .before .before .expression-of .ensures _ _ _ _ _ (start .pre .items) (ap hasExpression kind)) refl refl (c .before .local-name .ensures))
 
 returns-2 : tie.Need-returns-2
-unfolding demandMet valueRowCount breaks guardedInValue nameOfTarget
+unfolding demandMet breaks guardedInValue nameOfTarget
 returns-2 c =
     let start = c .before .before .before .before in
     let kind = kind-2 _ (c .before .before .match .keys2) in
-    λ k guard. rw (c .four2 .ensures) (asks-by _ _ _ _ _ true guard store kind (c .before .expression-of2 .ensures _ _ _ _ _ (start .pre .items) (ap hasExpression kind)) refl refl refl refl)
+    λ k guard. rw (c .four2 .ensures) (asks-by _ _ _ _ _ true guard store kind (c .before .expression-of2 .ensures _ _ _ _ _ (start .pre .items) (ap hasExpression kind)) refl refl refl)
 
 returns-3 : tie.Need-returns-3
-unfolding demandMet valueRowCount breaks guardedInValue nameOfTarget nameOfA
+unfolding demandMet breaks guardedInValue nameOfTarget nameOfA
 returns-3 c =
     let start = c .before .before .before .before .before .before in
     let kind = kind-3 _ (c .before .before .before .before .match .keys3) in
-    λ k guard. rw (c .four3 .ensures) (asks-by _ _ _ _ _ true guard load kind (reads-a (start .args .locals .now) (start .args .items .now) (start .args .counts .globals) (start .args .counts .items) _ load kind _ _ (c .before .before .item-at .ensures _)) refl refl refl (c .before .local-name2 .ensures))
+    λ k guard. rw (c .four3 .ensures) (asks-by _ _ _ _ _ true guard load kind (reads-a (start .args .locals .now) (start .args .items .now) (start .args .counts .globals) (start .args .counts .items) _ load kind _ _ (c .before .before .item-at .ensures _)) refl refl (c .before .local-name2 .ensures))
 
 returns-4 : tie.Need-returns-4
-unfolding demandMet valueRowCount breaks guardedInValue nameOfTarget
-returns-4 c = λ k guard. rw (c .four4 .ensures) (asks-by _ _ _ _ _ true guard input (kind-4 _ (c .before .before .match .keys4)) refl refl refl refl (c .before .local-name3 .ensures))
+unfolding demandMet breaks guardedInValue nameOfTarget
+returns-4 c = λ k guard. rw (c .four4 .ensures) (asks-by _ _ _ _ _ true guard input (kind-4 _ (c .before .before .match .keys4)) refl refl refl (c .before .local-name3 .ensures))
 
 returns-5 : tie.Need-returns-5
-unfolding demandMet valueRowCount guardedInValue nameOfTarget
+unfolding demandMet guardedInValue nameOfTarget
 returns-5 c =
     let start = c .before .before .before .before .before in
     let kind = kind-5 _ (c .before .before .before .match .keys5) in
-    λ k guard. asks-by _ _ _ _ _ true guard assert kind (c .before .bit-of .ensures ∙ ap (λ (x : ℕ). bit (nonzero x)) (c .before .before .expression-of3 .ensures _ _ _ _ _ (start .pre .items) (ap hasExpression kind))) refl refl (breaks-kind _ _ assert kind _ _ (c .breaks .ensures (start .args .value) k)) refl
+    λ k guard. asks-by _ _ _ _ _ true guard assert kind (c .before .bit-of .ensures ∙ ap (λ (x : ℕ). bit (nonzero x)) (c .before .before .expression-of3 .ensures _ _ _ _ _ (start .pre .items) (ap hasExpression kind))) refl (breaks-kind _ _ assert kind _ _ (c .breaks .ensures (start .args .value) k)) refl
 
 returns-6 : tie.Need-returns-6
-unfolding demandMet valueRowCount breaks guardedInValue nameOfTarget
+unfolding demandMet breaks guardedInValue nameOfTarget
 returns-6 c =
     let start = c .before .before .before .before in
     let kind = kind-6 _ (c .before .before .match .keys6) in
-    λ k guard. asks-by _ _ _ _ _ true guard assume kind (c .bit-of2 .ensures ∙ ap (λ (x : ℕ). bit (nonzero x)) (c .before .expression-of4 .ensures _ _ _ _ _ (start .pre .items) (ap hasExpression kind))) refl refl refl refl
+    λ k guard. asks-by _ _ _ _ _ true guard assume kind (c .bit-of2 .ensures ∙ ap (λ (x : ℕ). bit (nonzero x)) (c .before .expression-of4 .ensures _ _ _ _ _ (start .pre .items) (ap hasExpression kind))) refl refl refl
 
 returns-7 : tie.Need-returns-7
-unfolding valueRowCount breaks guardedInValue nameOfTarget
+unfolding breaks guardedInValue nameOfTarget
 returns-7 c =
     let start = c .before .before .before .before .before in
     let kind = kind-7 _ (c .before .before .before .match .keys7) in
-    λ k guard. asks-by _ _ _ _ _ true guard lock kind refl (lock-in _ _ _ guard _ (reads-target (start .args .locals .now) (start .args .items .now) (start .args .counts .globals) (start .args .counts .items) _ lock kind _ _ (c .before .item-at2 .ensures _))) refl refl refl
+    λ k guard. asks-by _ _ _ _ _ true guard lock kind refl (lock-in _ _ _ guard _ (reads-target (start .args .locals .now) (start .args .items .now) (start .args .counts .globals) (start .args .counts .items) _ lock kind _ _ (c .before .item-at2 .ensures _))) refl refl
 
 returns-8 : tie.Need-returns-8
-unfolding demandMet valueRowCount breaks guardedInValue nameOfTarget
-returns-8 c = λ k guard. rw (c .four5 .ensures) (asks-by _ _ _ _ _ true guard unlock (unlock-other _ (c .before .before .match .rest)) refl refl refl refl refl)
+unfolding demandMet breaks guardedInValue nameOfTarget
+returns-8 c = λ k guard. rw (c .four5 .ensures) (asks-by _ _ _ _ _ true guard unlock (unlock-other _ (c .before .before .match .rest)) refl refl refl refl)
 
 pub asked-in-spec : {M : Type 1} → statement M
 asked-in-spec =

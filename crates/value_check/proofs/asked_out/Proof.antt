@@ -4,7 +4,6 @@ use mathlib.Core.Bool.{false}
 use Rattle.model.specs.CaseFile.{compute, store, load, input, assert, assume, lock, unlock}
 use Rattle.model.specs.Line.{nameOfTarget, guardedOutValue, breaks}
 use Rattle.model.specs.Holds.{demandMet}
-use Rattle.laws.specs.RowCounts.{valueRowCount}
 use Rattle.line.proofs.KindNumbers.{kind-1, kind-2, kind-3, kind-4, kind-5, kind-6, kind-7, unlock-other, breaks-kind}
 use Rattle.line.proofs.Expressions.{reads-target}
 use Rattle.value_check.proofs.Asking.{asks-by, lock-out}
@@ -82,54 +81,54 @@ four-requires-5 : tie.Need-four-requires-5
 four-requires-5 c κs = search needs
 
 returns : tie.Need-returns
-unfolding demandMet valueRowCount breaks guardedOutValue nameOfTarget
+unfolding demandMet breaks guardedOutValue nameOfTarget
 returns c =
     let start = c .before .before .before .before .before in
     let kind = kind-1 _ (c .before .before .before .match .keys1) in
-    λ k guard. rw (c .four .ensures) (asks-by _ _ _ _ _ false guard compute kind (reads-target (start .args .locals .now) (start .args .items .now) (start .args .counts .globals) (start .args .counts .items) _ compute kind _ _ (c .before .before .local-at .ensures (start .args .items .now) (start .args .counts .items) (start .pre .items))) refl refl refl (c .before .local-name .ensures))
+    λ k guard. rw (c .four .ensures) (asks-by _ _ _ _ _ false guard compute kind (reads-target (start .args .locals .now) (start .args .items .now) (start .args .counts .globals) (start .args .counts .items) _ compute kind _ _ (c .before .before .local-at .ensures (start .args .items .now) (start .args .counts .items) (start .pre .items))) refl refl (c .before .local-name .ensures))
 
 returns-2 : tie.Need-returns-2
-unfolding demandMet valueRowCount breaks guardedOutValue nameOfTarget
+unfolding demandMet breaks guardedOutValue nameOfTarget
 returns-2 c =
     let start = c .before .before .before .before in
     let kind = kind-2 _ (c .before .before .match .keys2) in
-    λ k guard. rw (c .four2 .ensures) (asks-by _ _ _ _ _ false guard store kind (reads-target (start .args .locals .now) (start .args .items .now) (start .args .counts .globals) (start .args .counts .items) _ store kind _ _ (c .before .item-at .ensures _)) refl refl refl refl)
+    λ k guard. rw (c .four2 .ensures) (asks-by _ _ _ _ _ false guard store kind (reads-target (start .args .locals .now) (start .args .items .now) (start .args .counts .globals) (start .args .counts .items) _ store kind _ _ (c .before .item-at .ensures _)) refl refl refl)
 
 returns-3 : tie.Need-returns-3
-unfolding demandMet valueRowCount breaks guardedOutValue nameOfTarget
+unfolding demandMet breaks guardedOutValue nameOfTarget
 returns-3 c =
     let start = c .before .before .before .before .before in
     let kind = kind-3 _ (c .before .before .before .match .keys3) in
-    λ k guard. rw (c .four3 .ensures) (asks-by _ _ _ _ _ false guard load kind (reads-target (start .args .locals .now) (start .args .items .now) (start .args .counts .globals) (start .args .counts .items) _ load kind _ _ (c .before .before .local-at2 .ensures (start .args .items .now) (start .args .counts .items) (start .pre .items))) refl refl refl (c .before .local-name2 .ensures))
+    λ k guard. rw (c .four3 .ensures) (asks-by _ _ _ _ _ false guard load kind (reads-target (start .args .locals .now) (start .args .items .now) (start .args .counts .globals) (start .args .counts .items) _ load kind _ _ (c .before .before .local-at2 .ensures (start .args .items .now) (start .args .counts .items) (start .pre .items))) refl refl (c .before .local-name2 .ensures))
 
 returns-4 : tie.Need-returns-4
-unfolding demandMet valueRowCount breaks guardedOutValue nameOfTarget
+unfolding demandMet breaks guardedOutValue nameOfTarget
 returns-4 c =
     let start = c .before .before .before .before .before in
     let kind = kind-4 _ (c .before .before .before .match .keys4) in
-    λ k guard. rw (c .four4 .ensures) (asks-by _ _ _ _ _ false guard input kind (reads-target (start .args .locals .now) (start .args .items .now) (start .args .counts .globals) (start .args .counts .items) _ input kind _ _ (c .before .before .local-at3 .ensures (start .args .items .now) (start .args .counts .items) (start .pre .items))) refl refl refl (c .before .local-name3 .ensures))
+    λ k guard. rw (c .four4 .ensures) (asks-by _ _ _ _ _ false guard input kind (reads-target (start .args .locals .now) (start .args .items .now) (start .args .counts .globals) (start .args .counts .items) _ input kind _ _ (c .before .before .local-at3 .ensures (start .args .items .now) (start .args .counts .items) (start .pre .items))) refl refl (c .before .local-name3 .ensures))
 
 returns-5 : tie.Need-returns-5
-unfolding demandMet valueRowCount guardedOutValue nameOfTarget
-returns-5 c = λ k guard. asks-by _ _ _ _ _ false guard assert (kind-5 _ (c .before .match .keys5)) refl refl refl (breaks-kind _ _ assert (kind-5 _ (c .before .match .keys5)) _ _ (c .breaks .ensures (c .before .before .before .args .value) k)) refl
+unfolding demandMet guardedOutValue nameOfTarget
+returns-5 c = λ k guard. asks-by _ _ _ _ _ false guard assert (kind-5 _ (c .before .match .keys5)) refl refl (breaks-kind _ _ assert (kind-5 _ (c .before .match .keys5)) _ _ (c .breaks .ensures (c .before .before .before .args .value) k)) refl
 
 returns-6 : tie.Need-returns-6
-unfolding demandMet valueRowCount breaks guardedOutValue nameOfTarget
-returns-6 c = λ k guard. asks-by _ _ _ _ _ false guard assume (kind-6 _ (c .match .keys6)) refl refl refl refl refl
+unfolding demandMet breaks guardedOutValue nameOfTarget
+returns-6 c = λ k guard. asks-by _ _ _ _ _ false guard assume (kind-6 _ (c .match .keys6)) refl refl refl refl
 
 returns-7 : tie.Need-returns-7
-unfolding valueRowCount breaks guardedOutValue nameOfTarget
+unfolding breaks guardedOutValue nameOfTarget
 returns-7 c =
     let start = c .before .before .before .before .before in
     let kind = kind-7 _ (c .before .before .before .match .keys7) in
-    λ k guard. asks-by _ _ _ _ _ false guard lock kind (reads-target (start .args .locals .now) (start .args .items .now) (start .args .counts .globals) (start .args .counts .items) _ lock kind _ _ (c .before .item-at2 .ensures _)) (lock-out _ _ _ guard) refl refl refl
+    λ k guard. asks-by _ _ _ _ _ false guard lock kind (reads-target (start .args .locals .now) (start .args .items .now) (start .args .counts .globals) (start .args .counts .items) _ lock kind _ _ (c .before .item-at2 .ensures _)) (lock-out _ _ _ guard) refl refl
 
 returns-8 : tie.Need-returns-8
-unfolding demandMet valueRowCount breaks guardedOutValue nameOfTarget
+unfolding demandMet breaks guardedOutValue nameOfTarget
 returns-8 c =
     let start = c .before .before .before .before .before .before in
     let kind = unlock-other _ (c .before .before .before .before .match .rest) in
-    λ k guard. rw (c .four5 .ensures) (asks-by _ _ _ _ _ false guard unlock kind (reads-target (start .args .locals .now) (start .args .items .now) (start .args .counts .globals) (start .args .counts .items) _ unlock kind _ _ (c .before .before .item-at3 .ensures _)) refl refl refl refl)
+    λ k guard. rw (c .four5 .ensures) (asks-by _ _ _ _ _ false guard unlock kind (reads-target (start .args .locals .now) (start .args .items .now) (start .args .counts .globals) (start .args .counts .items) _ unlock kind _ _ (c .before .before .item-at3 .ensures _)) refl refl refl)
 
 pub asked-out-spec : {M : Type 1} → statement M
 asked-out-spec =

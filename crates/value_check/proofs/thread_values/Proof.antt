@@ -1,8 +1,10 @@
 -- `value_check::thread_values` meets its contract. Assumes nothing.
 use native.Mathlib.Omega.{arith}
 use lib.ListN.{length}
+use Rattle.model.specs.CaseFile.{kindOf}
 use Rattle.laws.specs.Accepted.{linesFrom}
 use Rattle.laws.proofs.Following.{next-low, lines-less}
+use Rattle.laws.proofs.Sizes.{value-count-at-most}
 use Rattle.value_check.proofs.ThreadWalk.{ThreadWalk, walk-start, walk-end, walk-notes, walk-room, walk-block, walk-room-after, walk-found, walk-more}
 use borrow.Author.Needs.{needs}
 use Rattle.value_check.proofs.thread_values.Statement.{statement}
@@ -72,6 +74,12 @@ returns c =
 noted-requires : tie.Need-noted-requires Inv-loop μ-loop
 noted-requires c κs = search needs
 
+value-rows-requires : tie.Need-value-rows-requires Inv-loop μ-loop
+value-rows-requires c κs = search needs
+
+cast-at : tie.Need-cast-at Inv-loop μ-loop
+cast-at c = record { fits = omega (arith, value-count-at-most (kindOf (c .before .before .before .before .before .before .before .before .before .before .before .record-at .result .kind)), c .value-rows .ensures) }
+
 add-at : tie.Need-add-at Inv-loop μ-loop
 add-at c =
     let read = c .before .before .before .before in
@@ -80,7 +88,7 @@ add-at c =
     omega (
       arith,
       walk-room-after (start .pre) (line .before .loop .inv) (line .loop-test .taken) _ (read .before .before .before .before .before .before .block-of .ensures) _ (read .before .before .before .before .before .before .before .record-at .ensures) _ (read .before .before .before .before .before .value-of .ensures) _ (read .before .before .before .enter-block .ensures) _
-          (line .before .before .before .before .counts-of .ensures) _ (read .asked-of .ensures),
+          (line .before .before .before .before .counts-of .ensures) _ (read .asked-of .ensures) (c .value-rows .ensures),
     )
 
 note-copy-requires : tie.Need-note-copy-requires Inv-loop μ-loop
@@ -126,7 +134,7 @@ loop-again c =
     let line = read .before .before .before .before .before .before .before .before in
     let start = line .before .before .before .before .before .before .before in
     walk-more (start .pre) (line .before .loop .inv) (line .loop-test .taken) _ (read .before .before .before .before .before .before .block-of .ensures) _ (read .before .before .before .before .before .before .before .record-at .ensures) _ (read .before .before .before .before .before .value-of .ensures) _ (read .before .before .before .enter-block .ensures) _
-    (line .before .before .before .before .counts-of .ensures) _ (read .asked-of .ensures) _ (c .before .before .before .before .before .before .before .before .before .before .before .line-failing .ensures) (c .before .before .before .before .before .before .before .before .before .before .if1 .left) _ (c .before .before .before .before .before .before .before .before .before .noted .ensures)
+    (line .before .before .before .before .counts-of .ensures) _ (read .asked-of .ensures) _ (c .before .before .before .before .before .before .before .before .before .before .before .line-failing .ensures) (c .before .before .before .before .before .before .before .before .before .before .if1 .left) _ (c .before .before .before .before .before .before .before .before .before .noted .ensures) _ (c .before .before .before .before .before .before .before .before .value-rows .ensures)
     (c .before .before .before .before .before .note-copy .ensures) _ _ (c .before .before .before .put-local .ensures) (c .before .put-item .ensures) _ (c .next-of .ensures)
 
 returns-2 : tie.Need-returns-2 Inv-loop μ-loop
@@ -154,6 +162,8 @@ thread-values-spec =
     line-failing-requires
     returns
     noted-requires
+    value-rows-requires
+    cast-at
     add-at
     note-copy-requires
     put-local-requires
