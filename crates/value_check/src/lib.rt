@@ -44,8 +44,10 @@ pub struct Asked {
     pub name: usize,
 }
 
-// The value of an assert or assume that its guard leaves out.
+// The value of an assert or assume that its guard leaves out, and the value that a 5 asks of an assume.
 const LEFT_OUT: u16 = 1;
+
+const ASSUMED: u16 = 1;
 
 // A 4 alone, of a line that breaks nothing.
 fn four(value: u16, name: usize) -> Asked
@@ -88,7 +90,7 @@ fn asked_in<'a>(
         },
         6 => Asked {
             value: line::bit_of(line::expression_of(locals, l) != 0),
-            met: value == 1,
+            met: value == ASSUMED,
             breaks: false,
             name: NAMES,
         },
@@ -128,7 +130,7 @@ fn asked_out<'a>(
         },
         6 => Asked {
             value: LEFT_OUT,
-            met: value == 1,
+            met: value == ASSUMED,
             breaks: false,
             name: NAMES,
         },
