@@ -4,8 +4,9 @@ use Prim.Native.Nat.{ℕ, _≤_, _<_}
 use mathlib.Core.List.{List}
 use lib.ListN.{length}
 use Rattle.model.specs.Limits.{mostBlocks, mostItems, mostScheduleNumbers}
-use Rattle.model.specs.CaseFile.{records, threadCount, caseOf, itemCount}
+use Rattle.model.specs.CaseFile.{threadCount, caseOf, itemCount}
 use Rattle.laws.specs.Accepted.{Accepted}
+use Rattle.run.specs.Promises.{AllGiven}
 use Rattle.replayer.specs.InputValues.{LinesCounted}
 
 -- A thread of an accepted case, and how many numbers of a schedule are used before it.
@@ -29,8 +30,7 @@ pub record ItemsFit (count : ℕ) (slice : List ℕ) : Type 0 where
   pub few : count ≤ mostItems
   pub room : count ≤ length slice
 
--- An accepted case each of whose records is given a value, and a slice with room for its items.
+-- What a run requires, and a slice with room for the case's items.
 pub record BlocksReady (bytes givens slice : List ℕ) : Type 0 where
-  pub accepted : Accepted bytes
-  pub all-given : records bytes < length givens
+  pub given : AllGiven bytes givens
   pub room : itemCount (caseOf bytes) ≤ length slice
