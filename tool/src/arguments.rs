@@ -3,6 +3,7 @@
 use crate::failure::Failure;
 use crate::help::{named, Page};
 use crate::input::Source;
+use crate::name::shown;
 use crate::solver::Solver;
 use std::ffi::OsString;
 
@@ -39,7 +40,7 @@ pub fn parse(arguments: &[OsString]) -> Result<Call, Failure> {
         Some("--version" | "-V" | "version") => return Ok(Call::Version),
         _ => {}
     }
-    let name = first.to_string_lossy();
+    let name = shown(first);
     let page = named(&name).ok_or_else(|| Failure::Other(format!("there is no command '{name}'; see 'menduvo help'")))?;
     let parts = split(page, rest)?;
     if parts.help {
@@ -75,7 +76,7 @@ fn split(page: &'static Page, arguments: &[OsString]) -> Result<Parts, Failure> 
             ("solve", "--solver") => &mut parts.solver,
             ("solve", "--keep") => &mut parts.keep,
             ("picture", "-o") => &mut parts.file,
-            _ => return Err(usage(page, &format!("there is no option '{name}'"))),
+            _ => return Err(usage(page, &format!("there is no option '{}'", shown(name.as_ref())))),
         };
         let value = attached.or_else(|| rest.next().cloned());
         *place = Some(value.ok_or_else(|| usage(page, &format!("{name} needs a value")))?);
@@ -118,7 +119,7 @@ fn solver(page: &'static Page, name: Option<OsString>) -> Result<Option<Solver>,
     let Some(name) = name else {
         return Ok(None);
     };
-    let name = name.to_string_lossy();
+    let name = shown(&name);
     match Solver::named(&name) {
         Some(solver) => Ok(Some(solver)),
         None => Err(usage(page, &format!("'{name}' is not a solver that this command knows"))),

@@ -4,8 +4,9 @@ use crate::arguments::Call;
 use crate::calls::{listing, Loaded};
 use crate::failure::{Failure, Status};
 use crate::input::Source;
+use crate::name::shown;
 use crate::output::Output;
-use crate::words::{count, numbers_in_lines};
+use crate::words::{all, numbers_in_lines};
 use crate::{demo, folder, help, picture, run, show, solve, solver};
 use std::ffi::OsStr;
 use std::path::Path;
@@ -36,7 +37,7 @@ fn list(source: &Source, output: &mut Output) -> Result<Status, Failure> {
     let bytes = source.case_bytes()?;
     output.say(&listing(&bytes)?)?;
     // A refused case has a listing too; that it is refused is told besides.
-    Loaded::of(source.name(), bytes).map(|_| Status::Done)
+    Loaded::of(source, bytes).map(|_| Status::Done)
 }
 
 fn check(case: &Source, assignment: &Source, output: &mut Output) -> Result<Status, Failure> {
@@ -44,12 +45,12 @@ fn check(case: &Source, assignment: &Source, output: &mut Output) -> Result<Stat
     let numbers = loaded.assignment(assignment)?;
     match loaded.check(&assignment.name(), &numbers)? {
         None => {
-            let constraints = count(loaded.table.rows.len(), "constraint", "constraints");
-            output.say(&format!("meets: the assignment meets all {constraints}\n"))?;
+            let constraints = all(loaded.table.rows.len(), "constraint", "constraints");
+            output.say(&format!("meets: the assignment meets {constraints}\n"))?;
             Ok(Status::Done)
         }
         Some(constraint) => {
-            let details = loaded.constraint_in_words(constraint, &numbers).join("\n  ");
+            let details = loaded.constraint_in_words(constraint, &numbers)?.join("\n  ");
             output.say(&format!("fails: the assignment fails constraint {constraint}\n  {details}\n"))?;
             Ok(Status::Found)
         }
@@ -75,13 +76,12 @@ fn draw(case: &Source, schedule: &Source, file: &OsStr, output: &mut Output) -> 
     let loaded = Loaded::from(case)?;
     let numbers = loaded.schedule(schedule)?;
     let run = run::replay(&loaded, &schedule.name(), &numbers)?;
-    let name = Path::new(&loaded.name).file_stem().unwrap_or_default().to_string_lossy().into_owned();
-    let svg = picture::svg(&loaded.case, &name, &run);
+    let svg = picture::svg(&loaded.case, &shown(&loaded.stem), &run);
     if file == "-" {
         return output.say(&svg).map(|()| Status::Done);
     }
     let written = std::fs::write(file, svg);
-    written.map_err(|error| Failure::Other(format!("{}: {error}", Path::new(file).display())))?;
-    output.say(&format!("{}: {}\n", Path::new(file).display(), run::verdict(&loaded.case, run.ending)))?;
+    written.map_err(|error| Failure::Other(format!("{}: {error}", shown(file))))?;
+    output.say(&format!("{}: {}\n", shown(file), run::verdict(&loaded.case, run.ending)))?;
     Ok(Status::Done)
 }

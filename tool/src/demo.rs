@@ -2,6 +2,7 @@
 
 use crate::calls::Loaded;
 use crate::failure::{Failure, Status};
+use crate::input::Source;
 use crate::numbers::{self, Given};
 use crate::output::Output;
 use crate::run;
@@ -9,12 +10,13 @@ use crate::show;
 use crate::solve::{solve, Solved};
 use crate::solver::SOLVERS;
 use crate::words::{count, numbers_in_lines};
+use std::ffi::OsStr;
 
 const CASE: &[u8] = include_bytes!("../../cases/lost-update.case");
 const ASSIGNMENT: &str = include_str!("../../cases/lost-update.assignment");
 
 pub fn tell(output: &mut Output) -> Result<Status, Failure> {
-    let loaded = Loaded::of("cases/lost-update.case".to_string(), CASE.to_vec())?;
+    let loaded = Loaded::of(&Source::new(OsStr::new("cases/lost-update.case")), CASE.to_vec())?;
     output.say(&format!(
         "1. A CASE. Two threads move one gate: an operator by an amount that is entered, and automatic control by 5.\n\
          \x20  The operator's thread asserts that the gate, G0, moved by both where automatic control is done (G1).\n\n{}\n",
@@ -48,7 +50,7 @@ pub fn tell(output: &mut Output) -> Result<Status, Failure> {
 /// The filed assignment, checked, decoded and replayed.
 fn filed(loaded: &Loaded, output: &mut Output) -> Result<(), Failure> {
     let name = "cases/lost-update.assignment";
-    let (Given::Numbers(assignment) | Given::Model(assignment)) =
+    let (Given::Numbers(assignment) | Given::Model { values: assignment, .. }) =
         numbers::read(ASSIGNMENT, loaded.table.variables).map_err(|problem| Failure::Refused(format!("{name}: {problem}")))?;
     let constraints = count(loaded.table.rows.len(), "constraint", "constraints");
     let variables = count(assignment.len(), "variable", "variables");

@@ -24,6 +24,12 @@ pub enum Failure {
     BrokenPipe,
 }
 
+/// A message on standard error.
+pub fn note(message: &str) {
+    // Where standard error is closed there is no place left to say so; the exit status stands.
+    let _ = writeln!(std::io::stderr(), "menduvo: {message}");
+}
+
 impl Failure {
     pub const STATUS_OTHER: i32 = 3;
 
@@ -38,8 +44,7 @@ impl Failure {
     /// The message, on standard error.
     pub fn report(&self) {
         if let Failure::Fails(message) | Failure::Refused(message) | Failure::Other(message) = self {
-            // Where standard error is closed there is no place left to say so; the exit status stands.
-            let _ = writeln!(std::io::stderr(), "menduvo: {message}");
+            note(message);
         }
     }
 

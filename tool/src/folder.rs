@@ -3,6 +3,7 @@
 use crate::calls::Loaded;
 use crate::failure::{Failure, Status};
 use crate::input::Source;
+use crate::name::shown;
 use crate::output::Output;
 use crate::run;
 use crate::solve::{solve, Solved};
@@ -27,7 +28,7 @@ pub fn all(folder: &OsStr, solver: Solver, keep: Option<&OsStr>, output: &mut Ou
     let mut summaries = Vec::new();
     let mut worst: Option<Failure> = None;
     for (number, path) in cases.iter().enumerate() {
-        progress(&format!("solving {} of {}: {}", number + 1, cases.len(), path.display()));
+        progress(&format!("solving {} of {}: {}", number + 1, cases.len(), shown(path.as_os_str())));
         let (summary, failure) = summarised(path, solver, keep);
         summaries.push(summary);
         let status = |failure: &Option<Failure>| failure.as_ref().map_or(0, Failure::status);
@@ -51,7 +52,7 @@ pub fn all(folder: &OsStr, solver: Solver, keep: Option<&OsStr>, output: &mut Ou
 
 /// The files of the folder that end in .case, by name.
 fn case_files(folder: &OsStr) -> Result<Vec<PathBuf>, Failure> {
-    let named = |error: std::io::Error| Failure::Other(format!("{}: {error}", Path::new(folder).display()));
+    let named = |error: std::io::Error| Failure::Other(format!("{}: {error}", shown(folder)));
     let mut files = Vec::new();
     for entry in std::fs::read_dir(folder).map_err(named)? {
         let path = entry.map_err(named)?.path();
@@ -61,14 +62,14 @@ fn case_files(folder: &OsStr) -> Result<Vec<PathBuf>, Failure> {
     }
     files.sort();
     match files.is_empty() {
-        true => Err(Failure::Other(format!("{}: no file in it ends in .case", Path::new(folder).display()))),
+        true => Err(Failure::Other(format!("{}: no file in it ends in .case", shown(folder)))),
         false => Ok(files),
     }
 }
 
 fn summarised(path: &Path, solver: Solver, keep: Option<&OsStr>) -> (Summary, Option<Failure>) {
     let begin = Instant::now();
-    let name = path.file_name().unwrap_or_default().to_string_lossy().into_owned();
+    let name = shown(path.file_name().unwrap_or_default());
     let mut summary = Summary { name, seconds: 0.0, size: String::new(), word: "failed", note: String::new() };
     let failure = answered(path, solver, keep, &mut summary).err();
     summary.seconds = begin.elapsed().as_secs_f64();
@@ -77,7 +78,7 @@ fn summarised(path: &Path, solver: Solver, keep: Option<&OsStr>) -> (Summary, Op
     }
     if let Some(Failure::Fails(message) | Failure::Refused(message) | Failure::Other(message)) = &failure {
         let first = message.lines().next().unwrap_or_default();
-        let prefix = format!("{}: ", path.display());
+        let prefix = format!("{}: ", shown(path.as_os_str()));
         summary.note = first.strip_prefix(&prefix).unwrap_or(first).to_string();
     }
     (summary, failure)

@@ -2,11 +2,13 @@
 
 use crate::calls::{Ending, Loaded};
 use crate::failure::{Failure, Status};
+use crate::filed;
+use crate::name::shown;
 use crate::output::Output;
 use crate::run::{self, Run};
 use crate::smt;
 use crate::solver::{Answer, Solver};
-use crate::words::{count, numbers_in_lines};
+use crate::words::{all, count, numbers_in_lines, these};
 use std::ffi::OsStr;
 use std::fs;
 use std::path::Path;
@@ -29,10 +31,10 @@ pub fn solve(loaded: &Loaded, solver: Solver, keep: Option<&OsStr>) -> Result<So
         Answer::Unsat => return Ok(Solved::Nothing),
         Answer::Unknown => return Ok(Solved::Unknown),
     };
-    keep_text(keep, loaded, "assignment", &numbers_in_lines(&assignment))?;
+    keep_text(keep, loaded, "assignment", &filed::assignment(loaded, &assignment))?;
     // No input of the user is refused from here on.
     let (schedule, run) = followed(loaded, solver, &assignment).map_err(Failure::unexpected)?;
-    keep_text(keep, loaded, "schedule", &numbers_in_lines(&schedule))?;
+    keep_text(keep, loaded, "schedule", &filed::schedule(loaded, &schedule))?;
     Ok(Solved::Found { assignment, schedule, run })
 }
 
@@ -40,7 +42,7 @@ pub fn solve(loaded: &Loaded, solver: Solver, keep: Option<&OsStr>) -> Result<So
 fn followed(loaded: &Loaded, solver: Solver, assignment: &[u16]) -> Result<(Vec<u16>, Run), Failure> {
     let name = format!("the assignment of {}", solver.name);
     if let Some(constraint) = loaded.check(&name, assignment)? {
-        let details = loaded.constraint_in_words(constraint, assignment).join("\n  ");
+        let details = loaded.constraint_in_words(constraint, assignment)?.join("\n  ");
         return Err(Failure::Other(format!(
             "{name} fails, so {} or the text that it was given is wrong\n  {details}",
             solver.name
@@ -62,11 +64,11 @@ fn keep_text(keep: Option<&OsStr>, loaded: &Loaded, ending: &str, text: &str) ->
     let Some(folder) = keep else {
         return Ok(());
     };
-    let mut name = Path::new(&loaded.name).file_stem().unwrap_or_else(|| OsStr::new("case")).to_os_string();
+    let mut name = loaded.stem.clone();
     name.push(format!(".{ending}"));
     let file = Path::new(folder).join(name);
     let written = fs::create_dir_all(folder).and_then(|()| fs::write(&file, text));
-    written.map_err(|error| Failure::Other(format!("{}: {error}", file.display())))
+    written.map_err(|error| Failure::Other(format!("{}: {error}", shown(file.as_os_str()))))
 }
 
 /// `solve CASE`.
@@ -77,7 +79,7 @@ pub fn one(loaded: &Loaded, solver: Solver, keep: Option<&OsStr>, output: &mut O
     match solve(loaded, solver, keep)? {
         Solved::Found { assignment, schedule, run } => {
             let mut text = format!("{} says sat. Its assignment:\n{}", solver.name, numbers_in_lines(&assignment));
-            text.push_str(&format!("checked: it meets all {constraints}\n"));
+            text.push_str(&format!("checked: it meets {}\n", all(loaded.table.rows.len(), "constraint", "constraints")));
             text.push_str(&format!("decoded: schedule {}\n", numbers_in_lines(&schedule)));
             text.push_str(&run.text(&loaded.case, &schedule));
             output.say(&text)?;
@@ -93,12 +95,13 @@ pub fn one(loaded: &Loaded, solver: Solver, keep: Option<&OsStr>, output: &mut O
 
 /// What unsat means, and what it does not.
 pub fn unsat_in_words(loaded: &Loaded, solver: Solver) -> String {
-    let constraints = count(loaded.table.rows.len(), "constraint", "constraints");
+    let constraints = these(loaded.table.rows.len(), "constraint", "constraints");
     let switches = loaded.case.switches;
+    let bound = if switches == 1 { "switch" } else { "switches" };
     let threads = loaded.case.threads;
     format!(
-        "{} says unsat: nothing meets these {constraints}.\n\
-         It means: no complete legal run breaks an assertion within n = {switches} switches, in round robin: block i\n\
+        "{} says unsat: nothing meets {constraints}.\n\
+         It means: no complete legal run breaks an assertion within n = {switches} {bound}, in round robin: block i\n\
          (0 to {switches}) belongs to thread i modulo {threads}, and a thread that runs no line still uses its turn. A run is\n\
          complete and legal when every thread ran all its lines, every assume held and every lock was free.\n\
          It does not mean: that no assertion breaks with more switches or in another order of threads; that any\n\
