@@ -46,7 +46,10 @@ impl Loaded {
     }
 
     pub fn of(source: &Source, bytes: Vec<u8>) -> Result<Loaded, Failure> {
-        let name = source.name();
+        Loaded::named(source.name(), source.stem(), bytes)
+    }
+
+    fn named(name: String, stem: OsString, bytes: Vec<u8>) -> Result<Loaded, Failure> {
         let mut room = [0; menduvo::MOST_TABLE_NUMBERS];
         let (constraints, variables) = match menduvo::encode(&bytes, &mut room) {
             Encoded::Table { constraints, variables } => (usize::from(constraints), usize::from(variables)),
@@ -60,7 +63,12 @@ impl Loaded {
         let Some(case) = Case::of(bytes) else {
             return Err(Failure::Other(format!("{name}: the library accepted a case of a size that this command cannot read")));
         };
-        Ok(Loaded { name, stem: source.stem(), case, table: Table { rows, variables } })
+        Ok(Loaded { name, stem, case, table: Table { rows, variables } })
+    }
+
+    /// Another case in the place of this one, under its name.
+    pub fn changed(&self, bytes: Vec<u8>) -> Result<Loaded, Failure> {
+        Loaded::named(self.name.clone(), self.stem.clone(), bytes)
     }
 
     /// Numbers or a model, as an assignment.

@@ -7,28 +7,24 @@ use crate::input::Source;
 use crate::name::shown;
 use crate::output::Output;
 use crate::words::{all, numbers_in_lines};
-use crate::{demo, folder, help, picture, run, show, solve, solver};
+use crate::{demo, help, keep, picture, run, several, show, told};
 use std::ffi::OsStr;
-use std::path::Path;
 
 pub fn perform(call: Call, output: &mut Output) -> Result<Status, Failure> {
     match call {
         Call::Help(page) => output.say(&page.map_or_else(help::all, help::one)).map(|()| Status::Done),
         Call::Version => output.say(concat!("menduvo ", env!("CARGO_PKG_VERSION"), "\n")).map(|()| Status::Done),
         Call::Demo => demo::tell(output),
-        Call::List(case) => list(&case, output),
-        Call::Show(case) => output.say(&show::text(&Loaded::from(&case)?)).map(|()| Status::Done),
-        Call::Check(case, assignment) => check(&case, &assignment, output),
-        Call::Decode(case, assignment) => decode(&case, &assignment, output),
-        Call::Replay(case, schedule) => replay(&case, &schedule, output),
-        Call::Solve { case, solver, keep } => {
-            let solver = solver::choose(solver)?;
-            match !case.is_standard_input() && Path::new(case.path()).is_dir() {
-                true => folder::all(case.path(), solver, keep.as_deref(), output),
-                false => solve::one(&Loaded::from(&case)?, solver, keep.as_deref(), output),
-            }
-        }
-        Call::Picture { case, schedule, file } => draw(&case, &schedule, &file, output),
+        Call::List { cases, .. } => list(&cases[0], output),
+        Call::Show { cases, .. } => output.say(&show::text(&Loaded::from(&cases[0])?)).map(|()| Status::Done),
+        Call::Check { case, assignment, .. } => check(&case, &assignment, output),
+        Call::Decode { case, assignment } => decode(&case, &assignment, output),
+        Call::Replay { case, schedule, .. } => replay(&case, &schedule, output),
+        Call::Solve(wanted) => match wanted.cases.as_slice() {
+            [case] if !several::is_several(&wanted.cases) => told::one(case, &wanted, output),
+            _ => several::all(wanted, output),
+        },
+        Call::Picture { case, schedule, file, force } => draw(&case, &schedule, &file, force, output),
     }
 }
 
@@ -72,7 +68,7 @@ fn replay(case: &Source, schedule: &Source, output: &mut Output) -> Result<Statu
     Ok(run.status())
 }
 
-fn draw(case: &Source, schedule: &Source, file: &OsStr, output: &mut Output) -> Result<Status, Failure> {
+fn draw(case: &Source, schedule: &Source, file: &OsStr, force: bool, output: &mut Output) -> Result<Status, Failure> {
     let loaded = Loaded::from(case)?;
     let numbers = loaded.schedule(schedule)?;
     let run = run::replay(&loaded, &schedule.name(), &numbers)?;
@@ -80,8 +76,7 @@ fn draw(case: &Source, schedule: &Source, file: &OsStr, output: &mut Output) -> 
     if file == "-" {
         return output.say(&svg).map(|()| Status::Done);
     }
-    let written = std::fs::write(file, svg);
-    written.map_err(|error| Failure::Other(format!("{}: {error}", shown(file))))?;
+    keep::write_file(file, &svg, force)?;
     output.say(&format!("{}: {}\n", shown(file), run::verdict(&loaded.case, run.ending)))?;
     Ok(Status::Done)
 }

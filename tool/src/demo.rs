@@ -7,8 +7,8 @@ use crate::numbers::{self, Given};
 use crate::output::Output;
 use crate::run;
 use crate::show;
-use crate::solve::{solve, Solved};
-use crate::solver::SOLVERS;
+use crate::solve::{solve, Asking, Verdict};
+use crate::solver;
 use crate::words::{count, numbers_in_lines};
 use std::ffi::OsStr;
 
@@ -23,26 +23,25 @@ pub fn tell(output: &mut Output) -> Result<Status, Failure> {
         show::text(&loaded)
     ))?;
     filed(&loaded, output)?;
-    match SOLVERS.into_iter().find(|solver| solver.is_installed()) {
-        None => output.say("5. A SOLVER. None is installed; with z3 or cvc5 'menduvo solve' looks for itself.\n")?,
-        Some(solver) => {
-            output
-                .say(&format!("5. A SOLVER. {} looks for itself, and knows nothing of the filed assignment: ", solver.name))?;
-            output.say(&match solve(&loaded, solver, None)? {
-                Solved::Found { schedule, run, .. } => format!(
-                    "sat.\n   Its assignment is checked, decoded and replayed as well.\n   schedule {}   {}\n",
-                    numbers_in_lines(&schedule),
-                    run::verdict(&loaded.case, run.ending)
-                ),
-                Solved::Nothing | Solved::Unknown => {
-                    return Err(Failure::Other(format!(
-                        "{} finds nothing, although the filed assignment is there",
-                        solver.name
-                    )))
-                }
-            })?;
-        }
-    }
+    let Some(solver) = solver::first_installed() else {
+        output.say("5. A SOLVER. None is installed; with z3 or cvc5 'menduvo solve' looks for itself.\n")?;
+        return next(output);
+    };
+    let name = solver.name.clone();
+    output.say(&format!("5. A SOLVER. {name} looks for itself, and knows nothing of the filed assignment: "))?;
+    let solved = solve(&loaded, &Asking { solvers: vec![solver], limit: None }, &mut |_| {})?;
+    let Verdict::Violated(found) = &solved.verdict else {
+        return Err(Failure::Other(format!("{name} finds nothing, although the filed assignment is there")));
+    };
+    output.say(&format!(
+        "sat.\n   Its assignment is checked, decoded and replayed as well.\n   schedule {}   {}\n",
+        numbers_in_lines(&found.schedule),
+        run::verdict(&loaded.case, found.run.ending)
+    ))?;
+    next(output)
+}
+
+fn next(output: &mut Output) -> Result<Status, Failure> {
     output.say("\nNext: bin/menduvo picture cases/lost-update.case cases/lost-update.schedule -o lost-update.svg\n")?;
     Ok(Status::Done)
 }

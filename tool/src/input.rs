@@ -37,6 +37,10 @@ impl Source {
         stem.unwrap_or_else(|| OsStr::new("case")).to_os_string()
     }
 
+    pub fn is_folder(&self) -> bool {
+        !self.is_standard_input() && Path::new(&self.0).is_dir()
+    }
+
     pub fn path(&self) -> &OsStr {
         &self.0
     }
