@@ -47,9 +47,9 @@ texts() {
     text 'a bad number' 2 "text: line 3, column 5: 'x' is not a number from 0 to 65535" '0 0\n# x\n1 2 x 4\n'
     text 'a bad number after commas' 2 "text: line 1, column 6: '1.5' is not a number" '0,,0,1.5\n'
     text 'a bad number after a mark' 2 "text: line 1, column 1: '65536' is not a number" "${mark}65536"
-    text 'a bad number after other signs' 2 "text: line 2, column 4: 'é' is not a number" "\n0\u3000\u00a0é"
+    text 'a bad number after other signs' 2 "text: line 2, column 4: 'é' is not a number" "\n0\xe3\x80\x80\xc2\xa0\xc3\xa9"
     text 'a bad number in lines of other systems' 2 "text: line 3, column 3: 'x' is not a number" '0\r\n0\r1 x'
-    text 'a bad number with control signs' 2 "'\\x1b[2J\\u{202e}' is not a number" '\x1b[2J\u202e'
+    text 'a bad number with control signs' 2 "'\\x1b[2J\\u{202e}' is not a number" '\x1b[2J\xe2\x80\xae'
     text 'two values in a model' 2 'text: line 3: v0 has two values' '# x\n((v0 #x0000)\n(v0 #x0000))'
     text 'a variable too many' 2 'text: line 2: v12 has a value, but the case has 12 variables' '\n((v12 #x0000))'
     text 'no constant' 2 'text: line 2: the value of v1 is not a constant' '((v0 #x0000)\n (v1\n 5))'
@@ -240,7 +240,7 @@ mended_numbers() {
             place=$((kind == 4 ? 2 * first - 1 : 2 * records + second * items + first))
             numbers[place]=${BASH_REMATCH[1]}
         done
-        result "$name, mended" test "$status, $((tries > 5)), ${numbers[*]}" = "0, 1, ${all[*]}"
+        result "$name, mended" test "$status, $((tries > 3)), ${numbers[*]}" = "0, 1, ${all[*]}"
     done <<'CASES'
 case-a 5 1 -1
 lost-update 12 2 1
@@ -298,7 +298,7 @@ singulars() {
     fields 2 1 0 1 0 0 0 0 0 0 0 0 0 0 0 0 >"$scratch/mutex.case"
     says 'one variable' 2 'v1 has a value, but the case has 1 variable' "$menduvo" check "$scratch/mutex.case" <(echo '((v1 #x0000))')
     local things='thread|switche|global|mutexe|record|constraint|variable|line|block|number|value|item|case|byte'
-    run grep -nE "(all|these) 1 |[^0-9]1 ($things)s\b" tests/command/*.expected
+    run grep -nE "(all|these) 1 |[^+] 1 ($things)s\b" tests/command/*.expected
     result 'no plural of one thing' test "$status" = 1
 }
 
@@ -357,7 +357,7 @@ picture() {
 }
 
 pictures() {
-    local byte sign ascii= high=
+    local byte sign ascii='' high=''
     for ((byte = 1; byte < 256; byte++)); do
         printf -v sign '%b' "\\x$(printf %02x "$byte")"
         if ((byte < 128 && byte != 47)); then ascii+=$sign; elif ((byte >= 128)); then high+=$sign; fi
