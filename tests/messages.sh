@@ -190,6 +190,11 @@ rows_of_guards() {
     fields 2 0 0 0 1 0 0 0 0 0 0 0 0 0 0 0  0 4 1 3 0 0 0 0 >"$case"
     needs 'an input, guard false' "$case" '0 9' \
         "needed: value 0 (the guard L0 != 0 is false with L0 = 0 at the start; $keeps L3 = 0 at the start); found: 9"
+    fields 2 0 0 0 1 0 0 0 0 0 0 0 0 0 0 0  0 6 1 0 0 16 0 0 >"$scratch/assume.case"
+    needs 'an assume, guard false' "$scratch/assume.case" '0 0' \
+        'needed: value 1 (the guard L0 != 0 is false with L0 = 0 at the start; an assume then has 1); found: 0'
+    fields 2 0 0 0 1 0 0 0 0 0 0 0 0 0 0 0  0 1 0 0 1 0 0 0 >"$scratch/double.case"
+    needs 'a local twice' "$scratch/double.case" '0 5' 'needed: value 0 (L0 + L0 with L0 = 0 at the start); found: 5'
     needs 'a 7 without an assert' "$case" '0 0' 'needed: an assert with value 0; found: no assert'
 }
 
@@ -296,7 +301,8 @@ singulars() {
     result 'more switches' eval '[[ $out = *"within n = 2 switches, in"* ]]'
     # One mutex and one switch: a single variable.
     fields 2 1 0 1 0 0 0 0 0 0 0 0 0 0 0 0 >"$scratch/mutex.case"
-    says 'one variable' 2 'v1 has a value, but the case has 1 variable' "$menduvo" check "$scratch/mutex.case" <(echo '((v1 #x0000))')
+    run "$menduvo" check "$scratch/mutex.case" <(echo '((v1 #x0000))')
+    result 'one variable' eval '[[ $out = *": line 1: v1 has a value, but the case has 1 variable" ]]'
     local things='thread|switche|global|mutexe|record|constraint|variable|line|block|number|value|item|case|byte'
     run grep -nE "(all|these) 1 |[^+] 1 ($things)s\b" tests/command/*.expected
     result 'no plural of one thing' test "$status" = 1
@@ -313,8 +319,8 @@ names() {
     shown $'\x1b[2J\x07\x7f' '\x1b[2J\x07\x7f'
     shown $'\xff\xc3' '\xff\xc3'
     shown 'a\xff' 'a\\xff'
-    shown $'\xc2\x85\xe2\x80\xae\xe2\x80\xaa\xe2\x81\xa6\xe2\x81\xa9\xe2\x80\xa8\xe2\x80\xa9' \
-        '\u{85}\u{202e}\u{202a}\u{2066}\u{2069}\u{2028}\u{2029}'
+    shown $'\xc2\x9b\xc2\x85\xe2\x80\xae\xe2\x80\xaa\xe2\x81\xa6\xe2\x81\xa9\xe2\x80\xa8\xe2\x80\xa9' \
+        '\u{9b}\u{85}\u{202e}\u{202a}\u{2066}\u{2069}\u{2028}\u{2029}'
     shown $'\xef\xbf\xbe\xef\xbb\xbf\xe2\x80\x8b' '\u{fffe}\u{feff}\u{200b}'
     shown $'Übung é 水 \xf0\x9f\x98\x80' $'Übung é 水 \xf0\x9f\x98\x80'
     says 'a command that is none' 3 "there is no command 'a\\x1b'" "$menduvo" $'a\x1b'
