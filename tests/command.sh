@@ -162,46 +162,9 @@ outputs() {
     result 'standard error is closed' test "$status" = 3
 }
 
-# The script bin/menduvo in a scratch repository, where rt and cargo are fakes that note their calls.
-building() {
-    local repo=$scratch/repo seen=$scratch/bare
-    unset MENDUVO_LIB_DIR
-    bare mkdir touch mv chmod
-    mkdir -p "$repo"/{bin,crates,tool,bindings,cases} && cp bin/menduvo "$repo/bin/" && touch "$repo"/crates.txt
-    touch "$repo"/cases/lost-update.{case,assignment}
-    fake rt 'echo rt >>calls; mkdir -p target/staticlib; touch target/staticlib/libmenduvo.a; [ ! -e broken ]'
-    fake cargo 'cd "${0%/fakes/*}/repo"; echo cargo >>calls; mkdir -p target/menduvo/release
-        printf "#!%s\necho it runs\n" "$BASH" >target/menduvo/release/menduvo; chmod +x target/menduvo/release/menduvo'
-    says 'rt is missing' 3 'rt is not installed' "$repo/bin/menduvo"
-    mv "$scratch/fakes/rt" "$scratch/bare/"
-    says 'cargo is missing' 3 'cargo is not installed' "$repo/bin/menduvo"
-    seen+=:$scratch/fakes
-    : >"$repo/calls"
-    says 'it builds the command' 0 'it runs' "$repo/bin/menduvo"
-    result 'the library is built once' test "$(<"$repo/calls")" = cargo
-    run "$repo/bin/menduvo"
-    result 'nothing to do, nothing said' eval '[ "$out" = "it runs" ] && [ "$(<"$repo/calls")" = cargo ]'
-    sleep 0.02
-    : >"$repo/calls" && : >"$repo/tool/new.rs"
-    run "$repo/bin/menduvo"
-    result 'the command changed' test "$(<"$repo/calls")" = cargo
-    sleep 0.02
-    : >"$repo/calls" && : >"$repo/crates/new.rt"
-    run "$repo/bin/menduvo"
-    result 'the library changed' test "$(<"$repo/calls")" = $'rt\ncargo'
-    : >"$repo/calls" && rm -r "$repo/target"
-    run "$repo/bin/menduvo"
-    result 'target/ is gone' test "$(<"$repo/calls")" = $'rt\ncargo'
-    sleep 0.02
-    : >"$repo/broken" && : >"$repo/crates/newer.rt"
-    says 'a proof fails' 3 'rt staticlib menduvo failed' "$repo/bin/menduvo"
-    says 'it is not forgotten' 3 'rt staticlib menduvo failed' "$repo/bin/menduvo"
-}
-
 calling
 reading
 numbers
 refusals
 outputs
-building
 finish
