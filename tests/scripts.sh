@@ -438,42 +438,66 @@ real() {
 
 # ---- The schema can say no.
 
-# damage NAME SCRIPT: the object, changed by this sed script, is refused. Nothing is tested where nothing changes.
-damage() {
-    local changed
-    changed=$(sed -E "$2" <<<"$object")
-    [ "$changed" != "$object" ] || return
-    out=$("$json" validate "$schema" <<<"$changed" 2>&1)
-    status=$?
-    damages=$((damages + 1))
-    [ "$status" = 1 ] || result "$1 of $object" false
+# forms: of the objects that were printed one of each form, as far as fields and answer tell.
+forms() {
+    sort -u "$scratch/all" | awk '{
+        form = match($0, /"answer":"[a-z ]*"/) ? substr($0, RSTART, RLENGTH) : ""
+        form = substr($0, 1, index($0, ",")) form ($0 ~ /"summary"/) ($0 ~ /"refusal":null/) ($0 ~ /"message"/)
+        if (!(form in seen)) print
+        seen[form] = 1
+    }'
 }
 
-# Of every form of object that was printed one, with each of its fields damaged in turn.
+# damaged_objects: each object of standard input, damaged in one place: no field, one too many, a value of another type, a
+# number that is negative, another element in a list, another status.
+damaged_objects() {
+    awk '
+        function change(key, pattern, before, after, kept,    head) {
+            head = "\"" key "\":"
+            if (!match($0, head pattern)) return
+            kept = kept ? substr($0, RSTART + length(head), RLENGTH - length(head)) : ""
+            print substr($0, 1, RSTART - 1) head before kept after substr($0, RSTART + RLENGTH)
+        }
+        function damage(key,    head) {
+            head = "\"" key "\":"
+            if (match($0, head)) print substr($0, 1, RSTART) "x" substr($0, RSTART + 1)
+            if (match($0, head "\\[[^]]")) print substr($0, 1, RSTART + length(head)) "{}," substr($0, RSTART + length(head) + 1)
+            change(key, "\\[\\]", "[{}]", "", 0)
+            change(key, "\\[[^][]*\\]", "{}", "", 0)
+            change(key, "([0-9.]+|true|false)", "\"", "\"", 1)
+            change(key, "(null|true|false|\"[^\"\\\\]*\")", "70000", "", 0)
+            change(key, "[0-9.]+", "-1", "", 1)
+        }
+        {
+            print "{\"stray\":1," substr($0, 2)
+            change("status", "[0-9]", "4", "", 0)
+            if ($0 !~ /"summary":true/) change("status", "[0-9]", $0 ~ /"status":[02]/ ? 3 : $0 ~ /"status":3/ ? 0 : 2, "", 0)
+            change("answer", "\"[a-z ]*\"", "\"sat\"", "", 0)
+            change("row", "\\[", "[0,", "", 0)
+            change("rows", "\\[\\[", "[[0,", "", 0)
+            change("row", "\\[[0-9]+,", "[", "", 0)
+            split("", seen)
+            rest = $0
+            while (match(rest, /"[a-z]+":/)) {
+                key = substr(rest, RSTART + 1, RLENGTH - 3)
+                rest = substr(rest, RSTART + RLENGTH)
+                if (!(key in seen)) damage(key)
+                seen[key] = 1
+            }
+        }'
+}
+
 damages() {
-    local object key damages=0 answers
-    # Several may have the same answer; those of different length are likely to differ in form.
-    sort -u "$scratch/all" | awk '{
-        match($0, /"command":"[a-z]*"/); form = substr($0, RSTART, RLENGTH)
-        if (match($0, /"answer":"[a-z ]*"/)) form = form substr($0, RSTART, RLENGTH)
-        form = form ($0 ~ /"summary"/) ($0 ~ /"refusal":null/) ($0 ~ /"message"/)
-    } !(form in seen) { seen[form] = 1; print }' >"$scratch/forms"
-    while read -r object; do
-        damage 'a field too many' 's/^\{/{"stray":1,/'
-        damage 'another status' 's/"status":[0-9]/"status":4/'
-        [[ $object = *'"summary":true'* ]] || damage 'a status of another answer' 's/"status":3/"status":0/; t; s/"status":[02]/"status":3/; t; s/"status":1/"status":2/'
-        damage 'another answer' 's/"answer":"[a-z ]*"/"answer":"sat"/'
-        for key in $(grep -oE '"[a-z]+":' <<<"$object" | sort -u | tr -d '":'); do
-            damage "no $key" "s/\"$key\":/\"${key}x\":/"
-            damage "$key is a text" "s/\"$key\":([0-9.]+|true|false)/\"$key\":\"\\1\"/"
-            damage "$key is a number" "s/\"$key\":(null|true|false|\"[^\"\\]*\")/\"$key\":70000/"
-            damage "$key is negative" "s/\"$key\":([0-9])/\"$key\":-1\\1/"
-            damage "$key has another element" "s/\"$key\":\\[\\]/\"$key\":[{\"stray\":1}]/; t; s/\"$key\":\\[/\"$key\":[{\"stray\":1},/"
-            damage "$key is an object" "s/\"$key\":\\[([^][]*)\\]/\"$key\":{}/"
-        done
-    done <"$scratch/forms"
-    out="$damages damaged objects of $(wc -l <"$scratch/forms") forms"
-    result 'there are damaged objects of every form' eval '[ "$damages" -gt 500 ] && [ "$(wc -l <"$scratch/forms")" -ge 28 ]'
+    forms >"$scratch/forms"
+    out=$(cut -c 1-120 "$scratch/forms")
+    result 'every form was printed' test "$(wc -l <"$scratch/forms")" = 27
+    damaged_objects <"$scratch/forms" >"$scratch/damages"
+    out=$("$json" refuse "$schema" <"$scratch/damages" 2>&1)
+    [[ $out != line*valid ]] || out+=": $(sed -n "$(tr -dc 0-9 <<<"$out")p" "$scratch/damages")"
+    result 'damaged objects are refused' test "$out" = "$(wc -l <"$scratch/damages") lines, none valid"
+    result 'there are many of them' test "$(wc -l <"$scratch/damages")" -gt 900
+    out=$("$json" refuse "$schema" <"$scratch/forms" 2>&1)
+    result 'those that are not damaged are not' test "$out" = 'line 1: valid'
 }
 
 # ---- docs/PARALLEL.md.

@@ -1,5 +1,6 @@
 //! Objects of JSON, one a line, from standard input. `validate SCHEMA` holds each to a schema, and says `N lines, all valid` or
-//! the first violation with its path. `get NAME..` prints the value that the names lead to, for each object, as a script wants it.
+//! the first violation with its path; `refuse SCHEMA` says `N lines, none valid` or the first that is. `get NAME..` prints the
+//! value that the names lead to, for each object, as a script wants it.
 //! Exit status 0 where all is well, 1 where a line is not as it should be, 2 where the schema or the call is not.
 
 #![forbid(unsafe_code)]
@@ -17,9 +18,10 @@ fn main() -> ExitCode {
     let arguments: Vec<String> = std::env::args().skip(1).collect();
     let words: Vec<&str> = arguments.iter().map(String::as_str).collect();
     let done = match words.as_slice() {
-        ["validate", file] => schema_of(file).map(|schema| valid(&schema)),
+        ["validate", file] => schema_of(file).map(|schema| all_valid(&schema)),
+        ["refuse", file] => schema_of(file).map(|schema| none_valid(&schema)),
         ["get", names @ ..] if !names.is_empty() => Ok(got(names)),
-        _ => Err("usage: menduvo-json validate SCHEMA | menduvo-json get NAME..".to_string()),
+        _ => Err("usage: menduvo-json validate SCHEMA | refuse SCHEMA | get NAME..".to_string()),
     };
     match done {
         Ok(Ok(text)) => {
@@ -57,13 +59,21 @@ fn objects() -> Result<Vec<(usize, Value)>, String> {
     whole.split('\n').zip(1..).map(read).collect()
 }
 
-fn valid(schema: &Schema) -> Result<String, String> {
+fn all_valid(schema: &Schema) -> Result<String, String> {
     let objects = objects()?;
     for (number, object) in &objects {
         let valid = validate::validate(schema, object);
         valid.map_err(|violation| format!("line {number}: {}: {}", violation.path, violation.words))?;
     }
     Ok(format!("{} lines, all valid\n", objects.len()))
+}
+
+fn none_valid(schema: &Schema) -> Result<String, String> {
+    let objects = objects()?;
+    match objects.iter().find(|(_, object)| validate::validate(schema, object).is_ok()) {
+        Some((number, _)) => Err(format!("line {number}: valid")),
+        None => Ok(format!("{} lines, none valid\n", objects.len())),
+    }
 }
 
 fn got(names: &[&str]) -> Result<String, String> {
