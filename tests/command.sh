@@ -75,7 +75,7 @@ reading() {
     says 'a picture replaces no file' 3 'a.svg is there already; --force replaces it' \
         "$menduvo" picture cases/lock-order.case cases/lock-order.schedule -o "$scratch/a.svg"
     result 'the picture is still there' cmp -s "$scratch/a.svg" tests/command/picture-case-a.expected
-    says 'a picture replaces a file' 0 'clean' \
+    says 'a picture replaces a file' 0 'cut off' \
         "$menduvo" picture cases/lock-order.case cases/lock-order.schedule -o "$scratch/a.svg" --force
     result 'the picture is replaced' cmp -s "$scratch/a.svg" tests/command/picture-lock-order.expected
     says 'picture to a place that is not there' 3 'a.svg: ' \

@@ -102,10 +102,10 @@ FAKES
     says 'a solver that ends with 20 after unsat' 0 'z3 says unsat' "$menduvo" solve cases/interlock.case
     fake z3 "cat >/dev/null; echo sat; echo '$model'; exit 10"
     says 'a solver that ends with 10 after sat' 1 'violated' "$menduvo" solve cases/case-a.case
-    says 'no z3' 3 'the solver z3 is not installed' env PATH="$scratch/bare:$scratch/none" "$menduvo" solve cases --solver z3
     bare
     local seen=$scratch/bare
     says 'no solver' 3 'no solver is installed' "$menduvo" solve cases/case-a.case
+    says 'no z3' 3 'the solver z3 is not installed' "$menduvo" solve cases/case-a.case --solver z3
     says 'no cvc5' 3 'the solver cvc5 is not installed' "$menduvo" solve cases/case-a.case --solver cvc5
     says 'one of both is missing' 3 'the solver z3 is not installed' "$menduvo" solve cases/case-a.case --solver both
     says 'a command that is not there' 3 'the solver yices is not installed' \
@@ -181,9 +181,9 @@ vacuous() {
     without_times
     matches solve-vacuous 1
     rm "$scratch/words/broken.case"
-    says 'a folder with vacuous answers' 0 '2 unsat, 3 vacuous' "$menduvo" solve "$scratch/words" --solver z3 --keep "$scratch/strictly"
-    says 'strictly' 1 '2 unsat, 3 vacuous' "$menduvo" solve "$scratch/words" --solver z3 --strict
-    says 'strictly, resumed' 1 '2 unsat, 3 vacuous' "$menduvo" solve "$scratch/words" --resume "$scratch/strictly" --strict
+    says 'a folder with vacuous answers' 0 '3 unsat, 3 vacuous' "$menduvo" solve "$scratch/words" --solver z3 --keep "$scratch/strictly"
+    says 'strictly' 1 '3 unsat, 3 vacuous' "$menduvo" solve "$scratch/words" --solver z3 --strict
+    says 'strictly, resumed' 1 '3 unsat, 3 vacuous' "$menduvo" solve "$scratch/words" --resume "$scratch/strictly" --strict
     # The question is answered, and whether the assert is reached is not.
     fake z3 'case $(cat) in *"(or false)"*|*"L1 == 0"*) echo unsat ;; *) exec sleep 60 ;; esac'
 }
