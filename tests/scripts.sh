@@ -188,9 +188,11 @@ is() {
 
 # tells NAME: what is told on standard error is the object's message, as it is without --json.
 tells() {
-    local lines=() line
-    for ((line = 0; line < $(get message); line++)); do lines+=("$(get message "$line")"); done
-    printf 'menduvo: %s\n' "$(printf '%s\n' "${lines[@]}")" >"$scratch/message"
+    local lines=() line count
+    count=$(get message)
+    [[ $count =~ ^[0-9]+$ ]] || count=0
+    for ((line = 0; line < count; line++)); do lines+=("$(get message "$line")"); done
+    printf 'menduvo: %s\n' "$(printf '%s\n' "${lines[@]:-}")" >"$scratch/message"
     result "$1, the message" eval 'cmp -s "$scratch/message" "$scratch/errors" && cmp -s "$scratch/told" "$scratch/errors"'
 }
 
@@ -225,7 +227,9 @@ replays() {
     local field step=
     for field in block thread line record does event words; do step+="$(get steps 2 "$field"), "; done
     result 'a step' test "$step" = '1, 1, 1, 5, G0 = 5, set, G0 = 5, '
-    result 'the broken one' eval '[ "$(get steps 4 event)" = broken ] && [ "$(get steps 4 words)" = "5 == 1 is false" ]'
+    step=
+    for field in block thread line record event words; do step+="$(get steps 4 "$field"), "; done
+    result 'the broken one' test "$step" = '2, 0, 4, 4, broken, 5 == 1 is false, '
     object 'replay, clean' 0 clean replay cases/interlock.case cases/interlock.schedule
     is 'replay, clean' null record
     object 'replay, cut off' 0 'cut off' replay cases/lock-order.case cases/lock-order.schedule
@@ -265,6 +269,11 @@ listings() {
         result "show $name: there are lines" test -s "$scratch/lines"
     done
     object 'show, a case without a record' 0 shown show "$scratch/empty.case"
+    # L0 = L0 + L0
+    fields 2 0 0 0 1 0 0 0 0 0 0 0 0 0 0 0 0 1 0 0 1 0 0 0 >"$scratch/double.case"
+    object 'show, a name three times' 0 shown show "$scratch/double.case"
+    is 'show, a name three times' 1 threads 0 lines 0 copies
+    is 'show, a name three times' L0 threads 0 lines 0 copies 0 name
 }
 
 # What is refused, and what is not there: in every command, for every input.
