@@ -10,16 +10,7 @@ trap 'rm -rf -- "$scratch"' EXIT
 store=no
 [ "${1:-}" != --store ] || store=yes
 menduvo=$PWD/bin/menduvo
-seen=$PATH # the PATH that the command sees
-
-# run COMMAND..: as in counting.sh, with the PATH that the command sees. The output stays in a file too, without the scratch
-# folder's name.
-run() {
-    env PATH="$seen" timeout 60 "$@" >"$scratch/out" 2>&1 </dev/null
-    status=$?
-    sed -i "s|$scratch/||g" "$scratch/out"
-    out=$(<"$scratch/out")
-}
+. tests/fakes.sh || exit
 
 # same NAME STATUS COMMAND..: it ends with this status and prints what is stored under NAME.
 same() {
@@ -36,14 +27,6 @@ matches() {
     result "$1" eval '[ "$status" = '"$2"' ] && cmp -s "$scratch/out" '"$file"
 }
 
-# says NAME STATUS TEXT COMMAND..: it ends with this status, and prints this text among others.
-says() {
-    local name=$1 wanted=$2 text=$3
-    shift 3
-    run "$@"
-    result "$name" eval '[ "$status" = '"$wanted"' ] && [[ $out = *"$text"* ]]'
-}
-
 # fields NUMBER..: the numbers as fields of a case, 16 bits each, low byte first.
 fields() {
     local number bytes all=
@@ -58,19 +41,6 @@ fields() {
 damaged() {
     cp cases/case-a.case "$scratch/damaged.case"
     fields "$2" | dd of="$scratch/damaged.case" bs=2 seek="$1" conv=notrunc status=none
-}
-
-# fake NAME BODY: a program in the scratch folder's fakes, which come first in PATH.
-fake() {
-    mkdir -p "$scratch/fakes"
-    printf '#!%s\n%s\n' "$BASH" "$2" >"$scratch/fakes/$1" && chmod +x "$scratch/fakes/$1"
-}
-
-# bare TOOL..: make a folder for PATH with these tools alone, and those that every run needs.
-bare() {
-    local tool
-    rm -rf "$scratch/bare" && mkdir "$scratch/bare"
-    for tool in bash timeout readlink find cat "$@"; do ln -s "$(type -P "$tool")" "$scratch/bare/$tool"; done
 }
 
 calling() {
@@ -281,42 +251,6 @@ outputs() {
     result 'standard error is closed' test "$status" = 3
 }
 
-# The script bin/menduvo in a scratch repository, where rt and cargo are fakes that note their calls.
-building() {
-    local repo=$scratch/repo seen=$scratch/bare
-    unset MENDUVO_LIB_DIR
-    bare mkdir touch mv chmod
-    mkdir -p "$repo"/{bin,crates,tool,bindings,cases} && cp bin/menduvo "$repo/bin/" && touch "$repo"/crates.txt
-    touch "$repo"/cases/lost-update.{case,assignment}
-    fake rt 'echo rt >>calls; mkdir -p target/staticlib; touch target/staticlib/libmenduvo.a; [ ! -e broken ]'
-    fake cargo 'cd "${0%/fakes/*}/repo"; echo cargo >>calls; mkdir -p target/menduvo/release
-        printf "#!%s\necho it runs\n" "$BASH" >target/menduvo/release/menduvo; chmod +x target/menduvo/release/menduvo'
-    says 'rt is missing' 3 'rt is not installed' "$repo/bin/menduvo"
-    mv "$scratch/fakes/rt" "$scratch/bare/"
-    says 'cargo is missing' 3 'cargo is not installed' "$repo/bin/menduvo"
-    seen+=:$scratch/fakes
-    : >"$repo/calls"
-    says 'it builds the command' 0 'it runs' "$repo/bin/menduvo"
-    result 'the library is built once' test "$(<"$repo/calls")" = cargo
-    run "$repo/bin/menduvo"
-    result 'nothing to do, nothing said' eval '[ "$out" = "it runs" ] && [ "$(<"$repo/calls")" = cargo ]'
-    sleep 0.02
-    : >"$repo/calls" && : >"$repo/tool/new.rs"
-    run "$repo/bin/menduvo"
-    result 'the command changed' test "$(<"$repo/calls")" = cargo
-    sleep 0.02
-    : >"$repo/calls" && : >"$repo/crates/new.rt"
-    run "$repo/bin/menduvo"
-    result 'the library changed' test "$(<"$repo/calls")" = $'rt\ncargo'
-    : >"$repo/calls" && rm -r "$repo/target"
-    run "$repo/bin/menduvo"
-    result 'target/ is gone' test "$(<"$repo/calls")" = $'rt\ncargo'
-    sleep 0.02
-    : >"$repo/broken" && : >"$repo/crates/newer.rt"
-    says 'a proof fails' 3 'rt staticlib menduvo failed' "$repo/bin/menduvo"
-    says 'it is not forgotten' 3 'rt staticlib menduvo failed' "$repo/bin/menduvo"
-}
-
 calling
 reading
 numbers
@@ -324,5 +258,4 @@ refusals
 fake_solvers
 real_solvers
 outputs
-building
 finish
