@@ -191,7 +191,7 @@ failures() {
 names() {
     local name shown seen=$scratch/fakes:$seen
     fake z3 "cat >/dev/null; echo sat; echo '$model'"
-    for name in 'quo"te' $'new\nline' $'\e[2Jclear' $'no\xff\xfeutf' 'back\slash' $'tab\tbed' 'ünï😀' $'\u202eturned' \
+    for name in 'quo"te' $'new\nline' $'\e[2Jclear' $'no\xff\xfeutf' 'back\slash' $'tab\tbed' 'ünï😀' $'\xe2\x80\xaeturned' \
         '","status":0,"answer":"unsat' ' '; do
         cp cases/case-a.case "$scratch/$name.case"
         object "show $(printf %q "$name")" 0 shown show "$scratch/$name.case"

@@ -65,7 +65,7 @@ BAD
     reads 'an empty line' 1 '{}' <<<$'{}\n\n{}'
     reads 'a tab in a text' 1 '{}' <<<$'{"a":"\t"}'
     reads 'a form feed for a blank' 1 '{}' <<<$'{\f}'
-    reads 'a mark of byte order' 1 '{}' <<<$'\ufeff{}'
+    reads 'a mark of byte order' 1 '{}' <<<$'\xef\xbb\xbf{}'
     reads 'bytes that are no UTF-8' 1 '{}' <<<$'{"a":"\xff"}'
     reads 'no line' 1 '{}' </dev/null
     reads 'a line that does not end' 1 '{}' < <(printf '{}')
