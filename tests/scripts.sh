@@ -463,6 +463,7 @@ run cargo build --release --offline --locked --quiet --manifest-path tests/json/
 result 'the validator is built' test "$status" = 0
 run "$menduvo" --version
 result 'the command is built' test "$status" = 0
+[ "$failed" = 0 ] || { finish; exit; }
 checks
 replays
 listings

@@ -135,6 +135,7 @@ SCHEMAS
 
 run cargo build --release --offline --locked --quiet --manifest-path tests/json/Cargo.toml --target-dir target/json
 result 'the program is built' test "$status" = 0
+[ "$failed" = 0 ] || { finish; exit; }
 reader
 keywords
 finish
