@@ -29,7 +29,7 @@ result 'a case that is too long, from C' eval '[ "$status" = 2 ] && [ "$out" = "
 
 compile calls.c "${MENDUVO_LIB_DIR:-target/staticlib}/libmenduvo.a" -o "$scratch/calls"
 result 'every call links' test "$status" = 0
-run bash -c "'$scratch/calls' $(tr '\n' ' ' <cases/case-a.assignment) <cases/case-a.case"
+run bash -c "'$scratch/calls' $(sed 1d cases/case-a.assignment | tr '\n' ' ') <cases/case-a.case"
 result 'every call, from C' eval '[ "$status" = 0 ] && [ "$out" = "$(<tests/bindings/calls.expected)" ]'
 
 # The command, over a library that lies.

@@ -3,30 +3,31 @@
 use crate::failure::Failure;
 use crate::help::{named, Page};
 use crate::input::Source;
+use crate::keep::Keep;
+use crate::solve::{Settings, Wanted};
 use crate::solver::Solver;
-use std::ffi::OsString;
+use std::ffi::{OsStr, OsString};
+use std::os::unix::ffi::OsStrExt;
+use std::time::Duration;
 
 pub enum Call {
     Help(Option<&'static Page>),
     Version,
     Demo,
-    List(Source),
-    Show(Source),
-    Check(Source, Source),
-    Decode(Source, Source),
-    Replay(Source, Source),
-    Solve { case: Source, solver: Option<Solver>, keep: Option<OsString> },
-    Picture { case: Source, schedule: Source, file: OsString },
+    List { cases: Vec<Source>, json: bool },
+    Show { cases: Vec<Source>, json: bool },
+    Check { case: Source, assignment: Source, json: bool },
+    Decode { case: Source, assignment: Source },
+    Replay { case: Source, schedule: Source, json: bool },
+    Solve(Wanted),
+    Picture { case: Source, schedule: Source, file: OsString, force: bool },
 }
 
-/// A command's operands and options.
-#[derive(Default)]
+/// What follows a command's name.
 struct Parts {
-    operands: Vec<Source>,
-    solver: Option<OsString>,
-    keep: Option<OsString>,
-    file: Option<OsString>,
-    help: bool,
+    page: &'static Page,
+    operands: std::vec::IntoIter<Source>,
+    options: Vec<(&'static str, OsString)>,
 }
 
 pub fn parse(arguments: &[OsString]) -> Result<Call, Failure> {
@@ -39,89 +40,186 @@ pub fn parse(arguments: &[OsString]) -> Result<Call, Failure> {
         Some("--version" | "-V" | "version") => return Ok(Call::Version),
         _ => {}
     }
-    let name = first.to_string_lossy();
+    let name = Source::new(first).name();
     let page = named(&name).ok_or_else(|| Failure::Other(format!("there is no command '{name}'; see 'menduvo help'")))?;
-    let parts = split(page, rest)?;
-    if parts.help {
-        return Ok(Call::Help(Some(page)));
+    match split(page, rest)? {
+        None => Ok(Call::Help(Some(page))),
+        Some(mut parts) => {
+            let call = call(&mut parts)?;
+            match parts.operands.next() {
+                Some(extra) => Err(usage(page, &format!("'{}' is too much", extra.name()))),
+                None => Ok(call),
+            }
+        }
     }
-    call(page, parts)
 }
 
-/// Splits what follows the command's name.
-fn split(page: &'static Page, arguments: &[OsString]) -> Result<Parts, Failure> {
-    let mut parts = Parts::default();
+/// Splits what follows the command's name; nothing where its help is asked for.
+fn split(page: &'static Page, arguments: &[OsString]) -> Result<Option<Parts>, Failure> {
+    let mut operands: Vec<Source> = Vec::new();
+    let mut options: Vec<(&'static str, OsString)> = Vec::new();
     let mut rest = arguments.iter();
-    let mut options = true;
+    let mut open = true;
     while let Some(argument) = rest.next() {
-        let text = argument.to_string_lossy();
-        if !options || text == "-" || !text.starts_with('-') {
-            parts.operands.push(Source::new(argument));
+        if !open || argument == "-" || !argument.as_bytes().starts_with(b"-") {
+            operands.push(Source::new(argument));
             continue;
         }
-        let (name, attached) = match text.split_once('=') {
-            Some((name, value)) => (name.to_string(), Some(OsString::from(value))),
-            None => (text.to_string(), None),
-        };
-        let place = match (page.name, name.as_str()) {
-            (_, "--") => {
-                options = false;
+        let (name, attached) = name_and_value(argument);
+        match name.to_str() {
+            Some("--") => {
+                open = false;
                 continue;
             }
-            (_, "--help" | "-h") => {
-                parts.help = true;
-                continue;
-            }
-            ("solve", "--solver") => &mut parts.solver,
-            ("solve", "--keep") => &mut parts.keep,
-            ("picture", "-o") => &mut parts.file,
-            _ => return Err(usage(page, &format!("there is no option '{name}'"))),
+            Some("--help" | "-h") => return Ok(None),
+            _ => {}
+        }
+        let Some(option) = page.options.iter().find(|option| OsStr::new(option.name) == name) else {
+            return Err(usage(page, &format!("there is no option '{}'", Source::new(name).name())));
         };
-        let value = attached.or_else(|| rest.next().cloned());
-        *place = Some(value.ok_or_else(|| usage(page, &format!("{name} needs a value")))?);
+        let value = match (option.value.is_empty(), attached) {
+            (true, None) => OsString::new(),
+            (true, Some(_)) => return Err(usage(page, &format!("{} takes no value", option.name))),
+            (false, Some(value)) => value.to_os_string(),
+            (false, None) => rest.next().cloned().ok_or_else(|| usage(page, &format!("{} needs a value", option.name)))?,
+        };
+        if options.iter().any(|(name, _)| *name == option.name) {
+            return Err(usage(page, &format!("{} is given twice", option.name)));
+        }
+        options.push((option.name, value));
     }
-    Ok(parts)
-}
-
-fn call(page: &'static Page, parts: Parts) -> Result<Call, Failure> {
-    if parts.operands.iter().filter(|source| source.is_standard_input()).count() > 1 {
+    if operands.iter().filter(|source| source.is_standard_input()).count() > 1 {
         return Err(usage(page, "only one input can be standard input"));
     }
-    let mut operands = parts.operands.into_iter();
-    let mut next = |what: &str| operands.next().ok_or_else(|| usage(page, &format!("{what} is missing")));
-    let call = match page.name {
-        "demo" => Call::Demo,
-        "list" => Call::List(next("CASE")?),
-        "show" => Call::Show(next("CASE")?),
-        "check" => Call::Check(next("CASE")?, next("ASSIGNMENT")?),
-        "decode" => Call::Decode(next("CASE")?, next("ASSIGNMENT")?),
-        "replay" => Call::Replay(next("CASE")?, next("SCHEDULE")?),
-        "solve" => Call::Solve { case: next("CASE")?, solver: solver(page, parts.solver)?, keep: parts.keep },
-        "picture" => Call::Picture {
-            case: next("CASE")?,
-            schedule: next("SCHEDULE")?,
-            file: parts.file.ok_or_else(|| usage(page, "-o FILE.svg is missing"))?,
-        },
-        _ => {
-            let command = next("COMMAND")?.name();
-            let page = named(&command).ok_or_else(|| usage(page, &format!("there is no command '{command}'")))?;
-            Call::Help(Some(page))
-        }
-    };
-    match operands.next() {
-        Some(extra) => Err(usage(page, &format!("'{}' is too much", extra.name()))),
-        None => Ok(call),
+    Ok(Some(Parts { page, operands: operands.into_iter(), options }))
+}
+
+/// `--name=value`, or an option without a value.
+fn name_and_value(argument: &OsStr) -> (&OsStr, Option<&OsStr>) {
+    let bytes = argument.as_bytes();
+    match bytes.iter().position(|&byte| byte == b'=') {
+        Some(place) => (OsStr::from_bytes(&bytes[..place]), Some(OsStr::from_bytes(&bytes[place + 1..]))),
+        None => (argument, None),
     }
 }
 
-fn solver(page: &'static Page, name: Option<OsString>) -> Result<Option<Solver>, Failure> {
-    let Some(name) = name else {
-        return Ok(None);
-    };
-    let name = name.to_string_lossy();
-    match Solver::named(&name) {
-        Some(solver) => Ok(Some(solver)),
-        None => Err(usage(page, &format!("'{name}' is not a solver that this command knows"))),
+fn call(parts: &mut Parts) -> Result<Call, Failure> {
+    Ok(match parts.page.name {
+        "demo" => Call::Demo,
+        "list" => Call::List { cases: parts.cases()?, json: parts.has("--json") },
+        "show" => Call::Show { cases: parts.cases()?, json: parts.has("--json") },
+        "check" => Call::Check { case: parts.next("CASE")?, assignment: parts.next("ASSIGNMENT")?, json: parts.has("--json") },
+        "decode" => Call::Decode { case: parts.next("CASE")?, assignment: parts.next("ASSIGNMENT")? },
+        "replay" => Call::Replay { case: parts.next("CASE")?, schedule: parts.next("SCHEDULE")?, json: parts.has("--json") },
+        "solve" => Call::Solve(wanted(parts)?),
+        "picture" => Call::Picture {
+            case: parts.next("CASE")?,
+            schedule: parts.next("SCHEDULE")?,
+            file: parts.value("-o").ok_or_else(|| parts.usage("-o FILE.svg is missing"))?,
+            force: parts.has("--force"),
+        },
+        _ => {
+            let command = parts.next("COMMAND")?.name();
+            let page = named(&command).ok_or_else(|| parts.usage(&format!("there is no command '{command}'")))?;
+            Call::Help(Some(page))
+        }
+    })
+}
+
+fn wanted(parts: &mut Parts) -> Result<Wanted, Failure> {
+    Ok(Wanted {
+        cases: parts.cases()?,
+        settings: settings(parts)?,
+        jobs: parts.jobs()?,
+        keep: parts.keep()?,
+        strict: parts.has("--strict"),
+        json: parts.has("--json"),
+    })
+}
+
+/// Whom to ask, and how long.
+fn settings(parts: &Parts) -> Result<Settings, Failure> {
+    Ok(Settings { solvers: parts.solvers()?, limit: parts.limit()? })
+}
+
+impl Parts {
+    fn usage(&self, problem: &str) -> Failure {
+        usage(self.page, problem)
+    }
+
+    fn next(&mut self, what: &str) -> Result<Source, Failure> {
+        self.operands.next().ok_or_else(|| usage(self.page, &format!("{what} is missing")))
+    }
+
+    /// All operands, at least one.
+    fn cases(&mut self) -> Result<Vec<Source>, Failure> {
+        let mut cases = vec![self.next("CASE")?];
+        cases.extend(self.operands.by_ref());
+        Ok(cases)
+    }
+
+    fn has(&self, name: &str) -> bool {
+        self.value(name).is_some()
+    }
+
+    fn value(&self, name: &str) -> Option<OsString> {
+        self.options.iter().find(|(option, _)| *option == name).map(|(_, value)| value.clone())
+    }
+
+    fn text(&self, name: &str) -> Option<String> {
+        self.value(name).map(|value| value.to_string_lossy().into_owned())
+    }
+
+    /// The chosen solvers; none where none is chosen.
+    fn solvers(&self) -> Result<Vec<Solver>, Failure> {
+        match (self.text("--solver"), self.text("--solver-command")) {
+            (Some(_), Some(_)) => Err(self.usage("--solver and --solver-command exclude each other")),
+            (Some(name), None) => {
+                Solver::named(&name).ok_or_else(|| self.usage(&format!("'{name}' is not a solver that this command knows")))
+            }
+            (None, Some(words)) => {
+                let solver = Solver::of_command(&words).ok_or_else(|| self.usage("--solver-command names no program"))?;
+                Ok(vec![solver])
+            }
+            (None, None) => Ok(Vec::new()),
+        }
+    }
+
+    /// The seconds of --timeout: nothing where it is not given, and `Some(None)` where it is 0.
+    fn limit(&self) -> Result<Option<Option<Duration>>, Failure> {
+        let Some(text) = self.text("--timeout") else {
+            return Ok(None);
+        };
+        let plain = text.bytes().all(|byte| byte.is_ascii_digit() || byte == b'.');
+        match text.parse::<f64>() {
+            Ok(seconds) if plain && seconds <= 1e9 => Ok(Some((seconds > 0.0).then(|| Duration::from_secs_f64(seconds)))),
+            _ => Err(self.usage(&format!("--timeout needs seconds, 0 for none, and not '{text}'"))),
+        }
+    }
+
+    fn jobs(&self) -> Result<usize, Failure> {
+        let Some(text) = self.text("--jobs") else {
+            return Ok(1);
+        };
+        match text.parse::<usize>() {
+            Ok(jobs @ 1..=1024) if text.bytes().all(|byte| byte.is_ascii_digit()) => Ok(jobs),
+            _ => Err(self.usage(&format!("--jobs needs a number from 1 to 1024, and not '{text}'"))),
+        }
+    }
+
+    fn keep(&self) -> Result<Option<Keep>, Failure> {
+        let force = self.has("--force");
+        let (folder, resume) = match (self.value("--keep"), self.value("--resume")) {
+            (Some(_), Some(_)) => return Err(self.usage("--keep and --resume exclude each other")),
+            (Some(folder), None) => (folder, false),
+            (None, Some(folder)) => (folder, true),
+            (None, None) if force => return Err(self.usage("--force needs --keep or --resume")),
+            (None, None) => return Ok(None),
+        };
+        match folder.is_empty() {
+            true => Err(self.usage(&format!("{} needs the name of a folder", if resume { "--resume" } else { "--keep" }))),
+            false => Ok(Some(Keep { folder, force, resume })),
+        }
     }
 }
 

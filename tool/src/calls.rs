@@ -2,16 +2,22 @@
 
 use crate::case::Case;
 use crate::diagnosis;
-use crate::failure::Failure;
+use crate::failure::{note, Failure};
 use crate::input::Source;
+use crate::needed;
 use crate::numbers::{self, Given};
 use crate::refusal::Refusal;
 use crate::table::{self, Table};
+use crate::words::enumeration;
 use menduvo::{Checked, Decoded, Encoded, Listed, Replayed};
+use std::ffi::OsString;
 
 /// An accepted case and its table.
 pub struct Loaded {
+    /// For messages.
     pub name: String,
+    /// For the names of files.
+    pub stem: OsString,
     pub case: Case,
     pub table: Table,
 }
@@ -36,10 +42,14 @@ pub fn listing(case: &[u8]) -> Result<String, Failure> {
 
 impl Loaded {
     pub fn from(source: &Source) -> Result<Loaded, Failure> {
-        Loaded::of(source.name(), source.case_bytes()?)
+        Loaded::of(source, source.case_bytes()?)
     }
 
-    pub fn of(name: String, bytes: Vec<u8>) -> Result<Loaded, Failure> {
+    pub fn of(source: &Source, bytes: Vec<u8>) -> Result<Loaded, Failure> {
+        Loaded::named(source.name(), source.stem(), bytes)
+    }
+
+    fn named(name: String, stem: OsString, bytes: Vec<u8>) -> Result<Loaded, Failure> {
         let mut room = [0; menduvo::MOST_TABLE_NUMBERS];
         let (constraints, variables) = match menduvo::encode(&bytes, &mut room) {
             Encoded::Table { constraints, variables } => (usize::from(constraints), usize::from(variables)),
@@ -53,24 +63,40 @@ impl Loaded {
         let Some(case) = Case::of(bytes) else {
             return Err(Failure::Other(format!("{name}: the library accepted a case of a size that this command cannot read")));
         };
-        Ok(Loaded { name, case, table: Table { rows, variables } })
+        Ok(Loaded { name, stem, case, table: Table { rows, variables } })
+    }
+
+    /// Another case in the place of this one, under its name.
+    pub fn changed(&self, bytes: Vec<u8>) -> Result<Loaded, Failure> {
+        Loaded::named(self.name.clone(), self.stem.clone(), bytes)
     }
 
     /// Numbers or a model, as an assignment.
     pub fn assignment(&self, source: &Source) -> Result<Vec<u16>, Failure> {
-        match numbers::read(&source.text()?, self.table.variables) {
-            Ok(Given::Numbers(numbers) | Given::Model(numbers)) => Ok(numbers),
-            Err(problem) => Err(Failure::Refused(format!("{}: {problem}", source.name()))),
+        match self.given(source)? {
+            Given::Numbers(numbers) | Given::Model { values: numbers, .. } => Ok(numbers),
         }
     }
 
     /// Numbers as a schedule; a model is an assignment, and is decoded.
     pub fn schedule(&self, source: &Source) -> Result<Vec<u16>, Failure> {
-        match numbers::read(&source.text()?, self.table.variables) {
-            Ok(Given::Numbers(numbers)) => Ok(numbers),
-            Ok(Given::Model(assignment)) => self.decode(&source.name(), &assignment),
-            Err(problem) => Err(Failure::Refused(format!("{}: {problem}", source.name()))),
+        match self.given(source)? {
+            Given::Numbers(numbers) => Ok(numbers),
+            Given::Model { values, .. } => self.decode(&source.name(), &values),
         }
+    }
+
+    /// What the text holds. That a model leaves variables out is told besides.
+    fn given(&self, source: &Source) -> Result<Given, Failure> {
+        let name = source.name();
+        let given = numbers::read(&source.text()?, self.table.variables);
+        let given = given.map_err(|problem| Failure::Refused(format!("{name}: {problem}")))?;
+        if let Given::Model { values, left_out } = &given {
+            if !left_out.is_empty() {
+                note(&format!("{name}: {}", left_out_in_words(left_out, values.len())));
+            }
+        }
+        Ok(given)
     }
 
     /// The first constraint that the assignment fails, if it fails one.
@@ -109,27 +135,43 @@ impl Loaded {
     fn refused_assignment(&self, name: &str, assignment: &[u16], refusal: Refusal) -> Failure {
         let details = match refusal.number {
             11 => diagnosis::of_assignment(&self.case, assignment.len()),
-            15 => self.constraint_in_words(refusal.place, assignment),
+            15 => match self.constraint_in_words(refusal.place, assignment) {
+                Ok(details) => details,
+                Err(failure) => return failure,
+            },
             _ => Vec::new(),
         };
         refusal.failure(name, &details)
     }
 
-    /// A constraint that an assignment fails, and the numbers that the assignment has there.
-    pub fn constraint_in_words(&self, constraint: u16, assignment: &[u16]) -> Vec<String> {
+    /// A constraint that an assignment fails: what it needs, and what the assignment has there. Where this display finds nothing
+    /// wrong it has no words for it.
+    pub fn constraint_in_words(&self, constraint: u16, assignment: &[u16]) -> Result<Vec<String>, Failure> {
         let Some(&row) = self.table.rows.get(usize::from(constraint).wrapping_sub(1)) else {
-            return Vec::new();
+            return Ok(Vec::new());
         };
-        let mut lines = vec![
-            format!("constraint {constraint} of {}: {}", self.table.rows.len(), table::numbers(row)),
-            table::in_words(&self.case, row),
-        ];
-        if let 1..=5 = row[0] {
-            let block = 2 * (usize::from(row[1]) - 1);
-            if let Some([block, value, ..]) = assignment.get(block..) {
-                lines.push(format!("record {} has block number {block} and value {value}", row[1]));
-            }
+        let numbers = format!("constraint {constraint} of {}: {}", self.table.rows.len(), table::numbers(row));
+        match needed::seen(&self.case, &self.table, row, assignment) {
+            Some(seen) if !seen.holds => Ok(vec![numbers, table::in_words(&self.case, row), seen.words()]),
+            seen => Err(Failure::Other(format!(
+                "THIS COMMAND IS WRONG: its display of a constraint disagrees with the proved library\n  \
+                 the library: the assignment fails {numbers}\n  the display: {}\n  Trust the library, and report this case.",
+                seen.map_or("not a constraint of document 01".to_string(), |seen| format!("it holds; {}", seen.words())),
+            ))),
         }
-        lines
     }
+}
+
+/// The variables that a model leaves out: how many, and the first of them.
+fn left_out_in_words(left_out: &[usize], variables: usize) -> String {
+    let mut names: Vec<String> = left_out.iter().take(5).map(|variable| format!("v{variable}")).collect();
+    if left_out.len() > names.len() {
+        names.push(format!("{} more", left_out.len() - names.len()));
+    }
+    let them = if left_out.len() == 1 { "it" } else { "them" };
+    format!(
+        "the model has no value for {} of {variables} variables ({}); 0 is taken for {them}, and the checker decides",
+        left_out.len(),
+        enumeration(&names)
+    )
 }

@@ -4,30 +4,27 @@ use crate::arguments::Call;
 use crate::calls::{listing, Loaded};
 use crate::failure::{Failure, Status};
 use crate::input::Source;
+use crate::name::shown;
 use crate::output::Output;
-use crate::words::{count, numbers_in_lines};
-use crate::{demo, folder, help, picture, run, show, solve, solver};
+use crate::words::{all, numbers_in_lines};
+use crate::{demo, help, keep, picture, run, several, show, told};
 use std::ffi::OsStr;
-use std::path::Path;
 
 pub fn perform(call: Call, output: &mut Output) -> Result<Status, Failure> {
     match call {
         Call::Help(page) => output.say(&page.map_or_else(help::all, help::one)).map(|()| Status::Done),
         Call::Version => output.say(concat!("menduvo ", env!("CARGO_PKG_VERSION"), "\n")).map(|()| Status::Done),
         Call::Demo => demo::tell(output),
-        Call::List(case) => list(&case, output),
-        Call::Show(case) => output.say(&show::text(&Loaded::from(&case)?)).map(|()| Status::Done),
-        Call::Check(case, assignment) => check(&case, &assignment, output),
-        Call::Decode(case, assignment) => decode(&case, &assignment, output),
-        Call::Replay(case, schedule) => replay(&case, &schedule, output),
-        Call::Solve { case, solver, keep } => {
-            let solver = solver::choose(solver)?;
-            match !case.is_standard_input() && Path::new(case.path()).is_dir() {
-                true => folder::all(case.path(), solver, keep.as_deref(), output),
-                false => solve::one(&Loaded::from(&case)?, solver, keep.as_deref(), output),
-            }
-        }
-        Call::Picture { case, schedule, file } => draw(&case, &schedule, &file, output),
+        Call::List { cases, .. } => list(&cases[0], output),
+        Call::Show { cases, .. } => output.say(&show::text(&Loaded::from(&cases[0])?)).map(|()| Status::Done),
+        Call::Check { case, assignment, .. } => check(&case, &assignment, output),
+        Call::Decode { case, assignment } => decode(&case, &assignment, output),
+        Call::Replay { case, schedule, .. } => replay(&case, &schedule, output),
+        Call::Solve(wanted) => match wanted.cases.as_slice() {
+            [case] if !several::is_several(&wanted.cases) => told::one(case, &wanted, output),
+            _ => several::all(wanted, output),
+        },
+        Call::Picture { case, schedule, file, force } => draw(&case, &schedule, &file, force, output),
     }
 }
 
@@ -36,7 +33,7 @@ fn list(source: &Source, output: &mut Output) -> Result<Status, Failure> {
     let bytes = source.case_bytes()?;
     output.say(&listing(&bytes)?)?;
     // A refused case has a listing too; that it is refused is told besides.
-    Loaded::of(source.name(), bytes).map(|_| Status::Done)
+    Loaded::of(source, bytes).map(|_| Status::Done)
 }
 
 fn check(case: &Source, assignment: &Source, output: &mut Output) -> Result<Status, Failure> {
@@ -44,12 +41,12 @@ fn check(case: &Source, assignment: &Source, output: &mut Output) -> Result<Stat
     let numbers = loaded.assignment(assignment)?;
     match loaded.check(&assignment.name(), &numbers)? {
         None => {
-            let constraints = count(loaded.table.rows.len(), "constraint", "constraints");
-            output.say(&format!("meets: the assignment meets all {constraints}\n"))?;
+            let constraints = all(loaded.table.rows.len(), "constraint", "constraints");
+            output.say(&format!("meets: the assignment meets {constraints}\n"))?;
             Ok(Status::Done)
         }
         Some(constraint) => {
-            let details = loaded.constraint_in_words(constraint, &numbers).join("\n  ");
+            let details = loaded.constraint_in_words(constraint, &numbers)?.join("\n  ");
             output.say(&format!("fails: the assignment fails constraint {constraint}\n  {details}\n"))?;
             Ok(Status::Found)
         }
@@ -71,17 +68,15 @@ fn replay(case: &Source, schedule: &Source, output: &mut Output) -> Result<Statu
     Ok(run.status())
 }
 
-fn draw(case: &Source, schedule: &Source, file: &OsStr, output: &mut Output) -> Result<Status, Failure> {
+fn draw(case: &Source, schedule: &Source, file: &OsStr, force: bool, output: &mut Output) -> Result<Status, Failure> {
     let loaded = Loaded::from(case)?;
     let numbers = loaded.schedule(schedule)?;
     let run = run::replay(&loaded, &schedule.name(), &numbers)?;
-    let name = Path::new(&loaded.name).file_stem().unwrap_or_default().to_string_lossy().into_owned();
-    let svg = picture::svg(&loaded.case, &name, &run);
+    let svg = picture::svg(&loaded.case, &shown(&loaded.stem), &run);
     if file == "-" {
         return output.say(&svg).map(|()| Status::Done);
     }
-    let written = std::fs::write(file, svg);
-    written.map_err(|error| Failure::Other(format!("{}: {error}", Path::new(file).display())))?;
-    output.say(&format!("{}: {}\n", Path::new(file).display(), run::verdict(&loaded.case, run.ending)))?;
+    keep::write_file(file, &svg, force)?;
+    output.say(&format!("{}: {}\n", shown(file), run::verdict(&loaded.case, run.ending)))?;
     Ok(Status::Done)
 }

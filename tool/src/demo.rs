@@ -2,45 +2,46 @@
 
 use crate::calls::Loaded;
 use crate::failure::{Failure, Status};
+use crate::input::Source;
 use crate::numbers::{self, Given};
 use crate::output::Output;
 use crate::run;
 use crate::show;
-use crate::solve::{solve, Solved};
-use crate::solver::SOLVERS;
+use crate::solve::{solve, Asking, Verdict};
+use crate::solver;
 use crate::words::{count, numbers_in_lines};
+use std::ffi::OsStr;
 
 const CASE: &[u8] = include_bytes!("../../cases/lost-update.case");
 const ASSIGNMENT: &str = include_str!("../../cases/lost-update.assignment");
 
 pub fn tell(output: &mut Output) -> Result<Status, Failure> {
-    let loaded = Loaded::of("cases/lost-update.case".to_string(), CASE.to_vec())?;
+    let loaded = Loaded::of(&Source::new(OsStr::new("cases/lost-update.case")), CASE.to_vec())?;
     output.say(&format!(
         "1. A CASE. Two threads move one gate: an operator by an amount that is entered, and automatic control by 5.\n\
          \x20  The operator's thread asserts that the gate, G0, moved by both where automatic control is done (G1).\n\n{}\n",
         show::text(&loaded)
     ))?;
     filed(&loaded, output)?;
-    match SOLVERS.into_iter().find(|solver| solver.is_installed()) {
-        None => output.say("5. A SOLVER. None is installed; with z3 or cvc5 'menduvo solve' looks for itself.\n")?,
-        Some(solver) => {
-            output
-                .say(&format!("5. A SOLVER. {} looks for itself, and knows nothing of the filed assignment: ", solver.name))?;
-            output.say(&match solve(&loaded, solver, None)? {
-                Solved::Found { schedule, run, .. } => format!(
-                    "sat.\n   Its assignment is checked, decoded and replayed as well.\n   schedule {}   {}\n",
-                    numbers_in_lines(&schedule),
-                    run::verdict(&loaded.case, run.ending)
-                ),
-                Solved::Nothing | Solved::Unknown => {
-                    return Err(Failure::Other(format!(
-                        "{} finds nothing, although the filed assignment is there",
-                        solver.name
-                    )))
-                }
-            })?;
-        }
-    }
+    let Some(solver) = solver::first_installed() else {
+        output.say("5. A SOLVER. None is installed; with z3 or cvc5 'menduvo solve' looks for itself.\n")?;
+        return next(output);
+    };
+    let name = solver.name.clone();
+    output.say(&format!("5. A SOLVER. {name} looks for itself, and knows nothing of the filed assignment: "))?;
+    let solved = solve(&loaded, &Asking { solvers: vec![solver], limit: None }, &mut |_| {})?;
+    let Verdict::Violated(found) = &solved.verdict else {
+        return Err(Failure::Other(format!("{name} finds nothing, although the filed assignment is there")));
+    };
+    output.say(&format!(
+        "sat.\n   Its assignment is checked, decoded and replayed as well.\n   schedule {}   {}\n",
+        numbers_in_lines(&found.schedule),
+        run::verdict(&loaded.case, found.run.ending)
+    ))?;
+    next(output)
+}
+
+fn next(output: &mut Output) -> Result<Status, Failure> {
     output.say("\nNext: bin/menduvo picture cases/lost-update.case cases/lost-update.schedule -o lost-update.svg\n")?;
     Ok(Status::Done)
 }
@@ -48,7 +49,7 @@ pub fn tell(output: &mut Output) -> Result<Status, Failure> {
 /// The filed assignment, checked, decoded and replayed.
 fn filed(loaded: &Loaded, output: &mut Output) -> Result<(), Failure> {
     let name = "cases/lost-update.assignment";
-    let (Given::Numbers(assignment) | Given::Model(assignment)) =
+    let (Given::Numbers(assignment) | Given::Model { values: assignment, .. }) =
         numbers::read(ASSIGNMENT, loaded.table.variables).map_err(|problem| Failure::Refused(format!("{name}: {problem}")))?;
     let constraints = count(loaded.table.rows.len(), "constraint", "constraints");
     let variables = count(assignment.len(), "variable", "variables");

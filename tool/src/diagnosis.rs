@@ -33,19 +33,61 @@ fn absent_fields(case: &Case) -> Vec<String> {
     wrong.map(|(name, field)| format!("{name} is {field}, but {counts}")).collect()
 }
 
+/// The most lines of details of one sort.
+const MOST_LINES: usize = 10;
+
+/// At most so many lines, and how many more there are.
+fn at_most(mut lines: Vec<String>) -> Vec<String> {
+    let more = lines.len().saturating_sub(MOST_LINES);
+    if more > 0 {
+        lines.truncate(MOST_LINES);
+        lines.push(format!("and {more} more"));
+    }
+    lines
+}
+
+/// A first or next number: where it stands, and the record that it leads to.
+struct Link {
+    name: String,
+    to: u16,
+}
+
 fn links(case: &Case) -> Vec<String> {
     let most = case.records.len();
-    let firsts = (0..case.threads).map(|thread| (format!("the first record of thread {thread}"), case.first(thread)));
-    let nexts = case.records.iter().map(|record| (format!("the next number of record {}", record.number), record.next));
-    let links: Vec<(String, u16)> = firsts.chain(nexts).collect();
-    let over: Vec<_> = links.iter().filter(|(_, to)| usize::from(*to) > most).collect();
-    if !over.is_empty() {
-        return over.iter().map(|(name, to)| format!("{name} is {to}, but R is {most}")).collect();
+    let firsts = (0..case.threads).map(|thread| first_link(case, thread));
+    let nexts = case.records.iter().map(|record| next_link(case, record));
+    let over = firsts.chain(nexts).filter(|link| usize::from(link.to) > most);
+    let over: Vec<String> = over.map(|link| format!("{} is {}, but R is {most}", link.name, link.to)).collect();
+    match over.is_empty() {
+        true => at_most(reached_twice(case)),
+        false => at_most(over),
     }
-    let reached = |to: u16| links.iter().filter(move |(_, link)| *link == to).map(|(name, _)| name.clone());
-    let twice = (1..=most as u16).map(|number| (number, reached(number).collect::<Vec<_>>()));
-    let twice = twice.filter(|(_, names)| names.len() > 1);
-    twice.map(|(number, names)| format!("record {number} is named by {}", enumeration(&names))).collect()
+}
+
+fn first_link(case: &Case, thread: usize) -> Link {
+    Link { name: format!("the first record of thread {thread}"), to: case.first(thread) }
+}
+
+fn next_link(case: &Case, record: &Record) -> Link {
+    let place = match case.position(record.number) {
+        Some((thread, line)) => format!("thread {thread}, line {line}"),
+        None => "in no thread".to_string(),
+    };
+    Link { name: format!("the next number of record {} ({place})", record.number), to: record.next }
+}
+
+/// The records that more than one link leads to. The links of a record that no thread leads to do not count.
+fn reached_twice(case: &Case) -> Vec<String> {
+    let firsts = (0..case.threads).map(|thread| first_link(case, thread));
+    let nexts = case.chains.iter().flatten().map(|&number| next_link(case, case.record(number)));
+    let links: Vec<Link> = firsts.chain(nexts).collect();
+    let twice = case.records.iter().filter_map(|record| {
+        let names: Vec<&str> = links.iter().filter(|link| link.to == record.number).map(|link| link.name.as_str()).collect();
+        let (last, rest) = names.split_last().filter(|(_, rest)| !rest.is_empty())?;
+        let times = if rest.len() == 1 { "twice".to_string() } else { format!("{} times", names.len()) };
+        Some(format!("record {} is reached {times}: by {}, and by {last}", record.number, rest.join(", by ")))
+    });
+    twice.collect()
 }
 
 fn strays(case: &Case) -> Vec<String> {

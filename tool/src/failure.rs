@@ -1,5 +1,6 @@
 //! How a call of the command ends, and its exit status.
 
+use crate::refusal::Refusal;
 use std::io::Write;
 
 /// A call that did its work.
@@ -11,53 +12,77 @@ pub enum Status {
     Found,
 }
 
+impl Status {
+    pub fn number(self) -> i32 {
+        match self {
+            Status::Done => 0,
+            Status::Found => 1,
+        }
+    }
+}
+
+/// A message on standard error.
+pub fn note(message: &str) {
+    // Where standard error is closed there is no place left to say so; the exit status stands.
+    let _ = writeln!(std::io::stderr(), "menduvo: {message}");
+}
+
 /// A call that did not.
 #[derive(Debug)]
 pub enum Failure {
-    /// The assignment that was to be decoded fails: exit status 1.
-    Fails(String),
-    /// An input was refused: exit status 2.
+    /// The library refused an input: exit status 2, or 1 where the refusal is that an assignment fails.
+    ByLibrary(Refusal, String),
+    /// An input is no case, no list of numbers and no model: exit status 2.
     Refused(String),
     /// Something else failed, as a file or a solver: exit status 3.
     Other(String),
+    /// What failed was told in the output: exit status 3, or 2 where inputs were refused, and no message.
+    Told(i32),
     /// Nobody reads what is printed any more: exit status 3, and no message, as there is no fault to tell.
     BrokenPipe,
 }
 
 impl Failure {
+    pub const STATUS_REFUSED: i32 = 2;
     pub const STATUS_OTHER: i32 = 3;
 
     pub fn status(&self) -> i32 {
         match self {
-            Failure::Fails(_) => 1,
-            Failure::Refused(_) => 2,
+            Failure::ByLibrary(refusal, _) if refusal.is_of_a_failing_assignment() => Status::Found.number(),
+            Failure::ByLibrary(..) | Failure::Refused(_) => Failure::STATUS_REFUSED,
+            Failure::Told(status) => *status,
             Failure::Other(_) | Failure::BrokenPipe => Failure::STATUS_OTHER,
+        }
+    }
+
+    /// What failed, in lines; nothing where there is nothing to tell.
+    pub fn message(&self) -> Option<&str> {
+        match self {
+            Failure::ByLibrary(_, message) | Failure::Refused(message) | Failure::Other(message) => Some(message),
+            Failure::Told(_) | Failure::BrokenPipe => None,
+        }
+    }
+
+    /// The library's refusal, where there is one.
+    pub fn refusal(&self) -> Option<Refusal> {
+        match self {
+            Failure::ByLibrary(refusal, _) => Some(*refusal),
+            _ => None,
         }
     }
 
     /// The message, on standard error.
     pub fn report(&self) {
-        if let Failure::Fails(message) | Failure::Refused(message) | Failure::Other(message) = self {
-            // Where standard error is closed there is no place left to say so; the exit status stands.
-            let _ = writeln!(std::io::stderr(), "menduvo: {message}");
+        if let Some(message) = self.message() {
+            note(message);
         }
     }
 
     /// The failure where nothing that a user gave can be at fault.
     pub fn unexpected(self) -> Failure {
         match self {
-            Failure::Fails(message) | Failure::Refused(message) => Failure::Other(message),
+            Failure::ByLibrary(_, message) | Failure::Refused(message) => Failure::Other(message),
             other => other,
-        }
-    }
-
-    /// The same failure with another message, made from its own.
-    pub fn map(self, change: impl FnOnce(String) -> String) -> Failure {
-        match self {
-            Failure::Fails(message) => Failure::Fails(change(message)),
-            Failure::Refused(message) => Failure::Refused(change(message)),
-            Failure::Other(message) => Failure::Other(change(message)),
-            Failure::BrokenPipe => Failure::BrokenPipe,
         }
     }
 }

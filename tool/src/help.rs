@@ -1,45 +1,78 @@
 //! The help texts.
 
-/// A command: its name, how it is called, what it does in a line, and the rest of its help.
+/// A command: its name, how it is called, what it does in a line, its options, and the rest of its help.
 pub struct Page {
     pub name: &'static str,
     pub usage: &'static str,
     pub summary: &'static str,
+    pub options: &'static [Choice],
     pub more: &'static str,
 }
+
+/// An option: its name, what its value is, if it has one, and what it does, in lines.
+pub struct Choice {
+    pub name: &'static str,
+    pub value: &'static str,
+    pub does: &'static str,
+}
+
+const JSON: Choice =
+    Choice { name: "--json", value: "", does: "print one JSON object a line, as docs/output.schema.json describes them" };
+const FORCE: Choice = Choice { name: "--force", value: "", does: "replace files that are there" };
+const SOLVER: Choice = Choice {
+    name: "--solver",
+    value: "z3|cvc5|both",
+    does: "the solver; without it z3, or cvc5 where z3 is not installed; both are asked and compared",
+};
+const SOLVER_COMMAND: Choice = Choice {
+    name: "--solver-command",
+    value: "'PROGRAM ARGS'",
+    does: "any other solver, which reads SMT-LIB text from its standard input; white space divides the arguments",
+};
+const TIMEOUT: Choice = Choice {
+    name: "--timeout",
+    value: "S",
+    does: "give a solver this many seconds for each question, 0 for no limit;\nwithout it no limit for one case, and 60 for several",
+};
 
 pub const PAGES: [Page; 9] = [
     Page {
         name: "demo",
         usage: "demo",
         summary: "show the whole job on a case that ships",
+        options: &[],
         more: "Shows a case, checks a filed assignment, decodes it to a schedule and replays the schedule; and then,\n\
                where z3 or cvc5 is installed, lets a solver look for itself. It needs no file and writes none.\n\
                Exit status 0, although the demo's case has a violation to show.\n",
     },
     Page {
         name: "list",
-        usage: "list CASE",
+        usage: "list CASE..",
         summary: "print the constraints, six numbers a line",
-        more: "The first line has the count of constraints and of variables. This is the page to file.\n\
+        options: &[JSON],
+        more: "The first line has the count of constraints and of variables. File it with the case: constants and\n\
+               operations stand in the case alone.\n\
                For a refused case it prints the refusal's number and its place on one line, with exit status 2.\n",
     },
     Page {
         name: "show",
-        usage: "show CASE",
+        usage: "show CASE..",
         summary: "print the threads as readable text",
+        options: &[JSON],
         more: "For each line: its record, its guard, what it does, and the copies of its names.\n",
     },
     Page {
         name: "check",
         usage: "check CASE ASSIGNMENT",
         summary: "say whether an assignment meets the constraints",
+        options: &[JSON],
         more: "Exit status 0 where it meets them all; 1 where it fails, with the first constraint that it fails.\n",
     },
     Page {
         name: "decode",
         usage: "decode CASE ASSIGNMENT",
         summary: "print the schedule of an assignment, as numbers",
+        options: &[],
         more: "The numbers are n + 1 block lengths, and then a value for each input line.\n\
                Exit status 1 where the assignment fails (refusal 15).\n",
     },
@@ -47,29 +80,65 @@ pub const PAGES: [Page; 9] = [
         name: "replay",
         usage: "replay CASE SCHEDULE",
         summary: "run a schedule, and print the run line by line",
+        options: &[JSON],
         more: "A solver's model in the place of the schedule is decoded first.\n\
                Exit status 1 where the run breaks an assertion; 0 where it is clean or cut off.\n",
     },
     Page {
         name: "solve",
-        usage: "solve CASE|DIR [--solver z3|cvc5] [--keep FOLDER]",
+        usage: "solve CASE|DIR.. [OPTIONS]",
         summary: "let a solver look for a violation, and replay what it finds",
+        options: &[
+            SOLVER,
+            SOLVER_COMMAND,
+            TIMEOUT,
+            Choice { name: "--jobs", value: "N", does: "solve so many cases at a time" },
+            Choice {
+                name: "--keep",
+                value: "FOLDER",
+                does:
+                    "write NAME.smt2 (the text), NAME.reply, NAME.assignment, NAME.schedule, NAME.reached and\nNAME.answer to \
+                       this folder, named as the case",
+            },
+            Choice {
+                name: "--resume",
+                value: "FOLDER",
+                does: "as --keep, and skip each case that has its answer there; a timeout is no answer",
+            },
+            FORCE,
+            Choice {
+                name: "--strict",
+                value: "",
+                does: "exit status 1 also where an unsat leaves an assert that is not shown to be reached",
+            },
+            JSON,
+        ],
         more: "The constraints go to the solver as SMT-LIB text. Its assignment is checked, decoded and replayed by the\n\
-               proved library; the run is printed as by 'replay'. DIR: every file in it that ends in .case, with a table.\n\
-               --solver   the solver; without it z3, or cvc5 where z3 is not installed\n\
-               --keep     write the SMT-LIB text, the solver's reply, the assignment and the schedule to this folder,\n\
-               \x20          named as the case: NAME.smt2, NAME.reply, NAME.assignment, NAME.schedule\n\
-               Exit status 1 where a violation is found; 0 where the solver says unsat; of DIR, the highest of its cases.\n",
+               proved library; the run is printed as by 'replay'. For each assert it is told whether a complete legal run\n\
+               within the bound reaches it with a true guard: of one that is never reached, nothing was checked.\n\
+               DIR: every file in it that ends in .case. Of several cases each one's line is printed when it is known,\n\
+               and at the end how many have each answer:\n\
+               \x20 violated   a run that breaks an assertion was found, checked and replayed\n\
+               \x20 unsat      nothing meets the constraints, by the solver's word, and some assert is reached\n\
+               \x20 vacuous    nothing meets the constraints, and no assert is reached: it says nothing\n\
+               \x20 timeout    the solver's time was up\n\
+               \x20 unknown    the solver gave up\n\
+               \x20 disagree   one solver says sat, and another unsat\n\
+               \x20 refused    the case is refused\n\
+               \x20 failed     something else: a file, or a solver that talks nonsense, fails or is killed\n\
+               Exit status 1 where a violation is found; 0 for unsat and vacuous; 2 refused; 3 for the others. Of several\n\
+               cases: 1 where one of them has it, else 3, else 2.\n",
     },
     Page {
         name: "picture",
         usage: "picture CASE SCHEDULE -o FILE.svg",
         summary: "draw the run of a schedule",
+        options: &[Choice { name: "-o", value: "FILE.svg", does: "the file; - is standard output" }, FORCE],
         more: "Threads are lanes, blocks are columns, lines are cells; a broken assertion is red.\n\
-               A solver's model in the place of the schedule is decoded first. '-o -' is standard output.\n\
+               A solver's model in the place of the schedule is decoded first.\n\
                Exit status 0 where the picture is written, whatever the run comes to.\n",
     },
-    Page { name: "help", usage: "help [COMMAND]", summary: "print this, or the help of a command", more: "" },
+    Page { name: "help", usage: "help [COMMAND]", summary: "print this, or the help of a command", options: &[], more: "" },
 ];
 
 const FILES: &str = "\
@@ -77,7 +146,8 @@ Files:
   CASE         the bytes of a case file; '-' is standard input
   ASSIGNMENT   a number for each variable, or a solver's model (z3's or cvc5's) over v0, v1, ..
   SCHEDULE     block lengths, then input values
-  Numbers are decimal, 0 to 65535, with white space or commas between them; '-' is standard input.
+  Numbers are decimal, 0 to 65535, with white space or commas between them; '#' starts a comment to the line's end.
+  '-' is standard input.
 ";
 
 const STATUSES: &str = "\
@@ -100,7 +170,22 @@ pub fn all() -> String {
 
 /// `menduvo COMMAND --help`.
 pub fn one(page: &Page) -> String {
-    format!("usage: menduvo {}\n\n{}.\n{}\n{FILES}\n{STATUSES}", page.usage, capitalised(page.summary), page.more)
+    let Page { usage, summary, more, .. } = page;
+    format!("usage: menduvo {usage}\n\n{}.\n{more}{}\n{FILES}\n{STATUSES}", capitalised(summary), options(page))
+}
+
+/// The options with what they do, their further lines below the first.
+fn options(page: &Page) -> String {
+    let names = page.options.iter().map(|choice| format!("{} {}", choice.name, choice.value).trim_end().to_string());
+    let width = names.clone().map(|name| name.len()).max().unwrap_or(0);
+    let lines = names.zip(page.options).map(|(name, choice)| {
+        let does = choice.does.replace('\n', &format!("\n{:indent$}", "", indent = width + 4));
+        format!("  {name:width$}  {does}\n")
+    });
+    match page.options {
+        [] => String::new(),
+        _ => format!("\nOptions:\n{}", lines.collect::<String>()),
+    }
 }
 
 fn capitalised(text: &str) -> String {

@@ -1,9 +1,11 @@
 //! Reading files. `-` is standard input. Nothing is read beyond what could be of use, so that an endless input ends too.
 
 use crate::failure::Failure;
+use crate::name::shown;
 use std::ffi::{OsStr, OsString};
 use std::fs::File;
 use std::io::{self, Read};
+use std::path::Path;
 
 /// The most bytes of a text with numbers: a model of the largest case has about a tenth of it.
 const MOST_TEXT_BYTES: usize = 1 << 20;
@@ -25,8 +27,18 @@ impl Source {
     pub fn name(&self) -> String {
         match self.is_standard_input() {
             true => "standard input".to_string(),
-            false => self.0.to_string_lossy().into_owned(),
+            false => shown(&self.0),
         }
+    }
+
+    /// What files that are made from this one are named after: its own name, byte by byte, without folder and ending.
+    pub fn stem(&self) -> OsString {
+        let stem = Path::new(&self.0).file_stem().filter(|_| !self.is_standard_input());
+        stem.unwrap_or_else(|| OsStr::new("case")).to_os_string()
+    }
+
+    pub fn is_folder(&self) -> bool {
+        !self.is_standard_input() && Path::new(&self.0).is_dir()
     }
 
     pub fn path(&self) -> &OsStr {

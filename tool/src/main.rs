@@ -9,24 +9,38 @@ mod commands;
 mod demo;
 mod diagnosis;
 mod failure;
-mod folder;
+mod filed;
+mod guard;
 mod help;
 mod input;
+mod json;
+mod keep;
+mod name;
+mod needed;
 mod numbers;
+mod objects;
 mod output;
 mod picture;
+mod process;
+mod progress;
+mod reach;
+mod reads;
 mod refusal;
 mod run;
+mod several;
+mod sha256;
 mod show;
 mod smt;
 mod solve;
 mod solver;
+mod summary;
 mod svg;
 mod table;
+mod told;
 mod walk;
 mod words;
 
-use failure::{Failure, Status};
+use failure::Failure;
 use output::Output;
 
 fn main() {
@@ -43,8 +57,7 @@ fn exit_status(arguments: &[std::ffi::OsString]) -> i32 {
     // What was printed last may still fail to arrive.
     let done = done.and_then(|status| output.finish().map(|()| status));
     match done {
-        Ok(Status::Done) => 0,
-        Ok(Status::Found) => 1,
+        Ok(status) => status.number(),
         Err(failure) => {
             failure.report();
             failure.status()

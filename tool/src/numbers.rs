@@ -1,29 +1,81 @@
 //! Assignments and schedules as text: decimal numbers, or a solver's own model (z3's and cvc5's).
 
+use crate::name::shown;
+use crate::words::count;
+use std::ffi::OsStr;
+
 /// What a text holds.
 #[derive(Debug, PartialEq, Eq)]
 pub enum Given {
     Numbers(Vec<u16>),
     /// The values of v0, v1, .. in a model. One that the model leaves out may have any value, and has 0 here.
-    Model(Vec<u16>),
+    Model {
+        values: Vec<u16>,
+        left_out: Vec<usize>,
+    },
+}
+
+/// A line and its number, from 1.
+type Line<'a> = (usize, &'a str);
+
+/// What is wrong with a model, and the line where it is one line's fault.
+#[derive(Debug)]
+struct Problem {
+    line: Option<usize>,
+    words: String,
 }
 
 /// Reads a text. A model is about this many variables.
 pub fn read(text: &str, variables: usize) -> Result<Given, String> {
-    let first = text.split_whitespace().next().unwrap_or_default();
+    // Some editors put a byte-order mark before the text.
+    let lines = lines(text.strip_prefix('\u{feff}').unwrap_or(text));
+    let is_blank = |line: &&Line| uncommented(line.1).trim().is_empty();
+    let lines = &lines[lines.iter().take_while(is_blank).count()..];
+    let first = lines.first().and_then(|(_, line)| uncommented(line).split_whitespace().next()).unwrap_or_default();
     if first == "unsat" || first == "unknown" {
         return Err(format!("a solver's answer '{first}', which has no numbers"));
     }
     if first == "sat" || first.starts_with(['(', ';']) {
-        return model(text, variables).map(Given::Model);
+        return match values(lines, variables) {
+            Ok(found) => Ok(given(&found)),
+            Err(Problem { line: Some(line), words }) => Err(format!("line {line}: {words}")),
+            Err(Problem { line: None, words }) => Err(words),
+        };
     }
-    decimals(text).map(Given::Numbers)
+    decimals(lines).map(Given::Numbers)
 }
 
-/// Decimal numbers with white space or commas between them.
-fn decimals(text: &str) -> Result<Vec<u16>, String> {
-    let words = text.split(|sign: char| sign.is_whitespace() || sign == ',');
-    words.filter(|word| !word.is_empty()).map(decimal).collect()
+fn given(found: &[Option<u16>]) -> Given {
+    Given::Model {
+        values: found.iter().map(|value| value.unwrap_or_default()).collect(),
+        left_out: (0..found.len()).filter(|&variable| found[variable].is_none()).collect(),
+    }
+}
+
+/// The lines of a text, whichever system it comes from.
+fn lines(text: &str) -> Vec<Line<'_>> {
+    let lines = text.split('\n').flat_map(|line| line.strip_suffix('\r').unwrap_or(line).split('\r'));
+    (1..).zip(lines).collect()
+}
+
+/// A line of numbers up to its comment.
+fn uncommented(line: &str) -> &str {
+    line.split('#').next().unwrap_or_default()
+}
+
+/// Decimal numbers with white space or commas between them, and comments.
+fn decimals(lines: &[Line]) -> Result<Vec<u16>, String> {
+    let mut numbers = Vec::new();
+    for &(line, text) in lines {
+        let mut column = 1;
+        for word in uncommented(text).split(|sign: char| sign.is_whitespace() || sign == ',') {
+            if !word.is_empty() {
+                numbers.push(decimal(word).map_err(|problem| format!("line {line}, column {column}: {problem}"))?);
+            }
+            column += word.chars().count() + 1;
+        }
+    }
+    Ok(numbers)
 }
 
 fn decimal(word: &str) -> Result<u16, String> {
@@ -34,84 +86,98 @@ fn decimal(word: &str) -> Result<u16, String> {
 
 /// A word for a message: its first characters, and none that a terminal would act on.
 pub fn shortened(text: &str) -> String {
-    let mut short: String = text.chars().take(60).map(|sign| if sign.is_control() { '?' } else { sign }).collect();
-    if text.chars().nth(60).is_some() {
-        short.push_str("..");
-    }
-    short
+    let short: String = text.chars().take(60).collect();
+    let dots = if short.len() < text.len() { ".." } else { "" };
+    shown(OsStr::new(&short)) + dots
 }
 
 /// Text in parentheses, as solvers print it.
 #[derive(Debug)]
 enum Term {
     Word(String),
-    List(Vec<Term>),
+    /// With the line where it begins.
+    List(Vec<Term>, usize),
 }
 
 /// The values of v0, v1, .. in a solver's reply to get-model or get-value, with or without the word sat before it.
 pub fn model(text: &str, variables: usize) -> Result<Vec<u16>, String> {
+    let found = values(&lines(text), variables).map_err(|problem| problem.words)?;
+    Ok(found.into_iter().map(Option::unwrap_or_default).collect())
+}
+
+/// The same values, none where the model leaves a variable out.
+fn values(lines: &[Line], variables: usize) -> Result<Vec<Option<u16>>, Problem> {
     let mut values = vec![None; variables];
-    for term in terms(text)? {
+    for term in terms(lines)? {
         collect(&term, &mut values)?;
     }
-    if variables > 0 && values.iter().all(Option::is_none) {
-        return Err("no value of v0, v1, .. in it".to_string());
+    match variables > 0 && values.iter().all(Option::is_none) {
+        true => Err(Problem { line: None, words: "no value of v0, v1, .. in it".to_string() }),
+        false => Ok(values),
     }
-    Ok(values.into_iter().map(Option::unwrap_or_default).collect())
 }
 
 /// The terms of a text, one after the other. No recursion, so that no depth of parentheses is too much.
-fn terms(text: &str) -> Result<Vec<Term>, String> {
-    let mut open: Vec<Vec<Term>> = vec![Vec::new()];
-    for line in text.lines() {
-        let line = line.split(';').next().unwrap_or_default();
-        let spaced = line.replace('(', " ( ").replace(')', " ) ");
+fn terms(lines: &[Line]) -> Result<Vec<Term>, Problem> {
+    let mut done = Vec::new();
+    let mut open: Vec<(Vec<Term>, usize)> = Vec::new();
+    for &(number, line) in lines {
+        let problem = |words: &str| Problem { line: Some(number), words: words.to_string() };
+        let spaced = line.split(';').next().unwrap_or_default().replace('(', " ( ").replace(')', " ) ");
         for word in spaced.split_whitespace() {
-            match word {
-                "(" if open.len() > 8 => return Err("too many parentheses for a model".to_string()),
-                "(" => open.push(Vec::new()),
-                ")" => {
-                    let list = Term::List(open.pop().unwrap_or_default());
-                    let outer = open.last_mut().ok_or("a parenthesis too many: not a whole model")?;
-                    outer.push(list);
+            let term = match word {
+                "(" if open.len() >= 8 => return Err(problem("too many parentheses for a model")),
+                "(" => {
+                    open.push((Vec::new(), number));
+                    continue;
                 }
-                _ => open.last_mut().ok_or("not a model")?.push(Term::Word(word.to_string())),
-            }
+                ")" => {
+                    let (list, begin) = open.pop().ok_or_else(|| problem("a parenthesis too many: not a whole model"))?;
+                    Term::List(list, begin)
+                }
+                _ => Term::Word(word.to_string()),
+            };
+            open.last_mut().map_or(&mut done, |(list, _)| list).push(term);
         }
     }
-    match open.len() {
-        1 => Ok(open.pop().unwrap_or_default()),
-        _ => Err("a parenthesis is not closed: not a whole model".to_string()),
+    match open.last() {
+        None => Ok(done),
+        Some(&(_, line)) => {
+            Err(Problem { line: Some(line), words: "a parenthesis is not closed: not a whole model".to_string() })
+        }
     }
 }
 
 /// Takes the values from `(define-fun v0 () (_ BitVec 16) #x0000)` and `(v0 #x0000)`, wherever they stand.
-fn collect(term: &Term, values: &mut [Option<u16>]) -> Result<(), String> {
-    let Term::List(list) = term else {
+fn collect(term: &Term, values: &mut [Option<u16>]) -> Result<(), Problem> {
+    let Term::List(list, line) = term else {
         return Ok(());
     };
+    let problem = |words: String| Problem { line: Some(*line), words };
     let (name, value) = match list.as_slice() {
-        [Term::Word(define), Term::Word(name), Term::List(_), Term::List(_), value] if define == "define-fun" => (name, value),
+        [Term::Word(define), Term::Word(name), Term::List(..), Term::List(..), value] if define == "define-fun" => {
+            (name, value)
+        }
         [Term::Word(name), value] if variable(name).is_some() => (name, value),
         [Term::Word(error), ..] if error == "error" => {
-            return Err(format!("the solver reports an error: {}", shortened(&words(list))))
+            return Err(problem(format!("the solver reports an error: {}", shortened(&words(list)))))
         }
         _ => return list.iter().try_for_each(|inner| collect(inner, values)),
     };
-    let index = variable(name).ok_or_else(|| format!("'{}' is not one of v0, v1, ..", shortened(name)))?;
-    let value = constant(value).ok_or_else(|| format!("the value of {name} is not a constant of 16 bits"))?;
-    let count = values.len();
-    let place = values.get_mut(index).ok_or_else(|| format!("{name} has a value, but the case has {count} variables"))?;
+    let index = variable(name).ok_or_else(|| problem(format!("'{}' is not one of v0, v1, ..", shortened(name))))?;
+    let value = constant(value).ok_or_else(|| problem(format!("the value of {name} is not a constant of 16 bits")))?;
+    let all = count(values.len(), "variable", "variables");
+    let place = values.get_mut(index).ok_or_else(|| problem(format!("{name} has a value, but the case has {all}")))?;
     match place.replace(value) {
         None => Ok(()),
-        Some(_) => Err(format!("{name} has two values")),
+        Some(_) => Err(problem(format!("{name} has two values"))),
     }
 }
 
 fn words(list: &[Term]) -> String {
     let words = list.iter().map(|term| match term {
         Term::Word(word) => word.clone(),
-        Term::List(inner) => words(inner),
+        Term::List(inner, _) => words(inner),
     });
     words.collect::<Vec<_>>().join(" ")
 }
@@ -138,7 +204,7 @@ fn constant(term: &Term) -> Option<u16> {
                 .filter(|digits| digits.len() == 16)
                 .and_then(|digits| u16::from_str_radix(digits, 2).ok()),
         },
-        Term::List(list) => match list.as_slice() {
+        Term::List(list, _) => match list.as_slice() {
             [Term::Word(mark), Term::Word(value), Term::Word(width)] if mark == "_" && width == "16" => {
                 decimal(value.strip_prefix("bv")?).ok()
             }

@@ -41,10 +41,14 @@ impl Refusal {
             message.push_str(detail);
         }
         match number {
-            15 => Failure::Fails(message),
             // The slices that this command lends are as long as any result.
             10 => Failure::Other(message),
-            _ => Failure::Refused(message),
+            _ => Failure::ByLibrary(self, message),
         }
+    }
+
+    /// Whether the input was taken, and is an assignment that fails.
+    pub fn is_of_a_failing_assignment(self) -> bool {
+        self.number == 15
     }
 }

@@ -6,7 +6,7 @@ use crate::case::{Case, Kind, Record, CONSTANT};
 use crate::table::{self, Row, Table};
 use crate::words::count;
 
-/// The whole text: declarations, constraints, and what is asked.
+/// The whole text: declarations, constraints, and the question. It asks for no model, so that the reply to an unsat has no error.
 pub fn text(loaded: &Loaded) -> String {
     let Loaded { case, table, .. } = loaded;
     let mut text = format!(
@@ -22,11 +22,18 @@ pub fn text(loaded: &Loaded) -> String {
         text.push_str(&format!("; {}: {}\n(assert {})\n", table::numbers(row), table::in_words(case, row), terms.row(row)));
     }
     text.push_str("(check-sat)\n");
-    if table.variables > 0 {
-        let names: Vec<String> = (0..table.variables).map(|variable| format!("v{variable}")).collect();
-        text.push_str(&format!("(get-value ({}))\n", names.join(" ")));
-    }
     text
+}
+
+/// What asks for a model, after sat.
+pub fn get_values(variables: usize) -> String {
+    match variables {
+        0 => String::new(),
+        _ => {
+            let names: Vec<String> = (0..variables).map(|variable| format!("v{variable}")).collect();
+            format!("(get-value ({}))\n", names.join(" "))
+        }
+    }
 }
 
 fn constant(number: u16) -> String {

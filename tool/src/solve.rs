@@ -1,55 +1,169 @@
-//! From a case to a run: table, SMT-LIB text, solver, assignment, and then the library's check, decoding and replay.
+//! From a case to a run: table, SMT-LIB text, solvers, assignment, and then the library's check, decoding and replay; and which
+//! asserts the answer is about.
 
 use crate::calls::{Ending, Loaded};
 use crate::failure::{Failure, Status};
-use crate::output::Output;
+use crate::input::Source;
+use crate::keep::Keep;
+use crate::reach::Reach;
 use crate::run::{self, Run};
 use crate::smt;
-use crate::solver::{Answer, Solver};
-use crate::words::{count, numbers_in_lines};
-use std::ffi::OsStr;
-use std::fs;
-use std::path::Path;
+use crate::solver::{self, Answer, Asked, Solver};
+use crate::words::enumeration;
+use std::thread;
+use std::time::{Duration, Instant};
+
+/// How long a question may take where there are several cases and nothing else is said.
+pub const LIMIT_OF_MANY: Duration = Duration::from_secs(60);
+
+/// `solve`, as it was called.
+pub struct Wanted {
+    pub cases: Vec<Source>,
+    pub settings: Settings,
+    pub jobs: usize,
+    pub keep: Option<Keep>,
+    pub strict: bool,
+    pub json: bool,
+}
+
+/// Whom to ask and how long, as far as it was said: no solver is the first that is installed.
+pub struct Settings {
+    pub solvers: Vec<Solver>,
+    pub limit: Option<Option<Duration>>,
+}
+
+/// Whom to ask, and how long each question may take.
+#[derive(Clone, Debug)]
+pub struct Asking {
+    pub solvers: Vec<Solver>,
+    pub limit: Option<Duration>,
+}
+
+/// An assignment that the library checked, its schedule and its run.
+pub struct Found {
+    pub solver: String,
+    pub assignment: Vec<u16>,
+    pub schedule: Vec<u16>,
+    pub run: Run,
+}
+
+/// What came of a question. The words say who did not answer, or what is wrong.
+pub enum Verdict {
+    Violated(Found),
+    Unsat,
+    Unknown(String),
+    Timeout(String),
+    Disagree(String),
+    Failed(String),
+}
 
 /// What came of a case.
-pub enum Solved {
-    Found { assignment: Vec<u16>, schedule: Vec<u16>, run: Run },
-    Nothing,
-    Unknown,
+pub struct Solved {
+    pub text: String,
+    pub asked: Vec<Asked>,
+    pub verdict: Verdict,
+    pub reach: Reach,
+    pub seconds: f64,
 }
 
-/// Solves a case. `keep` names the folder that the texts are written to.
-pub fn solve(loaded: &Loaded, solver: Solver, keep: Option<&OsStr>) -> Result<Solved, Failure> {
+impl Settings {
+    pub fn asking(&self, many: bool) -> Result<Asking, Failure> {
+        let limit = self.limit.unwrap_or(many.then_some(LIMIT_OF_MANY));
+        Ok(Asking { solvers: solver::choose(&self.solvers)?, limit })
+    }
+}
+
+impl Asking {
+    /// Asks every solver, all at once.
+    pub fn ask(&self, text: &str, variables: usize) -> Vec<Asked> {
+        match self.solvers.as_slice() {
+            [solver] => vec![solver.ask(text, variables, self.limit)],
+            solvers => thread::scope(|scope| {
+                let ask = |solver: &'_ Solver| solver.ask(text, variables, self.limit);
+                let threads: Vec<_> = solvers.iter().map(|solver| (solver, scope.spawn(move || ask(solver)))).collect();
+                let asked = threads.into_iter().map(|(solver, thread)| thread.join().unwrap_or_else(|_| solver.silent()));
+                asked.collect()
+            }),
+        }
+    }
+
+    /// The solvers' names, and whether there are several.
+    pub fn names(&self) -> String {
+        enumeration(&self.solvers.iter().map(|solver| solver.name.as_str()).collect::<Vec<_>>())
+    }
+}
+
+/// Solves a case. What came of its question is told as soon as it is known; whether its asserts are reached may take longer.
+pub fn solve(loaded: &Loaded, asking: &Asking, tell: &mut dyn FnMut(&Verdict)) -> Result<Solved, Failure> {
+    let begin = Instant::now();
     let text = smt::text(loaded);
-    keep_text(keep, loaded, "smt2", &text)?;
-    let (answer, reply) = solver.ask(&text, loaded.table.variables)?;
-    keep_text(keep, loaded, "reply", &reply)?;
-    let assignment = match answer {
-        Answer::Sat(assignment) => assignment,
-        Answer::Unsat => return Ok(Solved::Nothing),
-        Answer::Unknown => return Ok(Solved::Unknown),
-    };
-    keep_text(keep, loaded, "assignment", &numbers_in_lines(&assignment))?;
-    // No input of the user is refused from here on.
-    let (schedule, run) = followed(loaded, solver, &assignment).map_err(Failure::unexpected)?;
-    keep_text(keep, loaded, "schedule", &numbers_in_lines(&schedule))?;
-    Ok(Solved::Found { assignment, schedule, run })
+    let (asked, verdict, reach) = thread::scope(|scope| {
+        let aside = scope.spawn(|| Reach::of(loaded, asking));
+        let asked = asking.ask(&text, loaded.table.variables);
+        let verdict = verdict(loaded, &asked);
+        tell(&verdict);
+        let reach = aside.join().unwrap_or_else(|_| Err(Failure::Other("the search for reached asserts failed".to_string())));
+        (asked, verdict, reach)
+    });
+    let mut reach = reach?;
+    if let Verdict::Violated(found) = &verdict {
+        reach.note_run(loaded, &found.schedule)?;
+    }
+    Ok(Solved { text, asked, verdict, reach, seconds: begin.elapsed().as_secs_f64() })
 }
 
-/// A solver's assignment, checked, decoded and replayed.
-fn followed(loaded: &Loaded, solver: Solver, assignment: &[u16]) -> Result<(Vec<u16>, Run), Failure> {
-    let name = format!("the assignment of {}", solver.name);
+/// What solvers' answers come to. An assignment is checked, decoded and replayed, so one is enough; unsat is a word, so all must
+/// give it.
+pub fn verdict(loaded: &Loaded, asked: &[Asked]) -> Verdict {
+    let mut found = None;
+    for Asked { solver, answer, .. } in asked {
+        if let Answer::Sat(assignment) = answer {
+            match followed(loaded, solver, assignment) {
+                Ok(one) => found = found.or(Some(one)),
+                Err(failure) => return Verdict::Failed(failure.message().unwrap_or_default().to_string()),
+            }
+        }
+    }
+    let of = |wanted: fn(&Answer) -> bool| -> Vec<&str> {
+        asked.iter().filter(|asked| wanted(&asked.answer)).map(|asked| asked.solver.as_str()).collect()
+    };
+    let unsat = of(|answer| *answer == Answer::Unsat);
+    if let (Some(found), [denies, ..]) = (&found, unsat.as_slice()) {
+        return Verdict::Disagree(format!(
+            "{} says sat, and its assignment is checked and replayed; {denies} says unsat, and is wrong",
+            found.solver
+        ));
+    }
+    if let Some(found) = found {
+        return Verdict::Violated(found);
+    }
+    let besides = |words: String| match unsat.as_slice() {
+        [] => words,
+        [solver, ..] => format!("{words}; {solver} says unsat"),
+    };
+    for Asked { solver, answer, .. } in asked {
+        if let Answer::None(problem) = answer {
+            return Verdict::Failed(besides(format!("the solver {solver} gave no answer that can be read: {problem}")));
+        }
+    }
+    match (of(|answer| *answer == Answer::Timeout).as_slice(), of(|answer| *answer == Answer::Unknown).as_slice()) {
+        ([], []) => Verdict::Unsat,
+        ([], unknown) => Verdict::Unknown(besides(format!("{} found no answer", enumeration(unknown)))),
+        (timeout, _) => Verdict::Timeout(besides(format!("the time of {} was up", enumeration(timeout)))),
+    }
+}
+
+/// A solver's assignment, checked, decoded and replayed. No input of the user is refused here.
+fn followed(loaded: &Loaded, solver: &str, assignment: &[u16]) -> Result<Found, Failure> {
+    let name = format!("the assignment of {solver}");
     if let Some(constraint) = loaded.check(&name, assignment)? {
-        let details = loaded.constraint_in_words(constraint, assignment).join("\n  ");
-        return Err(Failure::Other(format!(
-            "{name} fails, so {} or the text that it was given is wrong\n  {details}",
-            solver.name
-        )));
+        let details = loaded.constraint_in_words(constraint, assignment)?.join("\n  ");
+        return Err(Failure::Other(format!("{name} fails, so {solver} or the text that it was given is wrong\n  {details}")));
     }
     let schedule = loaded.decode(&name, assignment)?;
     let run = run::replay(loaded, "the decoded schedule", &schedule)?;
     match run.ending {
-        Ending::Violated(_) => Ok((schedule, run)),
+        Ending::Violated(_) => Ok(Found { solver: solver.to_string(), assignment: assignment.to_vec(), schedule, run }),
         _ => Err(Failure::Other(format!(
             "an assignment that meets the constraints replays to '{}': this is not the proved library",
             run::verdict(&loaded.case, run.ending)
@@ -57,53 +171,52 @@ fn followed(loaded: &Loaded, solver: Solver, assignment: &[u16]) -> Result<(Vec<
     }
 }
 
-/// Writes a text to the folder, named as the case with another ending.
-fn keep_text(keep: Option<&OsStr>, loaded: &Loaded, ending: &str, text: &str) -> Result<(), Failure> {
-    let Some(folder) = keep else {
-        return Ok(());
-    };
-    let mut name = Path::new(&loaded.name).file_stem().unwrap_or_else(|| OsStr::new("case")).to_os_string();
-    name.push(format!(".{ending}"));
-    let file = Path::new(folder).join(name);
-    let written = fs::create_dir_all(folder).and_then(|()| fs::write(&file, text));
-    written.map_err(|error| Failure::Other(format!("{}: {error}", file.display())))
-}
-
-/// `solve CASE`.
-pub fn one(loaded: &Loaded, solver: Solver, keep: Option<&OsStr>, output: &mut Output) -> Result<Status, Failure> {
-    let constraints = count(loaded.table.rows.len(), "constraint", "constraints");
-    let variables = count(loaded.table.variables, "variable", "variables");
-    output.say(&format!("{}: {constraints} over {variables}\n", loaded.name))?;
-    match solve(loaded, solver, keep)? {
-        Solved::Found { assignment, schedule, run } => {
-            let mut text = format!("{} says sat. Its assignment:\n{}", solver.name, numbers_in_lines(&assignment));
-            text.push_str(&format!("checked: it meets all {constraints}\n"));
-            text.push_str(&format!("decoded: schedule {}\n", numbers_in_lines(&schedule)));
-            text.push_str(&run.text(&loaded.case, &schedule));
-            output.say(&text)?;
-            Ok(run.status())
+impl Verdict {
+    /// Why there is no answer, in lines; nothing where there is one.
+    pub fn trouble(&self) -> &str {
+        match self {
+            Verdict::Violated(_) | Verdict::Unsat => "",
+            Verdict::Unknown(why) | Verdict::Timeout(why) | Verdict::Disagree(why) | Verdict::Failed(why) => why,
         }
-        Solved::Nothing => {
-            output.say(&unsat_in_words(loaded, solver))?;
-            Ok(Status::Done)
-        }
-        Solved::Unknown => Err(Failure::Other(format!("{} says unknown: it found no answer", solver.name))),
     }
 }
 
-/// What unsat means, and what it does not.
-pub fn unsat_in_words(loaded: &Loaded, solver: Solver) -> String {
-    let constraints = count(loaded.table.rows.len(), "constraint", "constraints");
-    let switches = loaded.case.switches;
-    let threads = loaded.case.threads;
-    format!(
-        "{} says unsat: nothing meets these {constraints}.\n\
-         It means: no complete legal run breaks an assertion within n = {switches} switches, in round robin: block i\n\
-         (0 to {switches}) belongs to thread i modulo {threads}, and a thread that runs no line still uses its turn. A run is\n\
-         complete and legal when every thread ran all its lines, every assume held and every lock was free.\n\
-         It does not mean: that no assertion breaks with more switches or in another order of threads; that any\n\
-         run completes within the bound; that the case says what the controller does. The word unsat is {}'s own:\n\
-         that the constraints say this is proved, that nothing meets them is not checked here.\n",
-        solver.name, solver.name
-    )
+/// The answers that a case can get, in the order in which they are counted.
+pub const ANSWERS: [&str; 8] = ["violated", "unsat", "vacuous", "timeout", "unknown", "disagree", "refused", "failed"];
+
+impl Solved {
+    /// The answer in a word.
+    pub fn word(&self) -> &'static str {
+        match self.verdict {
+            Verdict::Violated(_) => "violated",
+            Verdict::Unsat if self.reach.is_vacuous() => "vacuous",
+            Verdict::Unsat => "unsat",
+            Verdict::Unknown(_) => "unknown",
+            Verdict::Timeout(_) => "timeout",
+            Verdict::Disagree(_) => "disagree",
+            Verdict::Failed(_) => "failed",
+        }
+    }
+
+    /// The exit status. Where it is strict, an unsat must be about every assert.
+    pub fn status(&self, strict: bool) -> i32 {
+        match self.verdict {
+            Verdict::Violated(_) => Status::Found.number(),
+            Verdict::Unsat if strict && !self.reach.is_whole() => Status::Found.number(),
+            Verdict::Unsat => Status::Done.number(),
+            _ => Failure::STATUS_OTHER,
+        }
+    }
+
+    /// The answer in a line.
+    pub fn note(&self, loaded: &Loaded) -> String {
+        let within = format!("nothing within n = {}, in round robin", loaded.case.switches);
+        match (&self.verdict, self.reach.note()) {
+            (Verdict::Violated(found), _) => run::broken(&loaded.case, found.run.ending),
+            (Verdict::Unsat, None) => within,
+            (Verdict::Unsat, Some(note)) if self.reach.is_vacuous() => note,
+            (Verdict::Unsat, Some(note)) => format!("{within}; {note}"),
+            (verdict, _) => verdict.trouble().lines().next().unwrap_or_default().to_string(),
+        }
+    }
 }

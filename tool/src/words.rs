@@ -148,6 +148,22 @@ pub fn count(number: usize, one: &str, many: &str) -> String {
     }
 }
 
+/// `the one line`, `all 2 lines`.
+pub fn all(number: usize, one: &str, many: &str) -> String {
+    match number {
+        1 => format!("the one {one}"),
+        _ => format!("all {number} {many}"),
+    }
+}
+
+/// `this one line`, `these 2 lines`.
+pub fn these(number: usize, one: &str, many: &str) -> String {
+    match number {
+        1 => format!("this one {one}"),
+        _ => format!("these {number} {many}"),
+    }
+}
+
 /// `0`, `0 and 2`, `0, 2 and 4`.
 pub fn enumeration<T: fmt::Display>(things: &[T]) -> String {
     match things {

@@ -1,0 +1,51 @@
+# shellcheck shell=bash
+# The tests of the command source this, after counting.sh. They set the folder $scratch, the PATH $seen that the command sees,
+# and $store, which says whether expected texts are written anew.
+
+# run COMMAND..: as in counting.sh, with the PATH that the command sees. The output stays in a file too, without the scratch
+# folder's name.
+run() {
+    env PATH="$seen" timeout 60 "$@" >"$scratch/out" 2>&1 </dev/null
+    status=$?
+    sed -i "s|$scratch/||g" "$scratch/out"
+    out=$(<"$scratch/out")
+}
+
+# same NAME STATUS COMMAND..: it ends with this status and prints what is stored under NAME.
+same() {
+    local name=$1 wanted=$2
+    shift 2
+    run "$@"
+    matches "$name" "$wanted"
+}
+
+# matches NAME STATUS: the same, of what was run last.
+matches() {
+    local file=tests/command/$1.expected
+    [ "$store" = no ] || cp -- "$scratch/out" "$file"
+    result "$1" eval '[ "$status" = '"$2"' ] && cmp -s "$scratch/out" '"$file"
+}
+
+# says NAME STATUS TEXT COMMAND..: it ends with this status, and prints this text among others.
+says() {
+    local name=$1 wanted=$2 text=$3
+    shift 3
+    run "$@"
+    result "$name" eval '[ "$status" = '"$wanted"' ] && [[ $out = *"$text"* ]]'
+}
+
+# fields NUMBER..: the numbers as fields of a case, 16 bits each, low byte first.
+fields() {
+    local number bytes all=
+    for number; do
+        printf -v bytes '\\x%02x\\x%02x' $((number % 256)) $((number / 256))
+        all+=$bytes
+    done
+    printf "$all"
+}
+
+# damaged FIELD NUMBER: case A with another number in this field, counted from 0; its name.
+damaged() {
+    cp cases/case-a.case "$scratch/damaged.case"
+    fields "$2" | dd of="$scratch/damaged.case" bs=2 seek="$1" conv=notrunc status=none
+}

@@ -1,0 +1,169 @@
+//! What a constraint needs and what an assignment has there, for display. That a constraint fails is the library's word; `calls`
+//! compares the two.
+
+use crate::case::{Case, Kind, Record};
+use crate::reads::{Read, Reads};
+use crate::table::{Row, Table};
+use crate::words::{enumeration, item_name, Name};
+use std::collections::BTreeMap;
+
+/// A constraint over an assignment, as this display sees it.
+pub struct Seen {
+    pub holds: bool,
+    needed: String,
+    found: String,
+}
+
+impl Seen {
+    pub fn words(&self) -> String {
+        format!("needed: {}; found: {}", self.needed, self.found)
+    }
+}
+
+/// Looks at a constraint of the table. Gives nothing for numbers that no such constraint has.
+pub fn seen(case: &Case, table: &Table, row: Row, assignment: &[u16]) -> Option<Seen> {
+    let rows = Rows { reads: Reads { case, assignment }, case, table };
+    match row[0] {
+        1 => Some(rows.order_row(row)),
+        2 => Some(rows.last_row(row)),
+        3 => rows.thread_row(row),
+        4 => rows.value_row(row),
+        5 => rows.demand_row(row),
+        6 => Some(rows.block_value_row(row)),
+        7 => Some(rows.goal_row()),
+        _ => None,
+    }
+}
+
+struct Rows<'a> {
+    reads: Reads<'a>,
+    case: &'a Case,
+    table: &'a Table,
+}
+
+impl Rows<'_> {
+    fn order_row(&self, [_, line, next, ..]: Row) -> Seen {
+        let (before, after) = (self.reads.block(line), self.reads.block(next));
+        Seen {
+            holds: before <= after,
+            needed: format!("record {next} in block {before} or later, as record {line} is in block {before}"),
+            found: format!("block number {after}"),
+        }
+    }
+
+    fn last_row(&self, [_, line, most, ..]: Row) -> Seen {
+        let block = self.reads.block(line);
+        Seen { holds: block <= most, needed: format!("block number 0 to {most}"), found: format!("block number {block}") }
+    }
+
+    fn thread_row(&self, [_, line, threads, thread, ..]: Row) -> Option<Seen> {
+        let block = self.reads.block(line);
+        let rest = block.checked_rem(threads)?;
+        Some(Seen {
+            holds: rest == thread,
+            needed: format!("a block number that is {thread} modulo {threads}"),
+            found: format!("block number {block}, which is {rest} modulo {threads}"),
+        })
+    }
+
+    fn value_row(&self, row: Row) -> Option<Seen> {
+        let record = self.reads.record(row[1])?;
+        let found = self.reads.value(row[1]);
+        let (holds, needed) = match self.line_value(record, row) {
+            Some(Read { value, words }) => (found == value, format!("value {value} ({words})")),
+            None => (true, "any value, as an input is free".to_string()),
+        };
+        Some(Seen { holds, needed, found: found.to_string() })
+    }
+
+    fn demand_row(&self, row: Row) -> Option<Seen> {
+        let [_, line, guard_copy, target_copy, ..] = row;
+        let record = self.reads.record(line)?;
+        if record.kind == Kind::Assume {
+            let found = self.reads.value(line);
+            let why = self.table.value_row(line).and_then(|row| self.line_value(record, row));
+            let why = why.filter(|why| why.value == found).map(|why| format!(" ({})", why.words)).unwrap_or_default();
+            let needed = "value 1, as the assume must hold".to_string();
+            return Some(Seen { holds: found == 1, needed, found: format!("{found}{why}") });
+        }
+        let (guard, why) = self.reads.guard(record, guard_copy);
+        let mutex = self.reads.mutex(record, target_copy);
+        let why = why.map(|why| format!(" ({why})")).unwrap_or_default();
+        let needed = format!("{} = 0{why}", Name::Mutex(record.target));
+        Some(Seen { holds: !guard || mutex.value == 0, needed, found: mutex.words })
+    }
+
+    fn block_value_row(&self, [_, item, block, last_copy, ..]: Row) -> Seen {
+        let place = usize::from(item);
+        let name = item_name(self.case, place);
+        let found = self.reads.number(self.case.block_value(usize::from(block), place));
+        let mut copies = self.table.copies_back_from(last_copy).into_iter();
+        let needed = match copies.find(|&copy| self.reads.block(copy) == block) {
+            Some(copy) => Read {
+                value: self.reads.value(copy),
+                words: format!("by record {copy}, the last line in block {block} with target {name}"),
+            },
+            None => {
+                let Read { value, words } = self.reads.before(block, place);
+                Read { value, words: format!("{words}, and no line in block {block} has target {name}") }
+            }
+        };
+        Seen {
+            holds: found == needed.value,
+            needed: format!("value {} ({})", needed.value, needed.words),
+            found: found.to_string(),
+        }
+    }
+
+    fn goal_row(&self) -> Seen {
+        let mut records: BTreeMap<u16, Vec<u16>> = BTreeMap::new();
+        for assert in self.case.records.iter().filter(|record| record.kind == Kind::Assert) {
+            records.entry(self.reads.value(assert.number)).or_default().push(assert.number);
+        }
+        let found = records.iter().map(|(value, records)| {
+            let named = if records.len() == 1 { "record" } else { "records" };
+            format!("value {value} of {named} {}", enumeration(records))
+        });
+        let found: Vec<String> = found.collect();
+        Seen {
+            holds: records.contains_key(&0),
+            needed: "an assert with value 0".to_string(),
+            found: if found.is_empty() { "no assert".to_string() } else { found.join(", ") },
+        }
+    }
+
+    /// The value that a line must have; none where it is free.
+    fn line_value(&self, record: &Record, row: Row) -> Option<Read> {
+        let (guard, why) = self.reads.guard(record, row[2]);
+        let Read { value, words } = match guard {
+            true => self.value_if_true(record, row)?,
+            false => self.value_if_false(record, row),
+        };
+        Some(Read { value, words: why.into_iter().chain([words]).collect::<Vec<_>>().join("; ") })
+    }
+
+    fn value_if_true(&self, record: &Record, [_, line, _, a_copy, b_copy, _]: Row) -> Option<Read> {
+        Some(match record.kind {
+            Kind::Input => return None,
+            Kind::Load => self.reads.item(usize::from(record.a), line, a_copy),
+            Kind::Lock => Read { value: 1, words: "a lock gives 1".to_string() },
+            Kind::Unlock => Read { value: 0, words: "an unlock gives 0".to_string() },
+            Kind::Assert | Kind::Assume => {
+                let Read { value, words } = self.reads.expression(record, a_copy, b_copy);
+                Read { value: u16::from(value != 0), words }
+            }
+            _ => self.reads.expression(record, a_copy, b_copy),
+        })
+    }
+
+    fn value_if_false(&self, record: &Record, [_, line, _, _, _, target_copy]: Row) -> Read {
+        let Read { value, words } = match record.kind {
+            Kind::Assert => return Read { value: 1, words: "an assert then has 1".to_string() },
+            Kind::Assume => return Read { value: 1, words: "an assume then has 1".to_string() },
+            Kind::Store => self.reads.item(usize::from(record.target), line, target_copy),
+            Kind::Lock | Kind::Unlock => self.reads.mutex(record, target_copy),
+            _ => self.reads.local(record.target, target_copy),
+        };
+        Read { value, words: format!("the target keeps its value, {words}") }
+    }
+}

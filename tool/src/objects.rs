@@ -1,0 +1,92 @@
+//! The objects of `solve --json`, and of what fails; `docs/output.schema.json` describes them.
+
+use crate::calls::{Ending, Loaded};
+use crate::failure::Failure;
+use crate::json::{list, Json};
+use crate::reach::Reached;
+use crate::solve::{Asking, Solved, Verdict, ANSWERS};
+use crate::summary::Summary;
+
+/// An input that was refused, or something else that failed.
+pub fn failed(command: &str, case: &str, input: &str, failure: &Failure) -> Json {
+    let mut fields: Vec<(&'static str, Json)> =
+        vec![("command", command.into()), ("case", case.into()), ("status", (failure.status().unsigned_abs() as usize).into())];
+    if failure.status() == Failure::STATUS_REFUSED {
+        let refusal = failure.refusal().map(|refusal| {
+            Json::Object(vec![
+                ("number", refusal.number.into()),
+                ("place", refusal.place.into()),
+                ("meaning", refusal.meaning().into()),
+            ])
+        });
+        fields.extend([("answer", "refused".into()), ("input", input.into()), ("refusal", refusal.into())]);
+    } else {
+        fields.push(("answer", "failed".into()));
+    }
+    fields.push(("message", list(failure.message().unwrap_or_default().lines())));
+    Json::Object(fields)
+}
+
+/// What came of a case.
+pub fn solved(loaded: &Loaded, asking: &Asking, solved: &Solved, strict: bool) -> Json {
+    let found = match &solved.verdict {
+        Verdict::Violated(found) => Some(found),
+        _ => None,
+    };
+    let record = found.and_then(|found| match found.run.ending {
+        Ending::Violated(record) => Some(record),
+        _ => None,
+    });
+    let asserts = solved.reach.asserts.iter().map(|(record, reached)| {
+        let (reached, schedule) = match reached {
+            Reached::Yes(schedule) => (Json::Bool(true), list(schedule.iter().copied())),
+            Reached::Never => (Json::Bool(false), Json::Null),
+            Reached::NotKnown(_) => (Json::Null, Json::Null),
+        };
+        Json::Object(vec![("record", (*record).into()), ("reached", reached), ("schedule", schedule)])
+    });
+    Json::Object(vec![
+        ("command", "solve".into()),
+        ("case", loaded.name.as_str().into()),
+        ("status", (solved.status(strict).unsigned_abs() as usize).into()),
+        ("answer", solved.word().into()),
+        ("solvers", list(asking.solvers.iter().map(|solver| solver.name.as_str()))),
+        ("seconds", Json::Seconds(solved.seconds)),
+        ("constraints", loaded.table.rows.len().into()),
+        ("variables", loaded.table.variables.into()),
+        ("switches", loaded.case.switches.into()),
+        ("record", record.into()),
+        ("assignment", found.map(|found| list(found.assignment.iter().copied())).into()),
+        ("schedule", found.map(|found| list(found.schedule.iter().copied())).into()),
+        ("asserts", Json::List(asserts.collect())),
+        ("note", solved.note(loaded).into()),
+        ("resumed", false.into()),
+    ])
+}
+
+/// The object of an answer that was filed before.
+pub fn resumed(json: &str) -> String {
+    match json.strip_suffix("\"resumed\":false}") {
+        Some(rest) => format!("{rest}\"resumed\":true}}"),
+        None => json.to_string(),
+    }
+}
+
+/// What came of several cases: how many have each answer, and each one's answer, in the order of the cases.
+pub fn summary(summaries: &[Summary], status: i32) -> Json {
+    let counts = ANSWERS.iter().map(|word| {
+        let of_word = summaries.iter().filter(|summary| summary.word == *word);
+        (*word, Json::Number(of_word.count()))
+    });
+    let answers = summaries
+        .iter()
+        .map(|summary| Json::Object(vec![("case", summary.name.as_str().into()), ("answer", summary.word.as_str().into())]));
+    Json::Object(vec![
+        ("command", "solve".into()),
+        ("summary", true.into()),
+        ("status", (status.unsigned_abs() as usize).into()),
+        ("cases", summaries.len().into()),
+        ("counts", Json::Object(counts.collect())),
+        ("answers", Json::List(answers.collect())),
+    ])
+}

@@ -1,0 +1,222 @@
+//! Which asserts an answer is about. Where no complete legal run within the bound reaches an assert with a true guard, unsat says
+//! nothing of it.
+//!
+//! The case with some asserts' expressions made 0, and every other assert's made 1, is a case as any other. By the theorem its
+//! constraints are met exactly where a complete legal run reaches one of those asserts with a true guard: asserts change nothing
+//! that another line reads. So a solver is asked about that case, and the library checks, decodes and replays its answer. Simple
+//! schedules are tried first, by the library's replay of that case alone.
+
+use crate::calls::{Ending, Loaded};
+use crate::case::{Case, Kind, CONSTANT};
+use crate::failure::Failure;
+use crate::smt;
+use crate::solve::{verdict, Asking, Verdict};
+use crate::solver::Asked;
+use crate::words::{count, enumeration};
+
+/// Whether some complete legal run within the bound reaches an assert with a true guard.
+#[derive(Clone, Debug, PartialEq, Eq)]
+pub enum Reached {
+    /// It does, with this schedule.
+    Yes(Vec<u16>),
+    /// No run does: by the solvers' word, or by what is plain to see.
+    Never,
+    /// Why it is not known.
+    NotKnown(String),
+}
+
+/// A question to solvers: whether one of these asserts is reached.
+#[derive(Clone, Debug)]
+pub struct Question {
+    pub records: Vec<u16>,
+    pub text: String,
+    pub asked: Vec<Asked>,
+}
+
+/// What is known of a case's asserts, by thread and line.
+#[derive(Clone, Debug)]
+pub struct Reach {
+    pub asserts: Vec<(u16, Reached)>,
+    /// Why no run can reach anything, where that is plain to see.
+    pub plain: Option<String>,
+    pub questions: Vec<Question>,
+}
+
+/// The case with these asserts' expressions made 0, and every other assert's made 1.
+pub fn changed(case: &Case, zeros: &[u16]) -> Vec<u8> {
+    let mut bytes = case.bytes.clone();
+    for record in case.records.iter().filter(|record| record.kind == Kind::Assert) {
+        let constant = u16::from(!zeros.contains(&record.number));
+        // Op, a, b and c are a record's last four fields.
+        let end = 32 + 16 * usize::from(record.number);
+        let fields = [0, CONSTANT, 0, constant].map(u16::to_le_bytes);
+        bytes[end - 8..end].copy_from_slice(fields.as_flattened());
+    }
+    bytes
+}
+
+/// Why no run is complete, or there is nothing to reach, where no solver is needed to see it.
+fn plain(case: &Case) -> Option<String> {
+    if !case.records.iter().any(|record| record.kind == Kind::Assert) {
+        return Some("the case has no assert".to_string());
+    }
+    let idle = (0..case.threads).filter(|&thread| !case.chains[thread].is_empty() && case.blocks_of(thread).is_empty());
+    let idle: Vec<String> = idle.map(|thread| thread.to_string()).collect();
+    let (threads, have) = if idle.len() == 1 { ("thread", "has") } else { ("threads", "have") };
+    let lines = format!("{threads} {} {have} lines and no block within n = {}", enumeration(&idle), case.switches);
+    (!idle.is_empty()).then(|| format!("{lines}, so no run is complete"))
+}
+
+impl Reach {
+    pub fn of(loaded: &Loaded, asking: &Asking) -> Result<Reach, Failure> {
+        let case = &loaded.case;
+        let lines = case.chains.iter().flatten().copied();
+        let asserts: Vec<u16> = lines.filter(|&line| case.record(line).kind == Kind::Assert).collect();
+        let plain = plain(case);
+        let first = if plain.is_some() { Reached::Never } else { Reached::NotKnown(String::new()) };
+        let asserts = asserts.into_iter().map(|record| (record, first.clone())).collect();
+        let mut reach = Reach { asserts, plain, questions: Vec::new() };
+        if reach.plain.is_none() {
+            for schedule in simple_schedules(case) {
+                reach.note_run(loaded, &schedule)?;
+            }
+            reach.ask(loaded, asking)?;
+        }
+        Ok(reach)
+    }
+
+    /// The asserts of which nothing is known.
+    fn open(&self) -> Vec<u16> {
+        let open = self.asserts.iter().filter(|(_, reached)| matches!(reached, Reached::NotKnown(_)));
+        open.map(|(record, _)| *record).collect()
+    }
+
+    /// Notes the asserts that the run of this schedule reaches, if it is complete and legal. The library's word is proved, and
+    /// stands above a solver's.
+    pub fn note_run(&mut self, loaded: &Loaded, schedule: &[u16]) -> Result<(), Failure> {
+        let others = self.asserts.iter_mut().filter(|(_, reached)| !matches!(reached, Reached::Yes(_)));
+        let others: Vec<_> = others.collect();
+        let records: Vec<u16> = others.iter().map(|(record, _)| *record).collect();
+        if records.is_empty() || !breaks(loaded, &records, schedule)? {
+            return Ok(());
+        }
+        for (record, reached) in others {
+            if breaks(loaded, &[*record], schedule)? {
+                *reached = Reached::Yes(schedule.to_vec());
+            }
+        }
+        Ok(())
+    }
+
+    /// Asks until something is known of every assert, or the solvers do not know.
+    fn ask(&mut self, loaded: &Loaded, asking: &Asking) -> Result<(), Failure> {
+        let mut open = self.open();
+        while !open.is_empty() {
+            let changed = loaded.changed(changed(&loaded.case, &open))?;
+            let text = smt::text(&changed);
+            let asked = asking.ask(&text, changed.table.variables);
+            let answer = verdict(&changed, &asked);
+            self.questions.push(Question { records: open.clone(), text, asked });
+            let known = match answer {
+                Verdict::Violated(found) => {
+                    self.note_run(loaded, &found.schedule)?;
+                    let left = self.open();
+                    if left.len() < open.len() {
+                        open = left;
+                        continue;
+                    }
+                    Reached::NotKnown("a run that should reach it does not: this is not the proved library".to_string())
+                }
+                Verdict::Unsat => Reached::Never,
+                Verdict::Unknown(why) | Verdict::Timeout(why) | Verdict::Disagree(why) | Verdict::Failed(why) => {
+                    Reached::NotKnown(why)
+                }
+            };
+            for (_, reached) in self.asserts.iter_mut().filter(|(record, _)| open.contains(record)) {
+                *reached = known.clone();
+            }
+            return Ok(());
+        }
+        Ok(())
+    }
+
+    /// Whether nothing was checked: no assert is reached.
+    pub fn is_vacuous(&self) -> bool {
+        self.asserts.iter().all(|(_, reached)| *reached == Reached::Never)
+    }
+
+    /// Whether there are asserts, and each is shown to be reached.
+    pub fn is_whole(&self) -> bool {
+        !self.asserts.is_empty() && self.asserts.iter().all(|(_, reached)| matches!(reached, Reached::Yes(_)))
+    }
+
+    /// In a few words, where something is not shown to be reached.
+    pub fn note(&self) -> Option<String> {
+        let many = count(self.asserts.len(), "assert", "asserts");
+        let records = |wanted: fn(&Reached) -> bool| -> Vec<u16> {
+            self.asserts.iter().filter(|(_, reached)| wanted(reached)).map(|(record, _)| *record).collect()
+        };
+        let never = records(|reached| *reached == Reached::Never);
+        let open = records(|reached| matches!(reached, Reached::NotKnown(_)));
+        match (&self.plain, never.as_slice(), open.as_slice()) {
+            (Some(plain), ..) => Some(format!("nothing was checked: {plain}")),
+            (None, [], []) => None,
+            (None, never, []) if never.len() == self.asserts.len() => {
+                Some(format!("nothing was checked: {many}, never reached"))
+            }
+            (None, [], open) => Some(format!("of {many}, not known to be reached: record {}", enumeration(open))),
+            (None, never, []) => Some(format!("of {many}, NEVER REACHED: record {}", enumeration(never))),
+            (None, never, open) => Some(format!(
+                "of {many}, NEVER REACHED: record {}; not known to be reached: record {}",
+                enumeration(never),
+                enumeration(open)
+            )),
+        }
+    }
+}
+
+/// Whether the run of this schedule is complete and legal and reaches one of these asserts with a true guard: whether it violates
+/// where they are made 0, and the others 1.
+fn breaks(loaded: &Loaded, records: &[u16], schedule: &[u16]) -> Result<bool, Failure> {
+    let changed = loaded.changed(changed(&loaded.case, records))?;
+    match changed.replay("a schedule", schedule) {
+        Ok((Ending::Violated(record), _)) => Ok(records.contains(&record)),
+        Ok(_) | Err(Failure::ByLibrary(..)) => Ok(false),
+        Err(failure) => Err(failure),
+    }
+}
+
+/// Schedules in which each thread runs all its lines in one block, for each order of threads, with every input 0, and 1.
+fn simple_schedules(case: &Case) -> Vec<Vec<u16>> {
+    let threads: Vec<usize> = (0..case.threads).filter(|&thread| !case.chains[thread].is_empty()).collect();
+    let inputs = case.inputs().len();
+    let values: &[u16] = if inputs == 0 { &[0] } else { &[0, 1] };
+    let mut schedules = Vec::new();
+    for order in orders(&threads) {
+        let mut lengths = vec![0; case.switches + 1];
+        let mut block = 0;
+        let fits = order.iter().all(|&thread| {
+            let next = (block..=case.switches).find(|&block| case.thread_of_block(block) == thread);
+            next.is_some_and(|next| {
+                lengths[next] = case.chains[thread].len() as u16;
+                block = next + 1;
+                true
+            })
+        });
+        if fits {
+            schedules.extend(values.iter().map(|&value| [lengths.clone(), vec![value; inputs]].concat()));
+        }
+    }
+    schedules
+}
+
+fn orders(threads: &[usize]) -> Vec<Vec<usize>> {
+    if threads.is_empty() {
+        return vec![Vec::new()];
+    }
+    let first = |&thread: &usize| {
+        let rest: Vec<usize> = threads.iter().copied().filter(|&other| other != thread).collect();
+        orders(&rest).into_iter().map(move |order| [vec![thread], order].concat())
+    };
+    threads.iter().flat_map(first).collect()
+}

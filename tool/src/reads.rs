@@ -1,0 +1,109 @@
+//! What a line reads of an assignment, for display: each number with where it comes from.
+
+use crate::case::{Case, Kind, Record, CONSTANT};
+use crate::words::{item_name, Name};
+
+/// A number, and where it comes from.
+pub struct Read {
+    pub value: u16,
+    pub words: String,
+}
+
+pub struct Reads<'a> {
+    pub case: &'a Case,
+    pub assignment: &'a [u16],
+}
+
+impl<'a> Reads<'a> {
+    /// Whether the guard is true, and why; no reason where it always is.
+    pub fn guard(&self, record: &Record, copy: u16) -> (bool, Option<String>) {
+        let (Some(local), Some(words)) = (record.guard_local(), record.guard_words()) else {
+            return (true, None);
+        };
+        let local = self.local(local, copy);
+        let guard = record.guard_is_true(local.value);
+        (guard, Some(format!("the guard {words} is {guard} with {}", local.words)))
+    }
+
+    pub fn expression(&self, record: &Record, a_copy: u16, b_copy: u16) -> Read {
+        let mut reads = Vec::new();
+        let mut operand = |operand: u16, copy: u16| match operand {
+            CONSTANT => record.c,
+            local => {
+                let Read { value, words } = self.local(local, copy);
+                reads.push(words);
+                value
+            }
+        };
+        let a = operand(record.a, a_copy);
+        let b = if record.has_b() { operand(record.b, b_copy) } else { 0 };
+        reads.dedup();
+        let value = record.expression(a, b);
+        let formula = match record.kind {
+            Kind::Assert | Kind::Assume => format!("{} is {value}", record.expression_words()),
+            _ => record.expression_words(),
+        };
+        let words = match (record.op, reads.as_slice()) {
+            (0, []) => format!("the constant {value}"),
+            (0, [read, ..]) => read.clone(),
+            (_, []) => formula,
+            (_, reads) => format!("{formula} with {}", reads.join(" and ")),
+        };
+        Read { value, words }
+    }
+
+    /// A local by its copy.
+    pub fn local(&self, local: u16, copy: u16) -> Read {
+        let name = Name::Local(local);
+        match copy {
+            0 => Read { value: 0, words: format!("{name} = 0 at the start") },
+            copy => Read { value: self.value(copy), words: format!("{name} = {} by record {copy}", self.value(copy)) },
+        }
+    }
+
+    /// The item as this line reads it.
+    pub fn item(&self, item: usize, line: u16, copy: u16) -> Read {
+        let block = self.block(line);
+        if copy == 0 || self.block(copy) != block {
+            return self.before(block, item);
+        }
+        let value = self.value(copy);
+        Read { value, words: format!("{} = {value} by record {copy} in the same block", item_name(self.case, item)) }
+    }
+
+    pub fn mutex(&self, record: &Record, copy: u16) -> Read {
+        self.item(self.case.globals + usize::from(record.target), record.number, copy)
+    }
+
+    /// The item's value where a block begins.
+    pub fn before(&self, block: u16, item: usize) -> Read {
+        let name = item_name(self.case, item);
+        match usize::from(block).checked_sub(1) {
+            None => {
+                let value = self.case.items_at_start().get(item).copied().unwrap_or_default();
+                Read { value, words: format!("{name} = {value} at the start") }
+            }
+            Some(earlier) => {
+                let value = self.number(self.case.block_value(earlier, item));
+                Read { value, words: format!("{name} = {value} at the end of block {earlier}") }
+            }
+        }
+    }
+
+    pub fn record(&self, number: u16) -> Option<&'a Record> {
+        self.case.records.get(usize::from(number).checked_sub(1)?)
+    }
+
+    pub fn block(&self, record: u16) -> u16 {
+        self.number(2 * usize::from(record.saturating_sub(1)))
+    }
+
+    pub fn value(&self, record: u16) -> u16 {
+        self.number(2 * usize::from(record.saturating_sub(1)) + 1)
+    }
+
+    /// A number that the assignment does not have is 0.
+    pub fn number(&self, variable: usize) -> u16 {
+        self.assignment.get(variable).copied().unwrap_or_default()
+    }
+}

@@ -1,0 +1,180 @@
+//! `solve` on several cases: each one's line is printed when it is known, and in the end a table in the order of the cases.
+
+use crate::failure::{note, Failure, Status};
+use crate::input::Source;
+use crate::name::shown;
+use crate::objects;
+use crate::output::Output;
+use crate::progress::Progress;
+use crate::solve::{Asking, Wanted, ANSWERS};
+use crate::summary::Summary;
+use crate::words::count;
+use std::collections::HashMap;
+use std::ffi::{OsStr, OsString};
+use std::path::PathBuf;
+use std::sync::atomic::{AtomicUsize, Ordering};
+use std::sync::mpsc::{self, Receiver};
+use std::sync::Arc;
+use std::thread;
+
+/// Whether these are several cases: a folder is, whatever it holds.
+pub fn is_several(cases: &[Source]) -> bool {
+    cases.len() > 1 || cases.iter().any(Source::is_folder)
+}
+
+pub fn all(wanted: Wanted, output: &mut Output) -> Result<Status, Failure> {
+    let asking = wanted.settings.asking(true)?;
+    let cases = expanded(&wanted.cases)?;
+    ready(&wanted, &cases)?;
+    let (wanted, cases) = (Arc::new(wanted), Arc::new(cases));
+    let names: Vec<String> = cases.iter().map(Source::name).collect();
+    let columns = Columns { name: names.iter().map(|name| name.chars().count()).max().unwrap_or(0).max(4) };
+    if !wanted.json {
+        output.say(&columns.head())?;
+    }
+    let mut progress = Progress::new(cases.len());
+    let mut summaries: Vec<Option<Summary>> = vec![None; cases.len()];
+    let mut in_order = true;
+    // Threads of their own, so that an output that fails ends the command at once, and the guard what they started.
+    for (index, summary) in begin(&wanted, &cases, &asking) {
+        let Some(summary) = summary else {
+            progress.at_work_on(&names[index]);
+            continue;
+        };
+        progress.clear();
+        output.say(&match wanted.json {
+            true => format!("{}\n", summary.json),
+            false => columns.line(&summary),
+        })?;
+        in_order = in_order && summaries[..index].iter().all(Option::is_some);
+        summaries[index] = Some(summary);
+        progress.done_with(&names[index]);
+    }
+    progress.clear();
+    let summaries: Vec<Summary> = summaries.into_iter().flatten().collect();
+    if summaries.len() < cases.len() {
+        return Err(Failure::Other("some cases were given up: this command is wrong".to_string()));
+    }
+    let status = status(&summaries, wanted.strict);
+    output.say(&match (wanted.json, in_order) {
+        (true, _) => format!("{}\n", objects::summary(&summaries, status)),
+        (false, true) => counts(&summaries),
+        (false, false) => format!("\nin the order of the cases:\n{}{}", columns.table(&summaries), counts(&summaries)),
+    })?;
+    tell_failures(&summaries);
+    match status {
+        0 => Ok(Status::Done),
+        1 => Ok(Status::Found),
+        status => Err(Failure::Told(status)),
+    }
+}
+
+/// The cases, with the files of a folder that end in .case in its place, by name.
+fn expanded(operands: &[Source]) -> Result<Vec<Source>, Failure> {
+    let mut cases = Vec::new();
+    for operand in operands {
+        match operand.is_folder() {
+            true => cases.extend(case_files(operand.path())?),
+            false => cases.push(operand.clone()),
+        }
+    }
+    Ok(cases)
+}
+
+fn case_files(folder: &OsStr) -> Result<Vec<Source>, Failure> {
+    let named = |error: std::io::Error| Failure::Other(format!("{}: {error}", shown(folder)));
+    let mut files: Vec<PathBuf> = Vec::new();
+    for entry in std::fs::read_dir(folder).map_err(named)? {
+        let path = entry.map_err(named)?.path();
+        if path.extension() == Some(OsStr::new("case")) {
+            files.push(path);
+        }
+    }
+    files.sort();
+    match files.is_empty() {
+        true => Err(Failure::Other(format!("{}: no file in it ends in .case", shown(folder)))),
+        false => Ok(files.iter().map(|file| Source::new(file.as_os_str())).collect()),
+    }
+}
+
+/// Before any solver is asked: that what is kept has a place, and no two cases the same.
+fn ready(wanted: &Wanted, cases: &[Source]) -> Result<(), Failure> {
+    let Some(keep) = &wanted.keep else {
+        return Ok(());
+    };
+    let mut stems: HashMap<OsString, &Source> = HashMap::new();
+    for case in cases {
+        if let Some(other) = stems.insert(case.stem(), case) {
+            let (one, other) = (other.name(), case.name());
+            return Err(Failure::Other(format!("{one} and {other} would be kept under the same name; keep them apart")));
+        }
+        keep.prepare(&case.stem())?;
+    }
+    Ok(())
+}
+
+/// Solves the cases, so many at a time. What comes is a case's number, first alone, where its turn begins, and then with what
+/// came of it.
+fn begin(wanted: &Arc<Wanted>, cases: &Arc<Vec<Source>>, asking: &Asking) -> Receiver<(usize, Option<Summary>)> {
+    let (sender, receiver) = mpsc::channel();
+    let next = Arc::new(AtomicUsize::new(0));
+    for _ in 0..wanted.jobs.min(cases.len()) {
+        let (wanted, cases, asking) = (wanted.clone(), cases.clone(), asking.clone());
+        let (sender, next) = (sender.clone(), next.clone());
+        thread::spawn(move || loop {
+            let index = next.fetch_add(1, Ordering::Relaxed);
+            let Some(case) = cases.get(index) else { return };
+            let told = sender.send((index, None));
+            if told.and_then(|()| sender.send((index, Some(Summary::of(case, &wanted, &asking))))).is_err() {
+                return;
+            }
+        });
+    }
+    receiver
+}
+
+/// A violation is not hidden behind anything; then what failed; then what was refused.
+fn status(summaries: &[Summary], strict: bool) -> i32 {
+    let has = |status: i32| summaries.iter().any(|summary| summary.status(strict) == status);
+    [Status::Found.number(), Failure::STATUS_OTHER, Failure::STATUS_REFUSED]
+        .into_iter()
+        .find(|&status| has(status))
+        .unwrap_or(0)
+}
+
+fn counts(summaries: &[Summary]) -> String {
+    let of = |word: &str| summaries.iter().filter(|summary| summary.word == word).count();
+    let counts: Vec<String> = ANSWERS.iter().map(|word| format!("{} {word}", of(word))).collect();
+    format!("{}: {}\n", count(summaries.len(), "case", "cases"), counts.join(", "))
+}
+
+/// The table has said what failed; the message says how many, and all of the first.
+fn tell_failures(summaries: &[Summary]) {
+    let mut failures = summaries.iter().filter_map(|summary| summary.message.as_ref());
+    if let Some(first) = failures.next() {
+        let counted = count(1 + failures.count(), "case was not solved", "cases were not solved");
+        note(&format!("{counted}; as: {first}"));
+    }
+}
+
+/// The columns of the table.
+struct Columns {
+    name: usize,
+}
+
+impl Columns {
+    fn head(&self) -> String {
+        format!("{:width$}  {:<8}  {:>12}  {:>8}  note\n", "case", "answer", "constraints", "seconds", width = self.name)
+    }
+
+    fn line(&self, summary: &Summary) -> String {
+        let Summary { name, word, size, seconds, note, resumed, .. } = summary;
+        let filed = if *resumed { "filed already; " } else { "" };
+        format!("{name:width$}  {word:<8}  {size:>12}  {seconds:>8.2}  {filed}{note}\n", width = self.name)
+    }
+
+    fn table(&self, summaries: &[Summary]) -> String {
+        let lines = summaries.iter().map(|summary| self.line(summary));
+        self.head() + &lines.collect::<String>()
+    }
+}

@@ -1,0 +1,91 @@
+//! What came of one case among several: a line of the table, an object, a status.
+
+use crate::calls::Loaded;
+use crate::failure::{Failure, Status};
+use crate::input::Source;
+use crate::objects;
+use crate::solve::{solve, Asking, Solved, Wanted};
+
+/// A case's answer, as it is printed and filed.
+#[derive(Clone, Debug)]
+pub struct Summary {
+    pub name: String,
+    /// One of `solve::ANSWERS`.
+    pub word: String,
+    /// Constraints over variables; nothing where the case is refused.
+    pub size: String,
+    pub seconds: f64,
+    pub note: String,
+    /// The exit status that the answer stands for, where nothing is strict.
+    pub status: i32,
+    /// Whether each assert is shown to be reached.
+    pub whole: bool,
+    pub json: String,
+    /// What failed, in full.
+    pub message: Option<String>,
+    /// Whether the answer was filed before.
+    pub resumed: bool,
+}
+
+impl Summary {
+    /// Solves the case of a file, files what came of it, and sums it up.
+    pub fn of(source: &Source, wanted: &Wanted, asking: &Asking) -> Summary {
+        answered(source, wanted, asking).unwrap_or_else(|failure| Summary::of_failure(source, &failure))
+    }
+
+    /// The exit status. Where it is strict, an unsat must be about every assert.
+    pub fn status(&self, strict: bool) -> i32 {
+        match self.status == Status::Done.number() && strict && !self.whole {
+            true => Status::Found.number(),
+            false => self.status,
+        }
+    }
+
+    pub fn of_solved(loaded: &Loaded, solved: &Solved, json: String) -> Summary {
+        let status = solved.status(false);
+        Summary {
+            name: loaded.name.clone(),
+            word: solved.word().to_string(),
+            size: format!("{} over {}", loaded.table.rows.len(), loaded.table.variables),
+            seconds: solved.seconds,
+            note: solved.note(loaded),
+            status,
+            whole: solved.reach.is_whole(),
+            json,
+            message: (status == Failure::STATUS_OTHER).then(|| format!("{}: {}", loaded.name, solved.verdict.trouble())),
+            resumed: false,
+        }
+    }
+
+    fn of_failure(source: &Source, failure: &Failure) -> Summary {
+        let message = failure.message().unwrap_or_default();
+        let first = message.lines().next().unwrap_or_default();
+        let note = first.strip_prefix(&format!("{}: ", source.name())).unwrap_or(first);
+        let refused = failure.status() == Failure::STATUS_REFUSED;
+        Summary {
+            name: source.name(),
+            word: if refused { "refused" } else { "failed" }.to_string(),
+            size: String::new(),
+            seconds: 0.0,
+            note: note.to_string(),
+            status: failure.status(),
+            whole: false,
+            json: objects::failed("solve", &source.name(), &source.name(), failure).to_string(),
+            message: Some(message.to_string()),
+            resumed: false,
+        }
+    }
+}
+
+fn answered(source: &Source, wanted: &Wanted, asking: &Asking) -> Result<Summary, Failure> {
+    let loaded = Loaded::from(source)?;
+    if let Some(filed) = wanted.keep.as_ref().map(|keep| keep.filed(&loaded)).transpose()?.flatten() {
+        return Ok(filed);
+    }
+    let solved = solve(&loaded, asking, &mut |_| {})?;
+    let summary = Summary::of_solved(&loaded, &solved, objects::solved(&loaded, asking, &solved, wanted.strict).to_string());
+    if let Some(keep) = &wanted.keep {
+        keep.keep(&loaded, &solved, &summary)?;
+    }
+    Ok(summary)
+}

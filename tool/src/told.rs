@@ -1,0 +1,142 @@
+//! `solve CASE` in words: what the solvers say, what the library makes of it, what it means, and which asserts it is about.
+
+use crate::calls::Loaded;
+use crate::failure::{Failure, Status};
+use crate::input::Source;
+use crate::name::shown;
+use crate::objects;
+use crate::output::Output;
+use crate::reach::{Reach, Reached};
+use crate::solve::{solve, Asking, Found, Solved, Verdict, Wanted};
+use crate::summary::Summary;
+use crate::words::{all, count, numbers_in_lines, record_in_words, these};
+use std::ffi::OsStr;
+
+/// `solve CASE`.
+pub fn one(source: &Source, wanted: &Wanted, output: &mut Output) -> Result<Status, Failure> {
+    let asking = wanted.settings.asking(false)?;
+    let loaded = Loaded::from(source)?;
+    if let Some(keep) = &wanted.keep {
+        keep.prepare(&loaded.stem)?;
+        if let Some(filed) = keep.filed(&loaded)? {
+            return resumed(&filed, &keep.folder, wanted, output);
+        }
+    }
+    if !wanted.json {
+        let constraints = count(loaded.table.rows.len(), "constraint", "constraints");
+        let variables = count(loaded.table.variables, "variable", "variables");
+        output.say(&format!("{}: {constraints} over {variables}\n", loaded.name))?;
+    }
+    let mut said = Ok(());
+    let solved = solve(&loaded, &asking, &mut |verdict| {
+        if !wanted.json {
+            said = output.say(&answer(&loaded, &asking, verdict));
+        }
+    })?;
+    said?;
+    let object = objects::solved(&loaded, &asking, &solved, wanted.strict).to_string();
+    output.say(&match wanted.json {
+        true => format!("{object}\n"),
+        false => format!("{}{}", asserts(&loaded, &solved.reach), warning(&solved)),
+    })?;
+    if let Some(keep) = &wanted.keep {
+        keep.keep(&loaded, &solved, &Summary::of_solved(&loaded, &solved, object))?;
+    }
+    ending(solved.status(wanted.strict), solved.verdict.trouble())
+}
+
+/// An answer that was filed before.
+fn resumed(filed: &Summary, folder: &OsStr, wanted: &Wanted, output: &mut Output) -> Result<Status, Failure> {
+    output.say(&match wanted.json {
+        true => format!("{}\n", filed.json),
+        false => format!("{}: filed in {} already: {}: {}\n", filed.name, shown(folder), filed.word, filed.note),
+    })?;
+    ending(filed.status(wanted.strict), &filed.note)
+}
+
+fn ending(status: i32, trouble: &str) -> Result<Status, Failure> {
+    match status {
+        0 => Ok(Status::Done),
+        1 => Ok(Status::Found),
+        _ => Err(Failure::Other(trouble.to_string())),
+    }
+}
+
+/// What the solvers say, and what the library makes of it. Where there is no answer, the failure says why.
+pub fn answer(loaded: &Loaded, asking: &Asking, verdict: &Verdict) -> String {
+    match verdict {
+        Verdict::Violated(found) => violated(loaded, found),
+        Verdict::Unsat => unsat(loaded, asking),
+        Verdict::Unknown(_) | Verdict::Timeout(_) | Verdict::Disagree(_) | Verdict::Failed(_) => String::new(),
+    }
+}
+
+fn violated(loaded: &Loaded, found: &Found) -> String {
+    let Found { solver, assignment, schedule, run } = found;
+    format!(
+        "{solver} says sat. Its assignment:\n{}checked: it meets {}\ndecoded: schedule {}\n{}",
+        numbers_in_lines(assignment),
+        all(loaded.table.rows.len(), "constraint", "constraints"),
+        numbers_in_lines(schedule),
+        run.text(&loaded.case, schedule)
+    )
+}
+
+/// What unsat means, and what it does not.
+fn unsat(loaded: &Loaded, asking: &Asking) -> String {
+    let constraints = these(loaded.table.rows.len(), "constraint", "constraints");
+    let switches = loaded.case.switches;
+    let bound = if switches == 1 { "switch" } else { "switches" };
+    let threads = loaded.case.threads;
+    let names = asking.names();
+    let (say, word) = match asking.solvers.len() {
+        1 => ("says", format!("{names}'s own")),
+        _ => ("say", format!("that of {names}")),
+    };
+    format!(
+        "{names} {say} unsat: nothing meets {constraints}.\n\
+         It means: no complete legal run breaks an assertion within n = {switches} {bound}, in round robin: block i\n\
+         (0 to {switches}) belongs to thread i modulo {threads}, and a thread that runs no line still uses its turn. A run is\n\
+         complete and legal when every thread ran all its lines, every assume held and every lock was free.\n\
+         It does not mean: that no assertion breaks with more switches or in another order of threads; that an\n\
+         assert was checked which no such run reaches (see below); that the case says what the controller does.\n\
+         The word unsat is {word}: that the constraints say this is proved, that nothing meets them is\n\
+         not checked here.\n"
+    )
+}
+
+/// For each assert whether it is reached.
+pub fn asserts(loaded: &Loaded, reach: &Reach) -> String {
+    let n = loaded.case.switches;
+    let mut text = String::from("asserts:\n");
+    for (record, reached) in &reach.asserts {
+        let words = match reached {
+            Reached::Yes(schedule) => format!("reached, e.g. schedule {}", numbers_in_lines(schedule).replace('\n', " ")),
+            Reached::Never => format!("NEVER REACHED within n = {n}: nothing was checked of it"),
+            Reached::NotKnown(why) => {
+                format!("not known whether it is reached: {}", why.lines().next().unwrap_or_default())
+            }
+        };
+        text.push_str(&format!("  {}: {}\n", record_in_words(&loaded.case, *record), words.trim_end()));
+    }
+    if reach.asserts.is_empty() {
+        text.push_str("  none\n");
+    }
+    text
+}
+
+/// That an unsat says nothing, or not enough.
+pub fn warning(solved: &Solved) -> String {
+    match (&solved.verdict, solved.reach.note()) {
+        (Verdict::Unsat, Some(_)) if solved.reach.is_vacuous() => {
+            let why = match (&solved.reach.plain, solved.reach.asserts.len()) {
+                (Some(plain), _) => plain.clone(),
+                (None, 1) => "no complete legal run within the bound reaches the assert with a true guard".to_string(),
+                (None, _) => "no complete legal run within the bound reaches an assert with a true guard".to_string(),
+            };
+            format!("VACUOUS: this unsat says nothing about any assertion: {why}.\n")
+        }
+        (Verdict::Unsat, Some(note)) => format!("This unsat does not say something about every assert: {note}.\n"),
+        _ => String::new(),
+    }
+}
