@@ -168,8 +168,7 @@ impl Asked {
 
 /// What a reply comes to, with the way in which the program ended.
 fn answer(reply: &str, variables: usize, end: &End) -> Answer {
-    let (word, rest) = reply.trim_start().split_once('\n').unwrap_or((reply.trim(), ""));
-    let word = word.trim();
+    let (word, _) = word_and_rest(reply);
     if let End::Timeout = end {
         return Answer::Timeout;
     }
@@ -179,6 +178,18 @@ fn answer(reply: &str, variables: usize, end: &End) -> Answer {
             _ => format!("it printed '{}', but {problem}", shortened(word)),
         });
     }
+    read(reply, variables)
+}
+
+/// The first line, and what follows it.
+fn word_and_rest(reply: &str) -> (&str, &str) {
+    let (word, rest) = reply.trim_start().split_once('\n').unwrap_or((reply.trim(), ""));
+    (word.trim(), rest)
+}
+
+/// What the reply of a program that ended well comes to.
+pub fn read(reply: &str, variables: usize) -> Answer {
+    let (word, rest) = word_and_rest(reply);
     match word {
         "sat" if rest.trim().is_empty() => Answer::Sat(Vec::new()),
         "sat" => match model(rest, variables) {
