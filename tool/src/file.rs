@@ -13,7 +13,7 @@ use crate::sha256;
 use crate::solve::{solve, Asking, Settings};
 use crate::words::count;
 use std::ffi::{OsStr, OsString};
-use std::fs::{self, OpenOptions};
+use std::fs::{self, File, OpenOptions};
 use std::io::Write;
 use std::path::{Path, PathBuf};
 
@@ -119,7 +119,8 @@ impl Unfinished {
         if place.symlink_metadata().is_ok() {
             return Err(Failure::Other(format!("{} has come while solvers were asked", shown(place.as_os_str()))));
         }
-        fs::rename(&self.0, place).map_err(|error| failure(place, &error))
+        let synced = File::open(&self.0).and_then(|folder| folder.sync_all());
+        synced.and_then(|()| fs::rename(&self.0, place)).map_err(|error| failure(place, &error))
     }
 }
 

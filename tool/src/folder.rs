@@ -7,6 +7,7 @@ use crate::manifest::{Entry, Made, Manifest, Question};
 use crate::meaning;
 use crate::solve::{Solved, Verdict};
 use crate::solver::{Answer, Asked};
+use crate::words::enumeration;
 use crate::{filed, picture, readme, sha256, show, solver, told};
 
 /// The names of the files that were given. The texts name the case by it, so that they do not depend on where it was read.
@@ -27,7 +28,7 @@ pub struct Check<'a> {
 pub struct File {
     pub name: String,
     /// What it is, for a reader of the folder.
-    pub about: &'static str,
+    pub about: String,
     /// Whether it was given, by a user or a solver, and does not follow from the others.
     pub given: bool,
     pub bytes: Vec<u8>,
@@ -46,22 +47,24 @@ impl Folder {
         let manifest = Manifest { made: (*made).clone(), answer, ..Manifest::default() };
         let mut folder = Folder { files: Vec::new(), manifest };
         folder.case(check)?;
-        folder.question(CONSTRAINTS, "reply", &solved.text, &solved.asked);
+        folder.add(CONSTRAINTS, "the constraints as text for solvers (SMT-LIB 2, logic QF_BV)", solved.text.clone());
+        folder.replies(CONSTRAINTS, "reply", &solved.asked);
         folder.run(loaded, &solved.verdict);
         let about = "for each assert, whether a complete legal run within the bound reaches it";
         folder.add("reached.txt", about, told::asserts(loaded, &solved.reach));
         for (question, number) in solved.reach.questions.iter().zip(1..) {
-            let name = format!("reached-{number}");
-            folder.question(&format!("{name}.smt2"), &format!("{name}-reply"), &question.text, &question.asked);
+            let (name, reply) = (format!("reached-{number}.smt2"), format!("reached-{number}-reply"));
+            let records = enumeration(&question.records);
+            let about = format!("whether an assert of record {records} is reached: these are made 0, other asserts 1");
+            folder.add(&name, &about, question.text.clone());
+            folder.replies(&name, &reply, &question.asked);
         }
         folder.add(
             "verdict.txt",
             "the answer in words, what it means and what it does not mean",
             meaning::text(loaded, solved),
         );
-        folder.add("README.txt", "this page", String::new());
-        let page = readme::text(&folder);
-        folder.files.last_mut().expect("the page was added").bytes = page.into_bytes();
+        folder.add(readme::NAME, readme::ABOUT, readme::text(&folder));
         folder.manifest.files = folder.files.iter().map(File::entry).collect();
         Ok(folder)
     }
@@ -78,20 +81,15 @@ impl Folder {
         Ok(())
     }
 
-    /// What solvers were asked, and what they replied.
-    fn question(&mut self, name: &str, reply: &str, text: &str, asked: &[Asked]) {
-        let about = match name {
-            CONSTRAINTS => "the constraints as text for solvers (SMT-LIB 2, logic QF_BV)",
-            _ => "a question to solvers, whether asserts are reached: their expressions are made 0, others 1",
-        };
-        self.add(name, about, text.to_string());
+    /// What solvers replied to a question.
+    fn replies(&mut self, question: &str, reply: &str, asked: &[Asked]) {
         for one in asked {
             let reply = match asked.len() {
                 1 => format!("{reply}.txt"),
                 _ => format!("{reply}-{}.txt", one.solver),
             };
-            self.give(&reply, "what the solver printed", one.reply.clone().into_bytes());
-            self.manifest.asked.push(Question { text: name.to_string(), reply, answer: answer_in_words(&one.answer) });
+            self.give(&reply, &format!("what {} printed", one.solver), one.reply.clone().into_bytes());
+            self.manifest.asked.push(Question { text: question.to_string(), reply, answer: answer_in_words(&one.answer) });
         }
     }
 
@@ -108,12 +106,12 @@ impl Folder {
         self.add("picture.svg", "that run, drawn", picture::svg(&loaded.case, "case", &found.run));
     }
 
-    fn give(&mut self, name: &str, about: &'static str, bytes: Vec<u8>) {
-        self.files.push(File { name: name.to_string(), about, given: true, bytes });
+    fn give(&mut self, name: &str, about: &str, bytes: Vec<u8>) {
+        self.files.push(File { name: name.to_string(), about: about.to_string(), given: true, bytes });
     }
 
-    fn add(&mut self, name: &str, about: &'static str, text: String) {
-        self.files.push(File { name: name.to_string(), about, given: false, bytes: text.into_bytes() });
+    fn add(&mut self, name: &str, about: &str, text: String) {
+        self.files.push(File { name: name.to_string(), about: about.to_string(), given: false, bytes: text.into_bytes() });
     }
 }
 

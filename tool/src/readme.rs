@@ -1,7 +1,10 @@
 //! The page of a filed folder, for a reader who has none of our programs.
 
 use crate::folder::{File, Folder};
-use crate::manifest::{Made, Program, NAME};
+use crate::manifest::{self, Made, Program};
+
+pub const NAME: &str = "README.txt";
+pub const ABOUT: &str = "this page";
 
 /// How cases, runs and constraints are laid out, as document 01 says it.
 const LAYOUT: &str = include_str!("layout.txt");
@@ -42,6 +45,7 @@ says unsat; the texts and the picture; that the case says what its source, or th
 run in another order of threads, or with more switches, is outside of all this.
 ";
 
+/// The page, from the files that stand before it and the head of the list.
 pub fn text(folder: &Folder) -> String {
     let made = &folder.manifest.made;
     let sections = [
@@ -58,9 +62,9 @@ pub fn text(folder: &Folder) -> String {
 }
 
 fn files(folder: &Folder) -> String {
-    let list = (NAME, "what this was made with, what was asked, and the SHA-256 of each other file");
-    let others = folder.files.iter().map(|file| (file.name.as_str(), file.about));
-    let all: Vec<(&str, &str)> = std::iter::once(list).chain(others).collect();
+    let list = (manifest::NAME, "what this was made with, what was asked, and the SHA-256 of each other file");
+    let others = folder.files.iter().map(|file| (file.name.as_str(), file.about.as_str()));
+    let all: Vec<(&str, &str)> = [list].into_iter().chain(others).chain([(NAME, ABOUT)]).collect();
     let width = all.iter().map(|(name, _)| name.len()).max().unwrap_or(0);
     all.iter().map(|(name, about)| format!("{name:width$}  {about}\n")).collect()
 }

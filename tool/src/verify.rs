@@ -99,14 +99,11 @@ pub fn findings(kept: &Kept, recomputed: Result<&Folder, &str>) -> Vec<Finding> 
         let state = one(kept, &entry.name, &entry.hash, recomputed);
         findings.push(state);
     }
-    if let Ok(folder) = recomputed {
-        let unlisted = folder.files.iter().filter(|file| !kept.manifest.has(&file.name));
-        for file in unlisted.filter(|file| !kept.others.contains(&file.name)) {
-            findings.push(finding(
-                &file.name,
-                State::Missing,
-                "it belongs to this check, and is neither there nor in the list",
-            ));
+    // Without a case nothing follows, so it is missed by itself.
+    let names = recomputed.map_or(vec![CASE], |folder| folder.files.iter().map(|file| file.name.as_str()).collect());
+    for name in names {
+        if !kept.manifest.has(name) && !kept.others.iter().any(|other| other == name) {
+            findings.push(finding(name, State::Missing, "it belongs to this check, and is neither there nor in the list"));
         }
     }
     findings.extend(kept.others.iter().map(|name| finding(name, State::NotListed, "it is in the folder, and not in the list")));
