@@ -1,7 +1,7 @@
 #!/usr/bin/env bash
 # Tests the bindings: from C, every call that bindings/menduvo.h declares on the static library; and over a library that lies, that
-# the Rust package tells numbers that stand for no answer, the command a reply or items that its own walk does not find, and the
-# comparison with plain Rust other answers.
+# the Rust package tells numbers that stand for no answer, the command a reply, items or a failing constraint that its own display
+# does not find, and the comparison with plain Rust other answers.
 set -u
 cd -- "$(dirname -- "${BASH_SOURCE[0]}")/.." || exit
 . tests/counting.sh || exit
@@ -54,6 +54,9 @@ lies clean 'disagrees with the proved library' replay cases/case-a.case cases/ca
 lies record 'disagrees with the proved library' replay cases/case-a.case cases/case-a.schedule
 lies items 'disagrees with the proved library' picture cases/case-a.case cases/case-a.schedule -o "$scratch/none.svg"
 result 'no picture is left' test ! -e "$scratch/none.svg"
+lies fails 'display of a constraint disagrees with the proved library' check cases/case-a.case cases/case-a.assignment
+lies fails 'display of a constraint disagrees with the proved library' decode cases/case-a.case cases/case-a.assignment
+lies row 'display of a constraint disagrees with the proved library' check cases/case-a.case cases/case-a.assignment
 lies answer 'numbers that stand for no answer' replay cases/case-a.case cases/case-a.schedule
 lies 'fails 0' 'numbers that stand for no answer' check cases/case-a.case cases/case-a.assignment
 lies 'refusal 16' 'numbers that stand for no answer' decode cases/case-a.case cases/case-a.assignment

@@ -1,7 +1,6 @@
 #!/usr/bin/env bash
 # Tests the command menduvo as a user meets it: what it prints (compared with tests/command/*.expected), its exit statuses,
-# damaged files, solvers that are missing or talk nonsense, and outputs that fail. With --store it writes the expected
-# texts anew.
+# damaged files, and outputs that fail. With --store it writes the expected texts anew.
 set -u
 cd -- "$(dirname -- "${BASH_SOURCE[0]}")/.." || exit
 . tests/counting.sh || exit
@@ -12,19 +11,6 @@ store=no
 [ "${1:-}" != --store ] || store=yes
 menduvo=$PWD/bin/menduvo
 seen=$PATH # the PATH that the command sees
-
-# fake NAME BODY: a program in the scratch folder's fakes, which come first in PATH.
-fake() {
-    mkdir -p "$scratch/fakes"
-    printf '#!%s\n%s\n' "$BASH" "$2" >"$scratch/fakes/$1" && chmod +x "$scratch/fakes/$1"
-}
-
-# bare TOOL..: make a folder for PATH with these tools alone, and those that every run needs.
-bare() {
-    local tool
-    rm -rf "$scratch/bare" && mkdir "$scratch/bare"
-    for tool in bash timeout readlink find cat "$@"; do ln -s "$(type -P "$tool")" "$scratch/bare/$tool"; done
-}
 
 calling() {
     says 'the command is built' 0 'menduvo 0.' "$menduvo" --version
@@ -40,7 +26,13 @@ calling() {
     says 'an unknown option' 3 "there is no option '--fast'" "$menduvo" list --fast cases/case-a.case
     says 'an option of another command' 3 "there is no option '-o'" "$menduvo" show cases/case-a.case -o x
     says 'an operand is missing' 3 'ASSIGNMENT is missing' "$menduvo" check cases/case-a.case
-    says 'an operand too many' 3 "'x' is too much" "$menduvo" list cases/case-a.case x
+    says 'an operand too many' 3 "'x' is too much" "$menduvo" decode cases/case-a.case cases/case-a.assignment x
+    says 'an option twice' 3 '--solver is given twice' "$menduvo" solve cases/case-a.case --solver z3 --solver=z3
+    says 'a value for an option that has none' 3 '--json takes no value' "$menduvo" list cases/case-a.case --json=yes
+    says 'no seconds' 3 '--timeout needs seconds' "$menduvo" solve cases/case-a.case --timeout -1
+    says 'no number of jobs' 3 '--jobs needs a number' "$menduvo" solve cases --jobs 0
+    says 'two ways to name a solver' 3 'exclude each other' "$menduvo" solve cases --solver z3 --solver-command z3
+    says 'a solver without a name' 3 'names no program' "$menduvo" solve cases --solver-command ' '
     says 'a value is missing' 3 '--solver needs a value' "$menduvo" solve cases/case-a.case --solver
     says 'an unknown solver' 3 "'yices' is not a solver" "$menduvo" solve cases/case-a.case --solver yices
     says 'picture without -o' 3 '-o FILE.svg is missing' "$menduvo" picture cases/case-a.case cases/case-a.schedule
@@ -80,6 +72,12 @@ reading() {
     same picture-lock-order 0 "$menduvo" picture cases/lock-order.case cases/lock-order.schedule -o -
     says 'picture to a file' 0 'violated' "$menduvo" picture cases/case-a.case cases/case-a.schedule -o "$scratch/a.svg"
     result 'the file has the picture' cmp -s "$scratch/a.svg" tests/command/picture-case-a.expected
+    says 'a picture replaces no file' 3 'a.svg is there already; --force replaces it' \
+        "$menduvo" picture cases/lock-order.case cases/lock-order.schedule -o "$scratch/a.svg"
+    result 'the picture is still there' cmp -s "$scratch/a.svg" tests/command/picture-case-a.expected
+    says 'a picture replaces a file' 0 'cut off' \
+        "$menduvo" picture cases/lock-order.case cases/lock-order.schedule -o "$scratch/a.svg" --force
+    result 'the picture is replaced' cmp -s "$scratch/a.svg" tests/command/picture-lock-order.expected
     says 'picture to a place that is not there' 3 'a.svg: ' \
         "$menduvo" picture cases/case-a.case cases/case-a.schedule -o "$scratch/none/a.svg"
 }
@@ -151,76 +149,6 @@ refusals() {
     says 'numbers that never end' 2 'over 1048576 bytes' bash -c "yes 1 | $menduvo check cases/case-a.case -"
 }
 
-# A solver's model of case A, as get-value gives it.
-model='((v0 #x0000) (v1 #x0000) (v2 #x0000) (v3 #x0001) (v4 #x0002) (v5 #x0005)
- (v6 #x0002) (v7 #x0000) (v8 #x0001) (v9 #x0005) (v10 #x0001) (v11 #x0005))'
-
-fake_solvers() {
-    local seen=$scratch/fakes:$seen
-    fake z3 "cat >/dev/null; echo sat; echo '$model'"
-    same solve-sat 1 "$menduvo" solve cases/case-a.case
-    fake z3 'cat >/dev/null; echo unsat; echo "(error no model)"; exit 1'
-    same solve-unsat 0 "$menduvo" solve cases/interlock.case
-    fake z3 "cat >/dev/null; echo sat; echo '${model/v3 #x0001/v3 #x0002}'"
-    same solve-wrong-model 3 "$menduvo" solve cases/case-a.case
-    local body words
-    while IFS='|' read -r body words; do
-        fake z3 "$body"
-        says "a solver that does '$body'" 3 "z3 $words" "$menduvo" solve cases/case-a.case --solver z3
-    done <<'FAKES'
-cat >/dev/null; echo hello world|gave no answer that can be read: it printed 'hello world'
-exit 0|gave no answer that can be read: it printed nothing
-kill -9 $$|gave no answer that can be read: it printed nothing
-echo sat|gave no answer that can be read: no value of v0
-echo sat; echo '((v0 #x0000)'|gave no answer that can be read: a parenthesis is not closed
-echo sat; echo '(error "line 3: oops")'|gave no answer that can be read: the solver reports an error
-printf '\377\376\033[2J\n'|gave no answer that can be read: it printed
-yes|gave no answer that can be read: it printed 'y'
-yes sat|gave no answer that can be read: no value of v0
-echo unknown|says unknown
-FAKES
-    mkdir -p "$scratch/folder" && cp cases/case-a.case cases/interlock.case "$scratch/folder"
-    fake z3 "if grep -q '18 constraints'; then echo sat; echo '$model'; else echo unsat; fi"
-    run "$menduvo" solve "$scratch/folder"
-    sed -i 's/ [0-9]\.[0-9][0-9] / -.-- /' "$scratch/out"
-    matches solve-folder 1
-    head -c 40 cases/case-a.case >"$scratch/folder/damaged.case"
-    run "$menduvo" solve "$scratch/folder"
-    sed -i 's/ [0-9]\.[0-9][0-9] / -.-- /' "$scratch/out"
-    matches solve-folder-damaged 2
-    mkdir -p "$scratch/hollow"
-    says 'a folder without cases' 3 'no file in it ends in .case' "$menduvo" solve "$scratch/hollow"
-    bare
-    seen=$scratch/bare
-    says 'no solver' 3 'no solver is installed' "$menduvo" solve cases/case-a.case
-    says 'no z3' 3 'the solver z3 is not installed' "$menduvo" solve cases/case-a.case --solver z3
-    says 'no cvc5' 3 'the solver cvc5 is not installed' "$menduvo" solve cases/case-a.case --solver cvc5
-    same demo 0 "$menduvo" demo
-}
-
-real_solvers() {
-    local solver
-    for solver in z3 cvc5; do
-        says "$solver, lost-update" 1 'violated: record 9' \
-            "$menduvo" solve cases/lost-update.case --solver "$solver" --keep "$scratch/kept"
-        says "$solver, what was kept is checked" 0 'meets' \
-            "$menduvo" check cases/lost-update.case "$scratch/kept/lost-update.assignment"
-        says "$solver, what was kept is replayed" 1 'violated: record 9' \
-            "$menduvo" replay cases/lost-update.case "$scratch/kept/lost-update.schedule"
-        says "$solver, its own reply is replayed" 1 'violated: record 9' \
-            "$menduvo" replay cases/lost-update.case "$scratch/kept/lost-update.reply"
-        sed 's/^(get-value.*/(get-model)/' "$scratch/kept/lost-update.smt2" >"$scratch/model.smt2"
-        "$solver" "$scratch/model.smt2" >"$scratch/whole.model"
-        says "$solver, its reply to get-model is replayed" 1 'violated: record 9' \
-            "$menduvo" replay cases/lost-update.case "$scratch/whole.model"
-        says "$solver, interlock" 0 "$solver says unsat" "$menduvo" solve cases/interlock.case --solver "$solver"
-        says "$solver, all cases" 1 '6 cases: 3 violated, 3 unsat, 0 refused, 0 failed' \
-            "$menduvo" solve cases --solver "$solver"
-        says "$solver, one constraint that nothing meets" 0 "unsat" "$menduvo" solve "$scratch/empty.case" --solver "$solver"
-    done
-    says 'demo with a solver' 0 'z3 looks for itself' "$menduvo" demo
-}
-
 outputs() {
     run bash -c "$menduvo list cases/case-a.case >&-"
     result 'standard output is closed' eval '[ "$status" = 3 ] && [[ $out = *"standard output is closed"* ]]'
@@ -234,48 +162,9 @@ outputs() {
     result 'standard error is closed' test "$status" = 3
 }
 
-# The script bin/menduvo in a scratch repository, where rt and cargo are fakes that note their calls.
-building() {
-    local repo=$scratch/repo seen=$scratch/bare
-    unset MENDUVO_LIB_DIR
-    bare mkdir touch mv chmod
-    mkdir -p "$repo"/{bin,crates,tool,bindings,cases} && cp bin/menduvo "$repo/bin/" && touch "$repo"/crates.txt
-    touch "$repo"/cases/lost-update.{case,assignment}
-    fake rt 'echo rt >>calls; mkdir -p target/staticlib; touch target/staticlib/libmenduvo.a; [ ! -e broken ]'
-    fake cargo 'cd "${0%/fakes/*}/repo"; echo cargo >>calls; mkdir -p target/menduvo/release
-        printf "#!%s\necho it runs\n" "$BASH" >target/menduvo/release/menduvo; chmod +x target/menduvo/release/menduvo'
-    says 'rt is missing' 3 'rt is not installed' "$repo/bin/menduvo"
-    mv "$scratch/fakes/rt" "$scratch/bare/"
-    says 'cargo is missing' 3 'cargo is not installed' "$repo/bin/menduvo"
-    seen+=:$scratch/fakes
-    : >"$repo/calls"
-    says 'it builds the command' 0 'it runs' "$repo/bin/menduvo"
-    result 'the library is built once' test "$(<"$repo/calls")" = cargo
-    run "$repo/bin/menduvo"
-    result 'nothing to do, nothing said' eval '[ "$out" = "it runs" ] && [ "$(<"$repo/calls")" = cargo ]'
-    sleep 0.02
-    : >"$repo/calls" && : >"$repo/tool/new.rs"
-    run "$repo/bin/menduvo"
-    result 'the command changed' test "$(<"$repo/calls")" = cargo
-    sleep 0.02
-    : >"$repo/calls" && : >"$repo/crates/new.rt"
-    run "$repo/bin/menduvo"
-    result 'the library changed' test "$(<"$repo/calls")" = $'rt\ncargo'
-    : >"$repo/calls" && rm -r "$repo/target"
-    run "$repo/bin/menduvo"
-    result 'target/ is gone' test "$(<"$repo/calls")" = $'rt\ncargo'
-    sleep 0.02
-    : >"$repo/broken" && : >"$repo/crates/newer.rt"
-    says 'a proof fails' 3 'rt staticlib menduvo failed' "$repo/bin/menduvo"
-    says 'it is not forgotten' 3 'rt staticlib menduvo failed' "$repo/bin/menduvo"
-}
-
 calling
 reading
 numbers
 refusals
-fake_solvers
-real_solvers
 outputs
-building
 finish

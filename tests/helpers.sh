@@ -34,6 +34,19 @@ says() {
     result "$name" eval '[ "$status" = '"$wanted"' ] && [[ $out = *"$text"* ]]'
 }
 
+# fake NAME BODY: a program in the scratch folder's fakes. They come first in PATH where $seen begins with $scratch/fakes.
+fake() {
+    mkdir -p "$scratch/fakes"
+    printf '#!%s\n%s\n' "$BASH" "$2" >"$scratch/fakes/$1" && chmod +x "$scratch/fakes/$1"
+}
+
+# bare TOOL..: make a folder for PATH with these tools alone, and those that every run needs.
+bare() {
+    local tool
+    rm -rf "$scratch/bare" && mkdir "$scratch/bare"
+    for tool in bash timeout readlink find cat "$@"; do ln -s "$(type -P "$tool")" "$scratch/bare/$tool"; done
+}
+
 # fields NUMBER..: the numbers as fields of a case, 16 bits each, low byte first.
 fields() {
     local number bytes all=

@@ -54,7 +54,7 @@ fn tell(sign: char, group: u32) -> io::Result<()> {
 
 /// In a group of its own, so that an interrupt from the keyboard does not reach it.
 fn start() -> io::Result<Option<ChildStdin>> {
-    let mut shell = Command::new("sh");
+    let mut shell = Command::new("/bin/sh");
     shell.args(["-c", SCRIPT]).process_group(0);
     let child = shell.stdin(Stdio::piped()).stdout(Stdio::null()).stderr(Stdio::null()).spawn()?;
     Ok(child.stdin)

@@ -22,12 +22,12 @@ const FORCE: Choice = Choice { name: "--force", value: "", does: "replace files 
 const SOLVER: Choice = Choice {
     name: "--solver",
     value: "z3|cvc5|both",
-    does: "the solver; without it z3, or cvc5 where z3 is not installed; both are asked and compared",
+    does: "the solver; without it z3, or cvc5 where z3 is not installed;\nboth: they are asked at once, and compared",
 };
 const SOLVER_COMMAND: Choice = Choice {
     name: "--solver-command",
     value: "'PROGRAM ARGS'",
-    does: "any other solver, which reads SMT-LIB text from its standard input; white space divides the arguments",
+    does: "any other solver, which reads SMT-LIB text from its standard input;\nwhite space divides the arguments",
 };
 const TIMEOUT: Choice = Choice {
     name: "--timeout",
@@ -103,13 +103,13 @@ pub const PAGES: [Page; 11] = [
             Choice {
                 name: "--resume",
                 value: "FOLDER",
-                does: "as --keep, and skip each case that has its answer there; a timeout is no answer",
+                does: "as --keep, and skip each case that has its answer there;\na timeout is no answer, and is asked again",
             },
             FORCE,
             Choice {
                 name: "--strict",
                 value: "",
-                does: "exit status 1 also where an unsat leaves an assert that is not shown to be reached",
+                does: "exit status 1 also where an unsat is vacuous, or leaves an assert\nthat is not shown to be reached",
             },
             JSON,
         ],

@@ -7,7 +7,7 @@ use crate::filed;
 use crate::name::shown;
 use crate::objects;
 use crate::sha256;
-use crate::solve::{Solved, Verdict};
+use crate::solve::{Solved, Verdict, ANSWERS};
 use crate::solver::Asked;
 use crate::summary::Summary;
 use crate::told;
@@ -160,7 +160,7 @@ fn read_back(text: &str, name: &str) -> Option<(String, Summary)> {
     let case = part("case")?;
     let summary = Summary {
         name: name.to_string(),
-        word: part("answer")?,
+        word: part("answer").filter(|word| ANSWERS.contains(&word.as_str()))?,
         size: part("size")?,
         seconds: part("seconds")?.parse().ok()?,
         status: part("status")?.parse().ok()?,

@@ -150,7 +150,8 @@ impl Rows<'_> {
             Kind::Unlock => Read { value: 0, words: "an unlock gives 0".to_string() },
             Kind::Assert | Kind::Assume => {
                 let Read { value, words } = self.reads.expression(record, a_copy, b_copy);
-                Read { value: u16::from(value != 0), words }
+                let not_zero = if value > 1 { ", which is not 0" } else { "" };
+                Read { value: u16::from(value != 0), words: words + not_zero }
             }
             _ => self.reads.expression(record, a_copy, b_copy),
         })

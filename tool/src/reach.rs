@@ -161,8 +161,9 @@ impl Reach {
         match (&self.plain, never.as_slice(), open.as_slice()) {
             (Some(plain), ..) => Some(format!("nothing was checked: {plain}")),
             (None, [], []) => None,
+            (None, [_], []) if self.asserts.len() == 1 => Some("nothing was checked: its assert is never reached".to_string()),
             (None, never, []) if never.len() == self.asserts.len() => {
-                Some(format!("nothing was checked: {many}, never reached"))
+                Some(format!("nothing was checked: none of its {many} is ever reached"))
             }
             (None, [], open) => Some(format!("of {many}, not known to be reached: record {}", enumeration(open))),
             (None, never, []) => Some(format!("of {many}, NEVER REACHED: record {}", enumeration(never))),

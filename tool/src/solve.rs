@@ -160,8 +160,8 @@ pub fn verdict(loaded: &Loaded, asked: &[Asked]) -> Verdict {
     }
     match (of(|answer| *answer == Answer::Timeout).as_slice(), of(|answer| *answer == Answer::Unknown).as_slice()) {
         ([], []) => Verdict::Unsat,
-        ([], unknown) => Verdict::Unknown(besides(format!("{} found no answer", enumeration(unknown)))),
-        (timeout, _) => Verdict::Timeout(besides(format!("the time of {} was up", enumeration(timeout)))),
+        ([], unknown) => Verdict::Unknown(besides(format!("{} gave up: the answer is unknown", enumeration(unknown)))),
+        (timeout, _) => Verdict::Timeout(besides(format!("{} gave no answer in time", enumeration(timeout)))),
     }
 }
 

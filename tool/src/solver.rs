@@ -130,7 +130,7 @@ impl Solver {
         let first = self.asked(text, variables, limit);
         match first.answer {
             Answer::Sat(ref values) if values.len() != variables => {
-                self.asked(&format!("{text}{}", smt::get_values(variables)), variables, limit).with_all_values(variables)
+                self.asked(&format!("{text}{}", smt::get_values(variables)), variables, limit).after_sat(variables)
             }
             _ => first,
         }
@@ -156,13 +156,15 @@ impl Solver {
 }
 
 impl Asked {
-    fn with_all_values(self, variables: usize) -> Asked {
-        match self.answer {
-            Answer::Sat(ref values) if values.len() != variables => {
-                Asked { answer: Answer::None("it says sat, and gives no model".to_string()), ..self }
-            }
-            _ => self,
-        }
+    /// The same where sat was said before, and a model was asked for.
+    fn after_sat(self, variables: usize) -> Asked {
+        let problem = match &self.answer {
+            Answer::Sat(values) if values.len() != variables => "it says sat, and gives no model",
+            Answer::Unsat => "it says sat, and then unsat where a model is asked for",
+            Answer::Unknown => "it says sat, and then unknown where a model is asked for",
+            _ => return self,
+        };
+        Asked { answer: Answer::None(problem.to_string()), ..self }
     }
 }
 

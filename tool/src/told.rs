@@ -98,8 +98,8 @@ fn unsat(loaded: &Loaded, solvers: &[&str]) -> String {
          It means: no complete legal run breaks an assertion within n = {switches} {bound}, in round robin: block i\n\
          (0 to {switches}) belongs to thread i modulo {threads}, and a thread that runs no line still uses its turn. A run is\n\
          complete and legal when every thread ran all its lines, every assume held and every lock was free.\n\
-         It does not mean: that no assertion breaks with more switches or in another order of threads; that an\n\
-         assert was checked which no such run reaches (see below); that the case says what the controller does.\n\
+         It does not mean: that no assertion breaks with more switches or in another order of threads; that\n\
+         anything was checked of an assert that no such run reaches; that the case says what the controller does.\n\
          The word unsat is {word}: that the constraints say this is proved, that nothing meets them is\n\
          not checked here.\n"
     )

@@ -1,0 +1,409 @@
+#!/usr/bin/env bash
+# Tests what the command makes of solvers, with fakes and with z3 and cvc5: answers that say nothing are told from others, solvers
+# that fail, hang, are killed or disagree give no answer, none outlives the command, and nothing that was kept is lost. With --store
+# it writes the expected texts anew.
+set -u
+cd -- "$(dirname -- "${BASH_SOURCE[0]}")/.." || exit
+. tests/counting.sh || exit
+. tests/helpers.sh || exit
+scratch=$(mktemp -d) || exit
+trap 'rm -rf -- "$scratch"' EXIT
+store=no
+[ "${1:-}" != --store ] || store=yes
+menduvo=$PWD/bin/menduvo
+seen=$scratch/fakes:$PATH # the PATH that the command sees
+mkdir "$scratch/fakes"
+
+# A solver's model of case A, as get-value gives it.
+model='((v0 #x0000) (v1 #x0000) (v2 #x0000) (v3 #x0001) (v4 #x0002) (v5 #x0005)
+ (v6 #x0002) (v7 #x0000) (v8 #x0001) (v9 #x0005) (v10 #x0001) (v11 #x0005))'
+
+# within SECONDS COMMAND..: the command comes true within so many seconds.
+within() {
+    local end=$((SECONDS + $1))
+    shift
+    until "$@"; do
+        ((SECONDS < end)) || return 1
+        sleep 0.02
+    done
+}
+
+# gone FILE: the processes that are named in the file are no more. One that nobody waited for is no more either.
+gone() {
+    local process
+    for process in $(<"$1"); do
+        ! grep -q '^State:[[:space:]]*[^Z]' "/proc/$process/status" 2>/dev/null || return 1
+    done
+}
+
+# without_times: takes the seconds out of a table that was printed.
+without_times() {
+    sed -i 's/  [0-9]\.[0-9][0-9]  /  -.--  /' "$scratch/out"
+    out=$(<"$scratch/out")
+}
+
+# case_file FILE LINE..: a case with two threads, n = 3, two globals and a mutex; thread 0 has these lines, each of seven fields
+# without the next number, and thread 1 writes 1 to G0 and then 2.
+case_file() {
+    local file=$1 record=1 all=()
+    shift
+    for line; do
+        # shellcheck disable=SC2206 # seven words
+        all+=($((record < $# ? record + 1 : 0)) $line)
+        record=$((record + 1))
+    done
+    all+=($((record + 1)) 2 0 0 0 16 0 1  0 2 0 0 0 16 0 2)
+    fields 2 3 2 1 1 "$record" 0 0 0 0 0 0 0 0 0 0 "${all[@]}" >"$file"
+}
+
+# The one default that takes a minute to see is looked at in the end.
+begin_default_timeout() {
+    mkdir "$scratch/hanging" "$scratch/slow"
+    cp cases/case-a.case "$scratch/hanging"
+    printf '#!%s\nexec sleep 600\n' "$BASH" >"$scratch/slow/z3" && chmod +x "$scratch/slow/z3"
+    env PATH="$scratch/slow:$PATH" timeout 100 "$menduvo" solve "$scratch/hanging" >"$scratch/hanging.out" 2>&1 &
+}
+
+default_timeout() {
+    wait %1
+    status=$? out=$(<"$scratch/hanging.out")
+    result 'a folder has a limit of itself' eval '[ "$status" = 3 ] && [[ $out = *"1 timeout"* ]]'
+}
+
+answers() {
+    fake z3 "cat >/dev/null; echo sat; echo '$model'"
+    same solve-sat 1 "$menduvo" solve cases/case-a.case
+    fake z3 'cat >/dev/null; echo unsat'
+    same solve-unsat 0 "$menduvo" solve cases/interlock.case
+    fake z3 "cat >/dev/null; echo sat; echo '${model/v3 #x0001/v3 #x0002}'"
+    same solve-wrong-model 3 "$menduvo" solve cases/case-a.case
+    local body words
+    while IFS='|' read -r body words; do
+        fake z3 "$body"
+        says "a solver that does '$body'" 3 "$words" "$menduvo" solve cases/case-a.case --solver z3
+    done <<'FAKES'
+cat >/dev/null; echo hello world|z3 gave no answer that can be read: it printed 'hello world'
+exit 0|z3 gave no answer that can be read: it printed nothing
+kill -9 $$|z3 gave no answer that can be read: it printed nothing, and it was ended by signal 9
+cat >/dev/null; echo unsat; kill -9 $$|z3 gave no answer that can be read: it printed 'unsat', but it was ended by signal 9
+cat >/dev/null; echo unsat; exit 1|z3 gave no answer that can be read: it printed 'unsat', but it ended with exit status 1
+echo unsat; echo '(error "no model")'|z3 gave no answer that can be read: it printed 'unsat', and then '(error "no model")'
+echo sat|z3 gave no answer that can be read: it says sat, and gives no model
+echo sat; echo '((v0 #x0000)'|z3 gave no answer that can be read: a parenthesis is not closed
+echo sat; echo '(error "line 3: oops")'|z3 gave no answer that can be read: the solver reports an error
+printf '\377\376\033[2J\n'|z3 gave no answer that can be read: it printed
+trap '' PIPE; yes 2>/dev/null; exit 0|z3 gave no answer that can be read: it printed 'y'
+trap '' PIPE; yes sat 2>/dev/null; exit 0|z3 gave no answer that can be read: no value of v0
+echo unsat; exec >&-; sleep 60|z3 gave no answer that can be read: it printed 'unsat', but it did not end
+echo unknown|z3 gave up: the answer is unknown
+echo timeout|z3 gave no answer in time
+FAKES
+    fake z3 'cat >/dev/null; echo unsat; exit 20'
+    says 'a solver that ends with 20 after unsat' 0 'z3 says unsat' "$menduvo" solve cases/interlock.case
+    fake z3 "cat >/dev/null; echo sat; echo '$model'; exit 10"
+    says 'a solver that ends with 10 after sat' 1 'violated' "$menduvo" solve cases/case-a.case
+    bare
+    local seen=$scratch/bare
+    says 'no solver' 3 'no solver is installed' "$menduvo" solve cases/case-a.case
+    says 'no z3' 3 'the solver z3 is not installed' "$menduvo" solve cases/case-a.case --solver z3
+    says 'no cvc5' 3 'the solver cvc5 is not installed' "$menduvo" solve cases/case-a.case --solver cvc5
+    says 'one of both is missing' 3 'the solver z3 is not installed' "$menduvo" solve cases/case-a.case --solver both
+    says 'a command that is not there' 3 'the solver yices is not installed' \
+        "$menduvo" solve cases/case-a.case --solver-command 'bin/yices --smt2'
+    same demo 0 "$menduvo" demo
+}
+
+# A model is asked for only after sat, of any solver.
+models() {
+    fake other 'tee -a "${0%/*}/../heard" >"${0%/*}/../last"; echo unsat'
+    says 'another solver says unsat' 0 'other says unsat' "$menduvo" solve cases/interlock.case --solver-command 'other -x'
+    result 'of an unsat no model is asked' test "$(grep -c '^(check-sat)$' "$scratch/heard"), $(grep -c get-value "$scratch/heard")" = '1, 0'
+    fake other "case \$(cat) in *get-value*) echo sat; echo '$model' ;; *) echo sat ;; esac"
+    says 'another solver says sat' 1 'violated: record 4' \
+        "$menduvo" solve cases/case-a.case --solver-command "$scratch/fakes/other" --keep "$scratch/other"
+    result 'its model is kept' grep -q '(v11 #x0005)' "$scratch/other/case-a.reply"
+    fake other 'case $(cat) in *get-value*) echo unsat ;; *) echo sat ;; esac'
+    says 'another answer the second time' 3 'it says sat, and then unsat' "$menduvo" solve cases/case-a.case --solver-command other
+    says 'z3 as any other' 1 'violated: record 9' "$menduvo" solve cases/lost-update.case --solver-command "$z3 -in -smt2"
+    local solver
+    for solver in z3 cvc5; do
+        rm -f "$scratch/fakes/$solver"
+        run "$menduvo" solve cases/interlock.case --solver "$solver" --keep "$scratch/unsat-$solver"
+        result "$solver's unsat is kept without an error" test "$(<"$scratch/unsat-$solver/interlock.reply")" = unsat
+    done
+}
+
+# Whether asserts are reached: the case's own text first, then what is asked of it.
+vacuous() {
+    local solver
+    rm -f "$scratch/fakes/z3"
+    # L0 = 1; G1 = L0.
+    case_file "$scratch/none.case" '1 0 0 0 16 0 1' '2 0 1 0 0 0 0'
+    fake z3 'cat >/dev/null; echo asked >>"${0%/*}/../asked"; echo unsat'
+    says 'no assert' 0 'VACUOUS: this unsat says nothing about any assertion: the case has no assert' "$menduvo" solve "$scratch/none.case"
+    # Thread 2 has a line, and no block: assert 1 in thread 0.
+    fields 3 1 0 0 1 0 2 0 0 0 0 0 0 0 0 0  0 5 0 0 0 16 0 1  0 1 0 0 0 16 0 1 >"$scratch/idle.case"
+    says 'a thread without a block' 0 'thread 2 has lines and no block within n = 1, so no run is complete' \
+        "$menduvo" solve "$scratch/idle.case"
+    says 'its assert' 0 'line 1: assert 1): NEVER REACHED within n = 1: nothing was checked of it' "$menduvo" solve "$scratch/idle.case"
+    result 'no solver is asked what is plain' test "$(wc -l <"$scratch/asked")" = 3
+    says 'vacuous is strictly no success' 1 VACUOUS "$menduvo" solve "$scratch/none.case" --strict
+    rm -f "$scratch/fakes/z3"
+    # Assert 1; if L5: assert 1, which is never reached.
+    case_file "$scratch/some.case" '5 0 0 0 16 0 1' '5 6 0 0 16 0 1'
+    # Assume 0; assert 1: no run is legal.
+    case_file "$scratch/illegal.case" '6 0 0 0 16 0 0' '5 0 0 0 16 0 1'
+    # L0 = G0; L1 = (L0 == 1); if L1: assert 1: only where thread 1 has run one of its two lines.
+    case_file "$scratch/between.case" '3 0 0 0 0 0 0' '1 0 1 5 0 16 1' '5 2 0 0 16 0 1'
+    # L0 = input; L1 = (L0 == 54321); if L1: assert L0: only with that input.
+    case_file "$scratch/input.case" '4 0 0 0 0 0 0' '1 0 1 5 0 16 54321' '5 2 0 0 0 0 0'
+    # Assert 1, twice reached; a broken assertion, G1 == 1, and one that is not reached beside it.
+    case_file "$scratch/broken.case" '3 0 0 0 1 0 0' '5 0 0 5 0 16 1' '5 6 0 0 16 0 1' '5 0 0 0 16 0 1'
+    for solver in z3 cvc5; do
+        says "$solver: some assert is not reached" 0 'of 2 asserts, NEVER REACHED: record 2' \
+            "$menduvo" solve "$scratch/some.case" --solver "$solver"
+        result "$solver: the other is" eval '[[ $out = *"line 1: assert 1): reached, e.g. schedule 2 2 0 0"* ]] && [[ $out != *VACUOUS* ]]'
+        says "$solver: which is strictly no success" 1 'NEVER REACHED' "$menduvo" solve "$scratch/some.case" --solver "$solver" --strict
+        says "$solver: no run is legal" 0 'VACUOUS: this unsat says nothing' "$menduvo" solve "$scratch/illegal.case" --solver "$solver"
+        says "$solver: reached between two lines" 0 'assert 1): reached, e.g. schedule 0 1 3 1' \
+            "$menduvo" solve "$scratch/between.case" --solver "$solver" --strict
+        says "$solver: reached with an input" 0 'assert L0): reached, e.g. schedule' \
+            "$menduvo" solve "$scratch/input.case" --solver "$solver" --strict
+        result "$solver: and with that input alone" eval '[[ $out = *" 54321"* ]]'
+        says "$solver: asserts beside a broken one" 1 'line 3: if L5 != 0: assert 1): NEVER REACHED' \
+            "$menduvo" solve "$scratch/broken.case" --solver "$solver"
+        result "$solver: the broken one is reached" eval '[[ $out = *"line 2: assert L0 == 1): reached"*"line 4: assert 1): reached"* ]]'
+    done
+    mkdir "$scratch/words" && cp "$scratch"/{none,idle,some,illegal,between,input,broken}.case "$scratch/words"
+    cd "$scratch/words" || exit
+    run "$menduvo" solve . --solver z3
+    cd - >/dev/null || exit
+    without_times
+    matches solve-vacuous 1
+    rm "$scratch/words/broken.case"
+    says 'a folder with vacuous answers' 0 '3 unsat, 3 vacuous' "$menduvo" solve "$scratch/words" --solver z3 --keep "$scratch/strictly"
+    says 'strictly' 1 '3 unsat, 3 vacuous' "$menduvo" solve "$scratch/words" --solver z3 --strict
+    says 'strictly, resumed' 1 '3 unsat, 3 vacuous' "$menduvo" solve "$scratch/words" --resume "$scratch/strictly" --strict
+    # The question is answered, and whether the assert is reached is not.
+    fake z3 'case $(cat) in *"(or false)"*|*"L1 == 0"*) echo unsat ;; *) exec sleep 60 ;; esac'
+}
+
+# Every schedule of a case, tried one by one: the asserts that a complete legal run reaches are those that are told.
+by_trying() {
+    local name lines a b reached told
+    rm -f "$scratch/fakes/z3"
+    # L0 = G0; L1 = (L0 == 1); if L1: assert 1; L1 = (L0 == 2); if L1: assert 1; L1 = (L0 == 3); if L1: assert 1.
+    case_file "$scratch/try-1.case" '3 0 0 0 0 0 0' '1 0 1 5 0 16 1' '5 2 0 0 16 0 1' '1 0 1 5 0 16 2' '5 2 0 0 16 0 1' '1 0 1 5 0 16 3' '5 2 0 0 16 0 1'
+    # L0 = G0; L1 = G0; assume L0 < L1; L2 = (L0 == 1); if L2: assert 1; if L2 == 0: assert 1.
+    case_file "$scratch/try-2.case" '3 0 0 0 0 0 0' '3 0 1 0 0 0 0' '6 0 0 6 0 1 0' '1 0 2 5 0 16 1' '5 3 0 0 16 0 1' '5 19 0 0 16 0 1'
+    for name in try-1 try-2; do
+        reached=
+        lines=$((($(stat -c %s "$scratch/$name.case") - 32) / 16 - 2))
+        for ((a = 0; a <= lines; a++)); do
+            for ((b = 0; b <= 2; b++)); do
+                run bash -c "echo $a $b $((lines - a)) $((2 - b)) | '$menduvo' replay '$scratch/$name.case' -"
+                [[ $out != *clean:* ]] || reached+=$(sed -n 's/^ *line .*record *\([0-9]*\) .*assert.*holds: .*/\1 /p' "$scratch/out")
+            done
+        done
+        run "$menduvo" solve "$scratch/$name.case"
+        told=$(sed -n 's/^  record \([0-9]*\) .*: reached, e.g.*/\1/p' "$scratch/out" | sort -n | tr '\n' ' ')
+        reached=$(tr ' ' '\n' <<<"$reached" | grep . | sort -nu | tr '\n' ' ')
+        result "$name: told are '$told', reached are '$reached'" test -n "$told" -a "$told" = "$reached"
+    done
+}
+
+both() {
+    fake z3 'cat >/dev/null; echo unsat'
+    fake cvc5 'cat >/dev/null; echo unsat'
+    says 'both say unsat' 0 'z3 and cvc5 say unsat' "$menduvo" solve cases/interlock.case --solver both --keep "$scratch/both"
+    result 'both replies are kept' test "$(cat "$scratch"/both/interlock.{z3,cvc5}.reply)" = $'unsat\nunsat'
+    fake z3 "cat >/dev/null; echo sat; echo '$model'"
+    says 'they disagree' 3 'z3 says sat, and its assignment is checked and replayed; cvc5 says unsat, and is wrong' \
+        "$menduvo" solve cases/case-a.case --solver both
+    fake cvc5 'exec sleep 60'
+    says 'one has no time, the other a run' 1 'violated: record 4' "$menduvo" solve cases/case-a.case --solver both --timeout 0.3
+    fake z3 'cat >/dev/null; echo unsat'
+    says 'one has no time, the other says unsat' 3 'cvc5 gave no answer in time; z3 says unsat' \
+        "$menduvo" solve cases/case-a.case --solver both --timeout 0.3
+    fake cvc5 'cat >/dev/null; echo unsat; kill -9 $$'
+    says 'one is killed, the other says unsat' 3 'signal 9; z3 says unsat' "$menduvo" solve cases/case-a.case --solver both
+    rm -f "$scratch"/fakes/{z3,cvc5}
+    says 'z3 and cvc5 agree' 1 '6 cases: 3 violated, 3 unsat, 0 vacuous' "$menduvo" solve cases --solver both
+}
+
+dying() {
+    fake z3 'echo $$ >"${0%/*}/../dying"; exec sleep 600'
+    says 'a solver that takes too long' 3 'z3 gave no answer in time' "$menduvo" solve cases/case-a.case --timeout 0.3
+    result 'it is gone' within 5 gone "$scratch/dying"
+    local signal
+    for signal in KILL TERM INT; do
+        rm -f "$scratch/dying"
+        fake z3 'sleep 600 & echo $! $$ >"${0%/*}/../dying"; wait'
+        # Not in the background of this shell, where an interrupt would be ignored.
+        run bash -c "timeout -s $signal 0.5 '$menduvo' solve cases/case-a.case; true"
+        result "a solver dies with the command, and what it started too: $signal" within 5 gone "$scratch/dying"
+        result "it was at work: $signal" test -s "$scratch/dying"
+    done
+    fake z3 'cat >/dev/null; echo unsat; sleep 600 & echo $! >"${0%/*}/../dying"'
+    says 'something holds the pipe' 0 'z3 says unsat' "$menduvo" solve cases/interlock.case
+    result 'it is gone too' within 5 gone "$scratch/dying"
+    fake z3 'cat >/dev/null; echo unsat; setsid sleep 20 & echo $! >"${0%/*}/../dying"'
+    says 'something that left the group holds the pipe' 0 'z3 says unsat' "$menduvo" solve cases/interlock.case
+    # shellcheck disable=SC2046 # one number
+    kill $(<"$scratch/dying") 2>/dev/null
+}
+
+folders() {
+    mkdir "$scratch/folder" && cp cases/case-a.case cases/interlock.case "$scratch/folder"
+    fake z3 "if grep -q '18 constraints'; then echo sat; echo '$model'; else echo unsat; fi"
+    cd "$scratch" || exit
+    run "$menduvo" solve folder
+    without_times
+    head -c 40 folder/case-a.case >folder/damaged.case
+    cp "$scratch/out" "$scratch/first"
+    run "$menduvo" solve folder
+    without_times
+    cp "$scratch/out" "$scratch/second"
+    cd - >/dev/null || exit
+    status=1
+    cp "$scratch/first" "$scratch/out" && matches solve-folder 1
+    cp "$scratch/second" "$scratch/out" && matches solve-folder-damaged 1
+    run "$menduvo" solve "$scratch/folder"
+    result 'a violation wins over a refusal, and both are counted' eval '[ "$status" = 1 ] && [[ $out = *"1 violated"*"1 refused"* ]]'
+    rm "$scratch/folder/case-a.case"
+    says 'a refused case' 2 '1 refused' "$menduvo" solve "$scratch/folder"
+    says 'cases and folders' 1 '4 cases: 1 violated' "$menduvo" solve cases/case-a.case "$scratch/folder" cases/lock-order.case
+    mkdir "$scratch/hollow"
+    says 'a folder without cases' 3 'no file in it ends in .case' "$menduvo" solve "$scratch/hollow"
+    # One that hangs among others.
+    fake z3 'case $(cat) in *"18 constraints"*) exec sleep 600 ;; *) echo unsat ;; esac'
+    mkdir "$scratch/busy" && cp cases/{case-a,interlock,lock-order}.case "$scratch/busy"
+    says 'a case that keeps the solver busy stops no other' 3 '3 cases: 0 violated, 2 unsat, 0 vacuous, 1 timeout' \
+        "$menduvo" solve "$scratch/busy" --timeout 0.3
+    fake z3 "case \$(cat) in *'18 constraints'*) echo sat; echo '$model' ;; *) sleep 600 ;; esac"
+    says 'a violation wins over a timeout' 1 '1 violated, 0 unsat, 0 vacuous, 2 timeout' "$menduvo" solve "$scratch/busy" --timeout 0.3
+    parallel_jobs
+    as_known
+}
+
+# Two solvers that wait for each other, as two jobs let them; and the one that comes last in order ends first.
+parallel_jobs() {
+    fake z3 "text=\$(cat); here=\${0%/*}/..
+        case \$text in
+        *'18 constraints'*) : >\$here/first; until [ -e \$here/second ]; do sleep 0.02; done; sleep 0.2; echo sat; echo '$model' ;;
+        *) until [ -e \$here/first ]; do sleep 0.02; done; : >\$here/second; echo unsat ;;
+        esac"
+    rm "$scratch/busy/lock-order.case"
+    cd "$scratch" || exit
+    run "$menduvo" solve busy --jobs 2 --timeout 20
+    cd - >/dev/null || exit
+    without_times
+    matches solve-jobs 1
+}
+
+# A line is there before the end, and stays where the command is interrupted; what was kept stays too, and is resumed.
+as_known() {
+    fake z3 "text=\$(cat); echo \$\$ >>\${0%/*}/../dying
+        case \$text in *'18 constraints'*) echo sat; echo '$model' ;; *) exec sleep 600 ;; esac"
+    : >"$scratch/dying"
+    run timeout -s INT 1.5 "$menduvo" solve "$scratch/busy" --keep "$scratch/partly"
+    result 'an interrupt leaves the line that is known' eval '[[ $out = *"busy/case-a.case"*"violated"* ]] && [[ $out != *"2 cases"* ]]'
+    result 'and the solvers are gone' within 5 gone "$scratch/dying"
+    result 'and what was kept' test -s "$scratch/partly/case-a.answer" -a ! -e "$scratch/partly/interlock.answer"
+    fake z3 'cat >/dev/null; echo asked >>"${0%/*}/../resumed"; echo unsat'
+    says 'it is resumed' 1 'violated    18 over 12' "$menduvo" solve "$scratch/busy" --resume "$scratch/partly"
+    result 'only the rest is asked' eval '[ "$(wc -l <"$scratch/resumed")" = 1 ] && [[ $out = *"filed already; record 4"*"1 violated, 1 unsat"* ]]'
+    says 'all is filed' 1 '1 violated, 1 unsat' "$menduvo" solve "$scratch/busy" --resume "$scratch/partly"
+    result 'nothing is asked' test "$(wc -l <"$scratch/resumed")" = 1
+    says 'one case, filed already' 1 "case-a.case: filed in partly already: violated" \
+        "$menduvo" solve "$scratch/busy/case-a.case" --resume "$scratch/partly"
+}
+
+keeping() {
+    fake z3 "cat >/dev/null; echo sat; echo '$model'"
+    says 'kept' 1 violated "$menduvo" solve cases/case-a.case --keep "$scratch/kept"
+    result 'all that was kept' test "$(cd "$scratch/kept" && echo *)" = \
+        'case-a.answer case-a.assignment case-a.reached case-a.reply case-a.schedule case-a.smt2'
+    fake z3 'cat >/dev/null; echo asked >>"${0%/*}/../keeping"; echo unsat'
+    cp -r "$scratch/kept" "$scratch/before"
+    says 'nothing is replaced' 3 'kept/case-a.smt2 is there already; --force replaces it' \
+        "$menduvo" solve cases/case-a.case --keep "$scratch/kept"
+    says 'nothing is replaced, of several' 3 'kept/case-a.smt2 is there already' "$menduvo" solve cases --keep "$scratch/kept"
+    result 'no solver was asked' test ! -e "$scratch/keeping"
+    result 'nothing has changed' diff -r "$scratch/before" "$scratch/kept"
+    says 'it is forced' 0 'says unsat' "$menduvo" solve cases/case-a.case --keep "$scratch/kept" --force
+    result 'nothing of the earlier answer is left' test "$(cd "$scratch/kept" && echo *)" = \
+        'case-a.answer case-a.reached case-a.reply case-a.smt2'
+    fake z3 'cat >/dev/null; echo hello world; kill -9 $$'
+    says 'a nonsense reply' 3 'hello world' "$menduvo" solve cases/case-a.case --keep "$scratch/kept" --force
+    result 'is kept' test "$(<"$scratch/kept/case-a.reply")" = 'hello world'
+    fake z3 'cat >/dev/null; echo unsat'
+    says 'what failed is asked again' 0 'says unsat' "$menduvo" solve cases/case-a.case --resume "$scratch/kept"
+    mkdir "$scratch/another" && cp cases/interlock.case "$scratch/another/case-a.case"
+    says 'an answer of another case' 3 'is of another case of this name' "$menduvo" solve "$scratch/another/case-a.case" --resume "$scratch/kept"
+    says 'is replaced by force' 0 'says unsat' "$menduvo" solve "$scratch/another/case-a.case" --resume "$scratch/kept" --force
+    says 'two cases of one name' 3 'would be kept under the same name' \
+        "$menduvo" solve cases/case-a.case "$scratch/another/case-a.case" --keep "$scratch/twice"
+    says 'an empty name' 3 '--keep needs the name of a folder' "$menduvo" solve cases/case-a.case --keep ''
+    says 'an empty name to resume' 3 '--resume needs the name of a folder' "$menduvo" solve cases/case-a.case --resume=
+    says 'keep and resume' 3 'exclude each other' "$menduvo" solve cases --keep a --resume b
+    says 'nothing to force' 3 '--force needs --keep or --resume' "$menduvo" solve cases --force
+    : >"$scratch/file"
+    says 'a file in the place of the folder' 3 'file: ' "$menduvo" solve cases/case-a.case --keep "$scratch/file"
+    sed -i 's/^answer unsat/answer maybe/' "$scratch/kept/case-a.answer"
+    says 'a damaged answer' 3 'not an answer that this command wrote' "$menduvo" solve "$scratch/another/case-a.case" --resume "$scratch/kept"
+}
+
+# On a terminal of 40 columns no line of progress is wider.
+progress() {
+    local long=$scratch/a-folder-with-a-long-name-that-fits-no-terminal
+    mkdir "$long" && cp cases/case-a.case cases/interlock.case "$long"
+    fake z3 "sleep 0.1; if grep -q '18 constraints'; then echo sat; echo '$model'; else echo unsat; fi"
+    env PATH="$seen" script -qec "stty cols 40; '$menduvo' solve '$long' --jobs 2 2>&1 >'$scratch/table' | cat" /dev/null >"$scratch/typed" </dev/null
+    result 'no progress where standard error is no terminal' test ! -s "$scratch/typed"
+    env PATH="$seen" script -qec "stty cols 40; '$menduvo' solve '$long' --jobs 2 >'$scratch/table'" /dev/null >"$scratch/typed" </dev/null
+    tr '\r' '\n' <"$scratch/typed" | sed 's/\x1b\[K//g' >"$scratch/lines"
+    result 'there is progress' grep -q 'of 2 cases done' "$scratch/lines"
+    result 'it fits the terminal' test "$(awk '{ if (length > most) most = length } END { print most }' "$scratch/lines")" -lt 40
+}
+
+real_solvers() {
+    local solver
+    rm -f "$scratch"/fakes/{z3,cvc5}
+    fields 2 0 0 0 0 0 0 0 0 0 0 0 0 0 0 0 >"$scratch/empty.case"
+    for solver in z3 cvc5; do
+        says "$solver, lost-update" 1 'violated: record 9' \
+            "$menduvo" solve cases/lost-update.case --solver "$solver" --keep "$scratch/$solver"
+        says "$solver, what was kept is checked" 0 'meets' \
+            "$menduvo" check cases/lost-update.case "$scratch/$solver/lost-update.assignment"
+        says "$solver, what was kept is replayed" 1 'violated: record 9' \
+            "$menduvo" replay cases/lost-update.case "$scratch/$solver/lost-update.schedule"
+        says "$solver, its own reply is replayed" 1 'violated: record 9' \
+            "$menduvo" replay cases/lost-update.case "$scratch/$solver/lost-update.reply"
+        { cat "$scratch/$solver/lost-update.smt2" && echo '(get-model)'; } >"$scratch/model.smt2"
+        "$solver" "$scratch/model.smt2" >"$scratch/whole.model"
+        says "$solver, its reply to get-model is replayed" 1 'violated: record 9' \
+            "$menduvo" replay cases/lost-update.case "$scratch/whole.model"
+        says "$solver, interlock" 0 "$solver says unsat" "$menduvo" solve cases/interlock.case --solver "$solver"
+        says "$solver, all cases" 1 '6 cases: 3 violated, 3 unsat, 0 vacuous, 0 timeout' "$menduvo" solve cases --solver "$solver"
+        says "$solver, one constraint that nothing meets" 0 'nothing meets this one constraint' \
+            "$menduvo" solve "$scratch/empty.case" --solver "$solver"
+    done
+    says 'demo with a solver' 0 'z3 looks for itself' "$menduvo" demo
+}
+
+z3=$(type -P z3)
+says 'the command is built' 0 'menduvo 0.' "$menduvo" --version
+begin_default_timeout
+answers
+models
+vacuous
+by_trying
+both
+dying
+folders
+keeping
+progress
+real_solvers
+default_timeout
+finish
