@@ -9,15 +9,28 @@ scratch=$(mktemp -d) || exit
 trap 'rm -rf -- "$scratch"' EXIT
 store=no
 menduvo=$PWD/bin/menduvo
-binary=$PWD/target/menduvo/release/menduvo # without the script, where there are many calls
 seen=$PATH
-cases=$PWD/cases
 
-# fake NAME BODY: a solver that does this, before the others in PATH.
-fake() {
-    mkdir -p "$scratch/fakes"
-    printf '#!%s\n[ "$1" = --version ] && { echo "%s of the tests"; exit; }\n%s\n' "$BASH" "$1" "$2" >"$scratch/fakes/$1"
-    chmod +x "$scratch/fakes/$1"
+# solver NAME BODY: a solver that does this, and has a version.
+solver() {
+    fake "$1" "[ \"\$1\" = --version ] && { echo '$1 of the tests'; exit; }"$'\n'"$2"
+}
+
+# Set binary to the program that the script starts, for where there are many calls.
+find_binary() {
+    local process tries
+    mkfifo "$scratch/pipe"
+    "$menduvo" list - <"$scratch/pipe" >"$scratch/out" 2>&1 &
+    process=$!
+    exec 3>"$scratch/pipe"
+    for tries in {1..500}; do
+        binary=$(readlink "/proc/$process/exe")
+        [[ $binary != */release/menduvo ]] || break
+        sleep 0.01
+    done
+    exec 3>&-
+    wait "$process"
+    result 'the program is found' test "${binary##*/}" = menduvo
 }
 
 # A model of case A.
@@ -93,6 +106,7 @@ three_asserts() {
 
 filing() {
     says 'the command is built' 0 'menduvo 0.' "$menduvo" --version
+    find_binary
     says 'a violation is filed' 1 'interlock-broken.case: violated: record 8' \
         "$menduvo" file cases/interlock-broken.case "$scratch/violated" --source cases/interlock-broken.md --solver z3
     sum=$(sha256sum <"$scratch/violated/MANIFEST")
@@ -153,7 +167,7 @@ list_of_violated() {
 # The same inputs, the same files; and where the case was read makes no difference to them, but for the command line.
 again() {
     local folder seen=$scratch/fakes:$seen
-    fake z3 "cat >/dev/null; echo sat; echo '$model'"
+    solver z3 "cat >/dev/null; echo sat; echo '$model'"
     mkdir -p "$scratch/one/two"
     cp cases/case-a.case "$scratch/one/a.case" && cp cases/case-a.case "$scratch/one/two/a.case"
     for folder in one one/two; do
@@ -175,7 +189,7 @@ again() {
 # Where nothing is filed, nothing is left, and no solver was asked.
 refusing() {
     local seen=$scratch/fakes:$seen there
-    fake z3 "touch '$scratch/asked'; cat >/dev/null; echo unsat"
+    solver z3 "touch '$scratch/asked'; cat >/dev/null; echo unsat"
     mkdir -p "$scratch/place/folder" && touch "$scratch/place/file" && ln -s none "$scratch/place/link"
     for there in folder file link link/ folder/ . ..; do
         says "there is a $there" 3 'is there already' "$menduvo" file cases/case-a.case "$scratch/place/$there"
@@ -191,7 +205,7 @@ refusing() {
     run ls -A "$scratch/place" "$scratch/place/folder"
     result 'nothing is left' test "$(grep -cE '^(file|folder|link)$' <<<"$out") $(grep -c new <<<"$out")" = '3 0'
     result 'no solver was asked' test ! -e "$scratch/asked"
-    fake z3 "cat >/dev/null; mkdir -p '$scratch/place/late'; echo unsat"
+    solver z3 "cat >/dev/null; mkdir -p '$scratch/place/late'; echo unsat"
     says 'a folder that comes meanwhile' 3 'has come while' "$menduvo" file cases/case-a.case "$scratch/place/late"
     result 'it stays as it is' test -z "$(ls -A "$scratch/place/late")"
     result 'and nothing beside it' test "$(ls "$scratch/place" | wc -l)" = 4
@@ -202,15 +216,15 @@ no_answers() {
     local seen=$scratch/fakes:$seen body answer words number=0
     while IFS='|' read -r answer body words; do
         number=$((number + 1))
-        fake z3 "$body"
+        solver z3 "$body"
         says "$answer: $body" 3 "case-a.case: $answer: $words" \
             "$menduvo" file cases/case-a.case "$scratch/none-$number" --solver z3 --timeout 0.4
         whole "none-$number" "$answer" reply.txt
         has "none-$number" verdict.txt "There is no answer: "
         has "none-$number" verdict.txt "$words"
     done <<FAKES
-timeout|sleep 30|the time of z3 was up
-unknown|cat >/dev/null; echo unknown|z3 found no answer
+timeout|sleep 30|z3 gave no answer in time
+unknown|cat >/dev/null; echo unknown|z3 gave up
 failed|cat >/dev/null; echo hello|the solver z3 gave no answer that can be read: it printed 'hello'
 failed|printf '\\377\\033[2J\\r\\n\\tx\\n'|the solver z3 gave no answer that can be read: it printed
 failed|cat >/dev/null|the solver z3 gave no answer that can be read: it printed nothing
@@ -220,8 +234,8 @@ failed|kill -9 \$\$|the solver z3 gave no answer that can be read: it printed no
 failed|cat >/dev/null; echo sat; echo '${model/v3 #x0001/v3 #x0002}'|the assignment of z3 fails
 FAKES
     has none-3 reply.txt hello
-    fake z3 "cat >/dev/null; echo sat; echo '$model'"
-    fake cvc5 'cat >/dev/null; echo unsat'
+    solver z3 "cat >/dev/null; echo sat; echo '$model'"
+    solver cvc5 'cat >/dev/null; echo unsat'
     says 'solvers that disagree' 3 'disagree: z3 says sat' "$menduvo" file cases/case-a.case "$scratch/disagree" --solver both
     whole disagree disagree reply-z3.txt reply-cvc5.txt
     has disagree verdict.txt 'cvc5 says unsat, and is wrong'
@@ -230,7 +244,7 @@ FAKES
 # A command that is killed leaves a folder that says by its name what it is.
 interrupted() {
     local seen=$scratch/fakes:$seen process left='' tries
-    fake z3 'sleep 30'
+    solver z3 'sleep 30'
     mkdir "$scratch/killed"
     PATH=$seen "$binary" file cases/case-a.case "$scratch/killed/new" >"$scratch/out" 2>&1 </dev/null &
     process=$!
@@ -248,7 +262,7 @@ interrupted() {
 # Names that a shell or a terminal would act on.
 names() {
     local seen=$scratch/fakes:$seen name line words
-    fake z3 'cat >/dev/null; echo unsat'
+    solver z3 'cat >/dev/null; echo unsat'
     for name in "a b'c" $'line\nend\t\e[2J' $'\xff\xfe' 'two  $(x) `y` "z" \' 'ü'; do
         mkdir -p "$scratch/names" && cp cases/interlock.case "$scratch/names/$name.case"
         says "a case named $(printf %q "$name")" 0 unsat \
@@ -362,13 +376,13 @@ asking_again() {
     result 'it is said to be the same' eval '[[ $out = *": the same answer"* ]]'
     says 'both, the same answer' 0 'asked again, z3 and cvc5: unsat' "$menduvo" verify "$scratch/three" --solver both
     local seen=$scratch/fakes:$seen
-    fake z3 'cat >/dev/null; echo unsat'
+    solver z3 'cat >/dev/null; echo unsat'
     says 'another answer' 1 'asked again, z3: unsat: nothing within n = 3, in round robin: ANOTHER ANSWER' \
         "$binary" verify "$scratch/violated" --solver z3
     says 'asserts that are said to be not reached' 1 'has turned: record 4 and 5: ANOTHER ANSWER' \
         "$binary" verify "$scratch/three" --solver z3
-    fake z3 'sleep 30'
-    says 'no answer' 3 'asked again, z3: timeout: the time of z3 was up: no answer' \
+    solver z3 'sleep 30'
+    says 'no answer' 3 'asked again, z3: timeout: z3 gave no answer in time: no answer' \
         "$binary" verify "$scratch/violated" --solver z3 --timeout 0.2
     says 'any solver' 3 'asked again, sleepy: timeout' \
         "$binary" verify "$scratch/violated" --solver-command "$scratch/fakes/sleepy 30" --timeout 0.2
@@ -419,7 +433,7 @@ damages violated
 damages three
 list_damages
 other_damages
-fake sleepy 'sleep 30'
+solver sleepy 'sleep 30'
 asking_again
 objects
 hashes
