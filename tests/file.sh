@@ -164,6 +164,16 @@ list_of_violated() {
     has violated MANIFEST "# answer: violated"
 }
 
+# Why the case is filed with its listing: case A with 'assert L1 < 7'.
+listing_alone() {
+    cp cases/case-a.case "$scratch/other.case"
+    fields 6 1 16 7 | dd of="$scratch/other.case" bs=2 seek=44 conv=notrunc status=none
+    says 'another case' 0 'assert L1 < 7' "$binary" show "$scratch/other.case"
+    run "$binary" list "$scratch/other.case"
+    result 'the same listing' cmp -s "$scratch/out" tests/command/list-case-a.expected
+    says 'another answer' 0 'other.case: unsat' "$binary" file "$scratch/other.case" "$scratch/other" --solver z3
+}
+
 # The same inputs, the same files; and where the case was read makes no difference to them, but for the command line.
 again() {
     local folder seen=$scratch/fakes:$seen
@@ -424,6 +434,7 @@ hashes() {
 }
 
 filing
+listing_alone
 again
 refusing
 no_answers
