@@ -223,12 +223,13 @@ refusing() {
 
 # An answer that is none is filed too, with the reply as it came.
 no_answers() {
-    local seen=$scratch/fakes:$seen body answer words number=0
+    local seen=$scratch/fakes:$seen body answer words limit number=0
     while IFS='|' read -r answer body words; do
-        number=$((number + 1))
+        number=$((number + 1)) limit=30
+        [ "$answer" != timeout ] || limit=0.2
         solver z3 "$body"
         says "$answer: $body" 3 "case-a.case: $answer: $words" \
-            "$menduvo" file cases/case-a.case "$scratch/none-$number" --solver z3 --timeout 0.4
+            "$menduvo" file cases/case-a.case "$scratch/none-$number" --solver z3 --timeout "$limit"
         whole "none-$number" "$answer" reply.txt
         has "none-$number" verdict.txt "There is no answer: "
         has "none-$number" verdict.txt "$words"
