@@ -6,7 +6,7 @@ use crate::failure::Failure;
 use crate::folder::{answer_of, Check, Folder, CASE, CONSTRAINTS, SOURCE};
 use crate::input::Source;
 use crate::kept::Kept;
-use crate::manifest::{Manifest, NAME};
+use crate::manifest::{Entry, Manifest, NAME};
 use crate::numbers::shortened;
 use crate::sha256;
 use crate::solve::{solve_by, Ask, Solved};
@@ -95,18 +95,17 @@ impl Ask for Replies {
 /// File by file: the same or not. The list itself comes first.
 pub fn findings(kept: &Kept, recomputed: Result<&Folder, &str>) -> Vec<Finding> {
     let mut findings = vec![list(&kept.manifest, recomputed)];
-    for entry in &kept.manifest.files {
-        let state = one(kept, &entry.name, &entry.hash, recomputed);
-        findings.push(state);
-    }
+    findings.extend(kept.manifest.files.iter().map(|entry| one(kept, entry, recomputed)));
     // Without a case nothing follows, so it is missed by itself.
     let names = recomputed.map_or(vec![CASE], |folder| folder.files.iter().map(|file| file.name.as_str()).collect());
     for name in names {
         if !kept.manifest.has(name) && !kept.others.iter().any(|other| other == name) {
-            findings.push(finding(name, State::Missing, "it belongs to this check, and is neither there nor in the list"));
+            let note = format!("it belongs to this check, and is neither there nor in {NAME}");
+            findings.push(finding(name, State::Missing, &note));
         }
     }
-    findings.extend(kept.others.iter().map(|name| finding(name, State::NotListed, "it is in the folder, and not in the list")));
+    let note = format!("it is in the folder, and not in {NAME}");
+    findings.extend(kept.others.iter().map(|name| finding(name, State::NotListed, &note)));
     findings
 }
 
@@ -125,18 +124,19 @@ fn list(filed: &Manifest, recomputed: Result<&Folder, &str>) -> Finding {
     }
 }
 
-fn one(kept: &Kept, name: &str, hash: &str, recomputed: Result<&Folder, &str>) -> Finding {
+fn one(kept: &Kept, entry: &Entry, recomputed: Result<&Folder, &str>) -> Finding {
+    let Entry { name, hash } = entry;
     let bytes = match kept.bytes(name) {
         Ok(bytes) => bytes,
         Err(problem) => return finding(name, State::Missing, &problem),
     };
-    let file = recomputed.map(|folder| folder.files.iter().find(|file| file.name == name));
+    let file = recomputed.map(|folder| folder.files.iter().find(|file| file.name == *name));
     let difference = match file {
         Ok(Some(file)) if !file.given && file.bytes != bytes => Some(first_difference(bytes, &file.bytes)),
         Ok(None) => Some("this check has no such file".to_string()),
         _ => None,
     };
-    let hash_differs = (sha256::hex(bytes) != hash).then(|| format!("its SHA-256 is not that of {NAME}"));
+    let hash_differs = (sha256::hex(bytes) != *hash).then(|| format!("its SHA-256 is not that of {NAME}"));
     let notes: Vec<String> = hash_differs.into_iter().chain(difference).collect();
     match (file, notes.is_empty()) {
         (_, false) => finding(name, State::Differs, &notes.join("; ")),
