@@ -245,6 +245,8 @@ failed|kill -9 \$\$|the solver z3 gave no answer that can be read: it printed no
 failed|cat >/dev/null; echo sat; echo '${model/v3 #x0001/v3 #x0002}'|the assignment of z3 fails
 FAKES
     has none-3 reply.txt hello
+    run cmp "$scratch/none-4/reply.txt" <(printf '\377\033[2J\r\n\tx\n')
+    result 'a reply that is no text is filed as it came' test "$status" = 0
     solver z3 "cat >/dev/null; echo sat; echo '$model'"
     solver cvc5 'cat >/dev/null; echo unsat'
     says 'solvers that disagree' 3 'disagree: z3 says sat' "$menduvo" file cases/case-a.case "$scratch/disagree" --solver both
@@ -338,6 +340,10 @@ list_damages() {
     tells 'another answer' 1 "MANIFEST +differs: line [0-9]+ is '# answer: violated', and recomputed '# answer: unsat'"
     copied unsat && sed -i 's/ unsat$/ timeout/' "$scratch/copy/MANIFEST"
     tells 'an answer that the reply does not have' 1 'verdict.txt +differs'
+    copied unsat && sed -i '/^# answer/s/$/ /' "$scratch/copy/MANIFEST"
+    tells 'a value that ends with a blank' 3 "line [0-9]+: '# answer: ' and a value are expected"
+    copied unsat && sed -i '/  show.txt$/p' "$scratch/copy/MANIFEST"
+    tells 'a file that is listed twice' 3 'line [0-9]+: show.txt is listed twice'
     copied unsat && sed -i '1s/1$/2/' "$scratch/copy/MANIFEST"
     tells 'another format' 3 "line 1: the format 'menduvo file 1' is expected"
     local name

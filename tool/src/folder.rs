@@ -88,7 +88,7 @@ impl Folder {
                 1 => format!("{reply}.txt"),
                 _ => format!("{reply}-{}.txt", one.solver),
             };
-            self.give(&reply, &format!("what {} printed", one.solver), one.reply.clone().into_bytes());
+            self.give(&reply, &format!("what {} printed", one.solver), one.reply.clone());
             self.manifest.asked.push(Question { text: question.to_string(), reply, answer: answer_in_words(&one.answer) });
         }
     }

@@ -39,7 +39,7 @@ pub enum Answer {
 pub struct Asked {
     pub solver: String,
     pub answer: Answer,
-    pub reply: String,
+    pub reply: Vec<u8>,
 }
 
 /// The solvers that are known by name. With these arguments they print a model after sat, and nothing after unsat.
@@ -138,16 +138,15 @@ impl Solver {
 
     /// What stands where nothing came back.
     pub fn silent(&self) -> Asked {
-        Asked { solver: self.name.clone(), answer: Answer::None("it was not heard".to_string()), reply: String::new() }
+        Asked { solver: self.name.clone(), answer: Answer::None("it was not heard".to_string()), reply: Vec::new() }
     }
 
     /// One run of the program. A bare sat, without a model, has no values here.
     fn asked(&self, text: &str, variables: usize, limit: Option<Duration>) -> Asked {
         let (reply, answer) = match process::run(OsStr::new(&self.program), &self.arguments, text, limit) {
-            Err(error) => (String::new(), Answer::None(error.to_string())),
+            Err(error) => (Vec::new(), Answer::None(error.to_string())),
             Ok((reply, end)) => {
-                let reply = String::from_utf8_lossy(&reply).into_owned();
-                let answer = answer(&reply, variables, &end);
+                let answer = answer(&String::from_utf8_lossy(&reply), variables, &end);
                 (reply, answer)
             }
         };

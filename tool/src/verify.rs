@@ -67,10 +67,10 @@ impl Replies {
             let solver = kept.manifest.made.solvers.get(asked.len()).map_or("a solver", |solver| solver.name.as_str());
             asked.push(match kept.bytes(&question.reply) {
                 Ok(bytes) => {
-                    let reply = String::from_utf8_lossy(bytes).into_owned();
-                    Asked { solver: solver.to_string(), answer: answer_of(&question.answer, &reply, variables), reply }
+                    let answer = answer_of(&question.answer, &String::from_utf8_lossy(bytes), variables);
+                    Asked { solver: solver.to_string(), answer, reply: bytes.to_vec() }
                 }
-                Err(problem) => Asked { solver: solver.to_string(), answer: Answer::None(problem), reply: String::new() },
+                Err(problem) => Asked { solver: solver.to_string(), answer: Answer::None(problem), reply: Vec::new() },
             });
         }
         let (first, others): (Vec<_>, Vec<_>) = questions.into_iter().partition(|(text, _)| *text == CONSTRAINTS);
@@ -87,7 +87,7 @@ impl Ask for Replies {
         let next = self.0.lock().unwrap_or_else(PoisonError::into_inner).next();
         next.unwrap_or_else(|| {
             let answer = Answer::None("no reply to this question is filed".to_string());
-            vec![Asked { solver: "a solver".to_string(), answer, reply: String::new() }]
+            vec![Asked { solver: "a solver".to_string(), answer, reply: Vec::new() }]
         })
     }
 }
