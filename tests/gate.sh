@@ -37,8 +37,8 @@ fresh() {
     esac'
     fake "$bin/rustc" 'echo a fake'
     fake "$bin/apt-get" 'echo "${!#}" >>"${0%/*}/apt.log"; eval "${APT:-exit 100}"'
-    fake "$bin/z3" ''
-    fake "$bin/cvc5" ''
+    local program
+    for program in z3 cvc5 parallel xmllint; do fake "$bin/$program" ''; done
     fake "$repo/tests/a.sh" 'eval "${TEST:-echo 2 passed, 0 failed}"'
     fake "$repo/tests/b.sh" 'echo 1 passed, 0 failed'
     echo 'echo this is no test; exit 1' >"$repo/tests/helper.sh"
@@ -125,16 +125,21 @@ gate PROVE='echo 3 passed, 0 failed; kill -KILL $PPID'
 result 'the gate is killed' test "$status" = 137
 result 'a killed gate gives no verdict' test "$(grep -c '^[0-9]' <<<"$out")" = 0
 
+# What apt-get does where it installs what it is asked for. xmllint's package has another name.
+installs='case ${!#} in update) ;; libxml2-utils) ln -s rustc "${0%/*}/xmllint" ;; *) ln -s rustc "${0%/*}/${!#}" ;; esac'
 fresh && rm "$bin/z3" "$bin/cvc5"
 red 'an install fails' \
-    'solvers: exit status 1' '17 passed, 1 failed' APT='[ "${!#}" != cvc5 ] && ln -s rustc "${0%/*}/${!#}"'
-result 'the package is named' says 'could not install: cvc5'
+    'programs: exit status 1' '17 passed, 1 failed' APT="[ \"\${!#}\" != cvc5 ] && $installs"
+result 'the command and its package are named' says 'could not install: cvc5 (package cvc5)'
 red 'an install brings no command' \
-    'solvers: exit status 1' '17 passed, 1 failed' APT=true
-fresh && rm "$bin/z3" "$bin/cvc5"
-gate APT='ln -s rustc "${0%/*}/${!#}"'
+    'programs: exit status 1' '17 passed, 1 failed' APT=true
+fresh && rm "$bin/z3" "$bin/cvc5" "$bin/parallel" "$bin/xmllint"
+gate APT="$installs"
 result 'what is missing is installed' ends 0 "$green"
-result 'the lists are updated once' test "$(<"$bin/apt.log")" = $'update\nz3\ncvc5'
+result 'the lists are updated once' test "$(<"$bin/apt.log")" = $'update\nz3\ncvc5\nparallel\nlibxml2-utils'
+fresh && rm "$bin/xmllint"
+red 'a package without the command' \
+    'programs: exit status 1' '17 passed, 1 failed' APT='[ "${!#}" = update ] || ln -s rustc "${0%/*}/${!#}"'
 
 fresh && rm "$bin/rt"
 red 'rt is missing' 'rt staticlib menduvo: exit status 127' '12 passed, 4 failed'

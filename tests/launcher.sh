@@ -11,7 +11,7 @@ trap 'touch "$scratch/go"; wait; chmod -R u+w "$scratch"; rm -rf -- "$scratch"' 
 . tests/helpers.sh || exit
 seen=$PATH
 by_hand=${MENDUVO_LIB_DIR:-} # for the real command
-unset MENDUVO_LIB_DIR MENDUVO_COMMIT
+unset MENDUVO_LIB_DIR MENDUVO_COMMIT "${!GIT_@}"
 tree="$scratch/a tree" menduvo="$scratch/a tree/bin/menduvo"
 
 # Three PATHs: for a call where nothing changed; for one that looks at contents, too; and for one that builds.
@@ -23,7 +23,7 @@ whole=$slow:$scratch/fakes
 
 # Each fake makes its product of the sources as they are when it starts. Where the file 'wait' names it, it has half of it until
 # there is a file 'go'. As the real one may in a copy of a tree, cargo trusts what it finds of an earlier build. The command is a
-# script that prints what it was made of.
+# script that prints what it was made of. Time goes on after each step, as what changes in the moment of a build is looked at twice.
 fake common 'scratch=${BASH_SOURCE[0]%/fakes/*}
 begin() {
     echo "$1" >>"$scratch/calls"
@@ -36,14 +36,14 @@ pause() {
 }'
 fake rt '. "${0%/*}/common"
 begin rt; text=$(cat crates/*); mkdir -p target/staticlib; echo half >target/staticlib/libmenduvo.a; pause rt
-echo "$text" >target/staticlib/libmenduvo.a; [ ! -e broken ]'
+echo "$text" >target/staticlib/libmenduvo.a; sleep 0.02; [ ! -e broken ]'
 fake cargo '. "${0%/*}/common"
 begin cargo; while [ "$1" != --target-dir ]; do shift; done
 mkdir -p "$2/release"; made=$2/release/menduvo; [ ! -e "$made" ] || exit 0
 text="$(cat tool/main.rs) $(cat "$MENDUVO_LIB_DIR/libmenduvo.a")"
 printf "#!%s\n" "$BASH" >"$made"; chmod +x "$made"; pause cargo
 printf "%s\n" "echo \"it is $text\${MENDUVO_COMMIT+, \$MENDUVO_COMMIT}\"" \
-    "for fd in /proc/\$\$/fd/*; do [ ! \"\$fd\" -ef \"$PWD/$2/lock\" ] || echo it has the lock; done" >>"$made"'
+    "for fd in /proc/\$\$/fd/*; do [ ! \"\$fd\" -ef \"$PWD/$2/lock\" ] || echo it has the lock; done" >>"$made"; sleep 0.02'
 
 # Make the scratch tree anew.
 plant() {
@@ -54,14 +54,13 @@ plant() {
     echo red >"$tree/tool/main.rs"
     echo round >"$tree/crates/lib.rt"
     : >"$scratch/calls"
+    sleep 0.02
 }
 
-# The same, and build it. Then time goes on: what changes in the moment of a build is looked at once more.
+# The same, and build it.
 plant_built() {
     plant
     seen=$whole run "$menduvo"
-    sleep 0.02
-    seen=$slow run "$menduvo"
 }
 
 # runs NAME PATH CALLS TEXT COMMAND..: it ends well, the last line is this text, and it started these of rt and cargo. If none,
@@ -96,10 +95,8 @@ building() {
     mkdir -p "$scratch/rt" && cp "$scratch"/fakes/{rt,common} "$scratch/rt/"
     seen=$slow:$scratch/rt says 'cargo is missing' 3 'cargo is not installed' "$menduvo"
     plant
-    runs 'it builds all' "$whole" 'rt cargo' 'it is red round' "$menduvo"
-    sleep 0.02
-    runs 'nothing to do, nothing said' "$slow" '' 'it is red round' "$menduvo"
-    runs 'then it starts nothing but readlink and find' "$quick" '' 'it is red round' "$menduvo"
+    runs 'it builds all, whatever a variable is called outside' "$whole" 'rt cargo' 'it is red round' env lock=1 "$menduvo"
+    runs 'nothing to do, nothing said, and nothing started but readlink and find' "$quick" '' 'it is red round' "$menduvo"
     echo blue >"$tree/tool/main.rs"
     runs 'the command changed' "$whole" cargo 'it is blue round' "$menduvo"
     echo square >"$tree/crates/lib.rt"
@@ -110,6 +107,9 @@ building() {
     runs 'the case of the demo changed' "$whole" cargo 'it is blue square' "$menduvo"
     mkdir "$tree/bindings/target" && : >"$tree/bindings/target/file"
     runs 'what cargo leaves beside the sources is no source' "$slow" '' 'it is blue square' "$menduvo"
+    sleep 0.02 && seen=$slow run "$menduvo"
+    : >"$tree/bindings/target/new"
+    runs 'what it leaves there later is not looked at' "$quick" '' 'it is blue square' "$menduvo"
     rm -r "$tree/target"
     runs 'target/ is gone' "$whole" 'rt cargo' 'it is blue square' "$menduvo"
     : >"$tree/broken" && : >"$tree/crates/newer.rt"
@@ -126,8 +126,7 @@ contents() {
     plant_built
     touch "$tree"/tool/* "$tree"/crates/* "$tree/target/staticlib/libmenduvo.a"
     runs 'new dates, and nothing else' "$slow" '' 'it is red round' "$menduvo"
-    sleep 0.02
-    run "$menduvo"
+    sleep 0.02 && seen=$slow run "$menduvo"
     runs 'they are looked at once' "$quick" '' 'it is red round' "$menduvo"
     echo blue >"$tree/tool/main.rs" && touch -d 2001-01-01 "$tree/tool/main.rs"
     runs 'a source changed, with an old date' "$whole" cargo 'it is blue round' "$menduvo"
@@ -139,8 +138,23 @@ contents() {
     runs 'the library is not the one that was built' "$whole" rt 'it is blue round' "$menduvo"
     echo 'echo other' >>"$tree/target/menduvo/release/menduvo"
     runs 'the command is not the one that was built' "$whole" cargo 'it is blue round' "$menduvo"
+    chmod -x "$tree/target/menduvo/release/menduvo"
+    runs 'the command is not executable' "$whole" cargo 'it is blue round' "$menduvo"
     : >"$tree/target/menduvo/command.stamp"
     runs 'a stamp is empty' "$whole" cargo 'it is blue round' "$menduvo"
+}
+
+# A source that is a symbolic link gets other contents, which changed in the very moment of the stamp.
+moments() {
+    plant && mkdir -p "$scratch"/{before,after} && ln -sfn before "$scratch/now" && echo red >"$scratch/before/main.rs"
+    ln -sf "$scratch/now/main.rs" "$tree/tool/main.rs" && sleep 0.02 && seen=$whole run "$menduvo"
+    touch "$tree/tool/Cargo.toml" && sleep 0.02 && echo blue >"$scratch/after/main.rs"
+    fake date "echo $(date -r "$scratch/after/main.rs" +%s%N)"
+    runs 'the stamp is renewed' "$scratch/fakes:$slow" '' 'it is red round' "$menduvo"
+    rm "$scratch/fakes/date"
+    runs 'it is renewed for the moment' "$quick" '' 'it is red round' "$menduvo"
+    ln -sfn after "$scratch/now"
+    runs 'a change in the moment of the stamp' "$whole" cargo 'it is blue round' "$menduvo"
 }
 
 # copy WORD FOLDER NAME..: copy these of the tree, in this order.
@@ -162,9 +176,8 @@ moving() {
     runs 'it is copied, target/ first' "$slow" '' 'it is red round' "$scratch/early/bin/menduvo"
     copy -a exact "${sources[@]}" target
     runs 'it is copied with its dates' "$slow" '' 'it is red round' "$scratch/exact/bin/menduvo"
-    sleep 0.02
-    runs 'a copy is looked at once more' "$slow" '' 'it is red round' "$scratch/late/bin/menduvo"
-    runs 'and then no more' "$quick" '' 'it is red round' "$scratch/late/bin/menduvo"
+    sleep 0.02 && seen=$slow run "$scratch/late/bin/menduvo"
+    runs 'and is looked at once' "$quick" '' 'it is red round' "$scratch/late/bin/menduvo"
     echo blue >"$tree/tool/main.rs"
     copy -r late "${sources[@]}" target
     runs 'it is copied with a source that changed since' "$whole" cargo 'it is blue round' "$scratch/late/bin/menduvo"
@@ -184,10 +197,11 @@ read_only() {
     result 'it is read-only' test "$status" != 0
     runs 'a copy that is read-only' "$slow" '' 'it is red round' "${as[@]}" "$scratch/fixed/bin/menduvo"
     chmod -R u+w "$scratch/fixed" && sleep 0.02 && seen=$slow run "$scratch/fixed/bin/menduvo"
-    find "$scratch/fixed" -type d -name menduvo -exec chmod a-w {} +
+    rm "$scratch/fixed/target/menduvo/lock" && chmod a-w "$scratch/fixed/target/menduvo"
     runs 'once it was looked at, that is not done again' "$quick" '' 'it is red round' "${as[@]}" "$scratch/fixed/bin/menduvo"
     echo blue >"$scratch/fixed/tool/main.rs"
     seen=$whole says 'a source changed, and nothing can be written' 3 'cannot write to' "${as[@]}" "$scratch/fixed/bin/menduvo"
+    seen=$whole says 'bash --posix says so, too' 3 'cannot write to' "${as[@]}" bash --posix "$scratch/fixed/bin/menduvo"
     chmod -R u+w "$scratch/fixed"
 }
 
@@ -328,7 +342,7 @@ standing() {
 
 # The commit for what is filed, in a scratch tree that is a repository.
 commits() {
-    local seen=$slow hash git=(git -C "$tree" -c user.name=name -c user.email=mail)
+    local seen=$slow hash name git=(git -c user.name=name -c user.email=mail -C "$tree") around=$scratch/around
     export GIT_CONFIG_GLOBAL=/dev/null GIT_CONFIG_SYSTEM=/dev/null
     plant_built
     runs 'there is no git' "$slow" '' 'it is red round, unknown' "$menduvo" file
@@ -347,7 +361,6 @@ commits() {
         env MENDUVO_COMMIT=x GIT_DIR="$scratch" GIT_INDEX_FILE="$scratch/x" "$menduvo" file
     : >"$tree/cases/new.case" && mkdir "$tree/docs" && : >"$tree/docs/new.md"
     runs 'a file that is no part of it' "$slow" '' "it is red round, $hash" "$menduvo" file
-    local name
     for name in crates/new.rt bindings/new tool/new.rs bin/new; do
         : >"$tree/$name"
         runs "there is a new $name" "$whole" "$(needs "$name")" "it is red round, $hash with changes" "$menduvo" file
@@ -358,9 +371,8 @@ commits() {
     runs 'a file differs' "$whole" cargo "it is blue round, $hash with changes" "$menduvo" file
     "${git[@]}" add tool
     runs 'it is added' "$whole" '' "it is blue round, $hash with changes" "$menduvo" file
-    mkdir "$scratch/around" && git init -q "$scratch/around" && rm -rf "$tree/.git" && mv "$tree" "$scratch/around/tree"
-    (cd "$scratch/around" && "${git[@]:0:1}" add tree/tool && git "${git[@]:3}" commit -qm all)
-    runs 'a repository around it' "$slow" '' 'it is blue round, unknown' "$scratch/around/tree/bin/menduvo" file
+    mkdir "$around" && mv "$tree" "$around/tree" && mv "$around/tree/.git" "$around/"
+    runs 'a repository around it' "$slow" '' 'it is blue round, unknown' "$around/tree/bin/menduvo" file
 }
 
 # needs NAME: which of rt and cargo a new file of this name, without contents, starts.
@@ -378,7 +390,7 @@ real() {
     says 'the command is built' 0 'menduvo 0.' bin/menduvo --version
     mkdir -p "$scratch/real/target" && cp -r bin crates crates.txt tool bindings cases "$scratch/real/"
     find target -maxdepth 1 \( -name 'menduvo*' -o -name staticlib \) -exec cp -r {} "$scratch/real/target/" \;
-    local version=$out seen=$slow
+    local version=${out##*$'\n'}
     runs 'the command runs in a copy of the tree' "$slow" '' "$version" "$scratch/real/bin/menduvo" --version
     cd "$scratch" || exit
     mv real 'moved again'
@@ -388,6 +400,7 @@ real() {
 
 building
 contents
+moments
 moving
 read_only
 together

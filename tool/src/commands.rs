@@ -7,7 +7,7 @@ use crate::input::Source;
 use crate::name::shown;
 use crate::output::Output;
 use crate::words::{all, numbers_in_lines};
-use crate::{demo, file, help, keep, picture, run, several, show, told, verified};
+use crate::{demo, file, help, keep, picture, report, run, said::Said, several, show, told, verified};
 use std::ffi::OsStr;
 
 pub fn perform(call: Call, output: &mut Output) -> Result<Status, Failure> {
@@ -15,12 +15,13 @@ pub fn perform(call: Call, output: &mut Output) -> Result<Status, Failure> {
         Call::Help(page) => output.say(&page.map_or_else(help::all, help::one)).map(|()| Status::Done),
         Call::Version => output.say(concat!("menduvo ", env!("CARGO_PKG_VERSION"), "\n")).map(|()| Status::Done),
         Call::Demo => demo::tell(output),
-        Call::List { cases, .. } => list(&cases[0], output),
-        Call::Show { cases, .. } => output.say(&show::text(&Loaded::from(&cases[0])?)).map(|()| Status::Done),
-        Call::Check { case, assignment, .. } => check(&case, &assignment, output),
+        Call::List { cases, json } => each(&cases, json, output, list),
+        Call::Show { cases, json } => each(&cases, json, output, show),
+        Call::Check { case, assignment, json } => check(&case, &assignment, json).tell(output),
         Call::Decode { case, assignment } => decode(&case, &assignment, output),
-        Call::Replay { case, schedule, .. } => replay(&case, &schedule, output),
+        Call::Replay { case, schedule, json } => replay(&case, &schedule, json).tell(output),
         Call::Solve(wanted) => match wanted.cases.as_slice() {
+            [case] if !several::is_several(&wanted.cases) && wanted.json => several::one_object(case, &wanted, output),
             [case] if !several::is_several(&wanted.cases) => told::one(case, &wanted, output),
             _ => several::all(wanted, output),
         },
@@ -30,29 +31,70 @@ pub fn perform(call: Call, output: &mut Output) -> Result<Status, Failure> {
     }
 }
 
-/// As the listing program: the counts and the constraints, or a refusal's number and place.
-fn list(source: &Source, output: &mut Output) -> Result<Status, Failure> {
-    let bytes = source.case_bytes()?;
-    output.say(&listing(&bytes)?)?;
-    // A refused case has a listing too; that it is refused is told besides.
-    Loaded::of(source, bytes).map(|_| Status::Done)
-}
-
-fn check(case: &Source, assignment: &Source, output: &mut Output) -> Result<Status, Failure> {
-    let loaded = Loaded::from(case)?;
-    let numbers = loaded.assignment(assignment)?;
-    match loaded.check(&assignment.name(), &numbers)? {
-        None => {
-            let constraints = all(loaded.table.rows.len(), "constraint", "constraints");
-            output.say(&format!("meets: the assignment meets {constraints}\n"))?;
-            Ok(Status::Done)
+/// One case after the other, each though an earlier one failed. The exit status is then the highest.
+fn each(cases: &[Source], json: bool, output: &mut Output, one: fn(&Source, bool) -> Said) -> Result<Status, Failure> {
+    let mut worst = Ok(Status::Done);
+    for case in cases {
+        if cases.len() > 1 && !json {
+            output.say(&format!("== {}\n", case.name()))?;
         }
-        Some(constraint) => {
-            let details = loaded.constraint_in_words(constraint, &numbers)?.join("\n  ");
-            output.say(&format!("fails: the assignment fails constraint {constraint}\n  {details}\n"))?;
-            Ok(Status::Found)
+        let Said { text, ended } = one(case, json);
+        output.say(&text)?;
+        if let Err(failure) = ended {
+            failure.report();
+            let so_far = worst.as_ref().err().map_or(0, Failure::status);
+            worst = Err(Failure::Told(failure.status().max(so_far)));
         }
     }
+    worst
+}
+
+/// As the listing program: the counts and the constraints, or a refusal's number and place.
+fn list(case: &Source, json: bool) -> Said {
+    let loaded = case.case_bytes().and_then(|bytes| Ok((listing(&bytes)?, Loaded::of(case, bytes))));
+    match (loaded, json) {
+        // A refused case has a listing too; that it is refused is told besides.
+        (Ok((text, loaded)), false) => Said { text, ended: loaded.map(|_| Status::Done) },
+        (Ok((_, Ok(loaded))), true) => Said::object(&report::listed(&loaded), Status::Done),
+        (Ok((_, Err(failure))) | Err(failure), _) => Said::failed("list", case, case, failure, json),
+    }
+}
+
+fn show(case: &Source, json: bool) -> Said {
+    match (Loaded::from(case), json) {
+        (Ok(loaded), true) => Said::object(&report::shown(&loaded), Status::Done),
+        (Ok(loaded), false) => Said { text: show::text(&loaded), ended: Ok(Status::Done) },
+        (Err(failure), _) => Said::failed("show", case, case, failure, json),
+    }
+}
+
+fn check(case: &Source, assignment: &Source, json: bool) -> Said {
+    let loaded = match Loaded::from(case) {
+        Ok(loaded) => loaded,
+        Err(failure) => return Said::failed("check", case, case, failure, json),
+    };
+    let checked = checked(&loaded, assignment, json);
+    checked.unwrap_or_else(|failure| Said::failed("check", case, assignment, failure, json))
+}
+
+fn checked(loaded: &Loaded, assignment: &Source, json: bool) -> Result<Said, Failure> {
+    let name = assignment.name();
+    let numbers = loaded.assignment(assignment)?;
+    let Some(constraint) = loaded.check(&name, &numbers)? else {
+        let constraints = all(loaded.table.rows.len(), "constraint", "constraints");
+        return Ok(match json {
+            true => Said::object(&report::meets(loaded, &name), Status::Done),
+            false => Said { text: format!("meets: the assignment meets {constraints}\n"), ended: Ok(Status::Done) },
+        });
+    };
+    let details = loaded.constraint_in_words(constraint, &numbers)?;
+    Ok(match json {
+        true => Said::object(&report::fails(loaded, &name, constraint, &details), Status::Found),
+        false => {
+            let text = format!("fails: the assignment fails constraint {constraint}\n  {}\n", details.join("\n  "));
+            Said { text, ended: Ok(Status::Found) }
+        }
+    })
 }
 
 fn decode(case: &Source, assignment: &Source, output: &mut Output) -> Result<Status, Failure> {
@@ -62,12 +104,18 @@ fn decode(case: &Source, assignment: &Source, output: &mut Output) -> Result<Sta
     output.say(&numbers_in_lines(&schedule)).map(|()| Status::Done)
 }
 
-fn replay(case: &Source, schedule: &Source, output: &mut Output) -> Result<Status, Failure> {
-    let loaded = Loaded::from(case)?;
-    let numbers = loaded.schedule(schedule)?;
-    let run = run::replay(&loaded, &schedule.name(), &numbers)?;
-    output.say(&run.text(&loaded.case, &numbers))?;
-    Ok(run.status())
+fn replay(case: &Source, schedule: &Source, json: bool) -> Said {
+    let loaded = match Loaded::from(case) {
+        Ok(loaded) => loaded,
+        Err(failure) => return Said::failed("replay", case, case, failure, json),
+    };
+    let numbers = loaded.schedule(schedule);
+    let run = numbers.and_then(|numbers| Ok((run::replay(&loaded, &schedule.name(), &numbers)?, numbers)));
+    match (run, json) {
+        (Ok((run, numbers)), true) => Said::object(&report::replayed(&loaded, &numbers, &run), run.status()),
+        (Ok((run, numbers)), false) => Said { text: run.text(&loaded.case, &numbers), ended: Ok(run.status()) },
+        (Err(failure), _) => Said::failed("replay", case, schedule, failure, json),
+    }
 }
 
 fn draw(case: &Source, schedule: &Source, file: &OsStr, force: bool, output: &mut Output) -> Result<Status, Failure> {

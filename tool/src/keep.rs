@@ -50,8 +50,8 @@ impl Keep {
         Path::new(&self.folder).join(name)
     }
 
-    /// The answer that is filed for this case, where answers are resumed and there is one.
-    pub fn filed(&self, loaded: &Loaded) -> Result<Option<Summary>, Failure> {
+    /// The answer that is filed for this case, where answers are resumed and there is one. Its object has the status of this call.
+    pub fn filed(&self, loaded: &Loaded, strict: bool) -> Result<Option<Summary>, Failure> {
         if !self.resume {
             return Ok(None);
         }
@@ -61,7 +61,7 @@ impl Keep {
             Err(error) if error.kind() == ErrorKind::NotFound => return Ok(None),
             Err(error) => return Err(Failure::Other(format!("{}: {error}", shown(file.as_os_str())))),
         };
-        let (case, summary) = read_back(&text, &loaded.name)
+        let (case, summary) = read_back(&text, &loaded.name, strict)
             .ok_or_else(|| Failure::Other(format!("{}: not an answer that this command wrote", shown(file.as_os_str()))))?;
         match case == sha256::hex(&loaded.case.bytes) {
             true => Ok(FINAL.contains(&summary.word.as_str()).then_some(summary)),
@@ -153,12 +153,12 @@ fn answer_file(loaded: &Loaded, summary: &Summary) -> String {
 }
 
 /// The hash of the case that an answer is of, and the answer.
-fn read_back(text: &str, name: &str) -> Option<(String, Summary)> {
+fn read_back(text: &str, name: &str, strict: bool) -> Option<(String, Summary)> {
     let mut lines = text.strip_suffix('\n')?.split('\n');
     lines.next().filter(|line| *line == FORM)?;
     let mut part = |name: &str| lines.next()?.strip_prefix(name)?.strip_prefix(' ').map(str::to_string);
     let case = part("case")?;
-    let summary = Summary {
+    let mut summary = Summary {
         name: name.to_string(),
         word: part("answer").filter(|word| ANSWERS.contains(&word.as_str()))?,
         size: part("size")?,
@@ -166,9 +166,10 @@ fn read_back(text: &str, name: &str) -> Option<(String, Summary)> {
         status: part("status")?.parse().ok()?,
         whole: part("whole")?.parse().ok()?,
         note: part("note")?,
-        json: objects::resumed(&part("json")?),
+        json: part("json")?,
         message: None,
         resumed: true,
     };
+    summary.json = objects::resumed(&summary.json, name, summary.status(strict))?;
     lines.next().is_none().then_some((case, summary))
 }

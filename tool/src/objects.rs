@@ -11,7 +11,7 @@ use crate::summary::Summary;
 pub fn failed(command: &str, case: &str, input: &str, failure: &Failure) -> Json {
     let mut fields: Vec<(&'static str, Json)> =
         vec![("command", command.into()), ("case", case.into()), ("status", (failure.status().unsigned_abs() as usize).into())];
-    if failure.status() == Failure::STATUS_REFUSED {
+    if let Failure::ByLibrary(..) | Failure::Refused(_) = failure {
         let refusal = failure.refusal().map(|refusal| {
             Json::Object(vec![
                 ("number", refusal.number.into()),
@@ -64,12 +64,13 @@ pub fn solved(loaded: &Loaded, asking: &Asking, solved: &Solved, strict: bool) -
     ])
 }
 
-/// The object of an answer that was filed before.
-pub fn resumed(json: &str) -> String {
-    match json.strip_suffix("\"resumed\":false}") {
-        Some(rest) => format!("{rest}\"resumed\":true}}"),
-        None => json.to_string(),
-    }
+/// The object of an answer that was filed before: its case may have another name by now, and its status goes by this call's
+/// options. Nothing where the text is no such object. A quote within a name is escaped, so the first `,"answer":` is the field.
+pub fn resumed(filed: &str, case: &str, status: i32) -> Option<String> {
+    let (_, rest) = filed.split_once(",\"answer\":")?;
+    let rest = rest.strip_suffix("\"resumed\":false}")?;
+    let case = Json::from(case);
+    Some(format!("{{\"command\":\"solve\",\"case\":{case},\"status\":{status},\"answer\":{rest}\"resumed\":true}}"))
 }
 
 /// What came of several cases: how many have each answer, and each one's answer, in the order of the cases.

@@ -1,4 +1,5 @@
-//! `solve` on several cases: each one's line is printed when it is known, and in the end a table in the order of the cases.
+//! `solve` on several cases: each one's line is printed when it is known, and in the end a table in the order of the cases. Of one
+//! case alone, its object.
 
 use crate::failure::{note, Failure, Status};
 use crate::input::Source;
@@ -22,10 +23,19 @@ pub fn is_several(cases: &[Source]) -> bool {
     cases.len() > 1 || cases.iter().any(Source::is_folder)
 }
 
+/// `solve CASE --json`: an object, and no summary.
+pub fn one_object(case: &Source, wanted: &Wanted, output: &mut Output) -> Result<Status, Failure> {
+    let (asking, _) = prepared(wanted, false, output)?;
+    let summary = Summary::of(case, wanted, &asking);
+    output.say(&format!("{}\n", summary.json))?;
+    if let Some(message) = &summary.message {
+        note(message);
+    }
+    ended(summary.status(wanted.strict))
+}
+
 pub fn all(wanted: Wanted, output: &mut Output) -> Result<Status, Failure> {
-    let asking = wanted.settings.asking(true)?;
-    let cases = expanded(&wanted.cases)?;
-    ready(&wanted, &cases)?;
+    let (asking, cases) = prepared(&wanted, true, output)?;
     let (wanted, cases) = (Arc::new(wanted), Arc::new(cases));
     let names: Vec<String> = cases.iter().map(Source::name).collect();
     let columns = Columns { name: names.iter().map(|name| name.chars().count()).max().unwrap_or(0).max(4) };
@@ -62,11 +72,30 @@ pub fn all(wanted: Wanted, output: &mut Output) -> Result<Status, Failure> {
         (false, false) => format!("\nin the order of the cases:\n{}{}", columns.table(&summaries), counts(&summaries)),
     })?;
     tell_failures(&summaries);
+    ended(status)
+}
+
+fn ended(status: i32) -> Result<Status, Failure> {
     match status {
         0 => Ok(Status::Done),
         1 => Ok(Status::Found),
         status => Err(Failure::Told(status)),
     }
+}
+
+/// Whom to ask, and the cases. Where nothing can begin, there is an object for each operand that says so.
+fn prepared(wanted: &Wanted, many: bool, output: &mut Output) -> Result<(Asking, Vec<Source>), Failure> {
+    let prepared = wanted.settings.asking(many).and_then(|asking| {
+        let cases = expanded(&wanted.cases)?;
+        ready(wanted, &cases)?;
+        Ok((asking, cases))
+    });
+    if let (Err(failure), true) = (&prepared, wanted.json) {
+        for name in wanted.cases.iter().map(Source::name) {
+            output.say(&format!("{}\n", objects::failed("solve", &name, &name, failure)))?;
+        }
+    }
+    prepared
 }
 
 /// The cases, with the files of a folder that end in .case in its place, by name.

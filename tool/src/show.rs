@@ -1,8 +1,7 @@
 //! A case as readable text: its header, and each thread's lines with their copies.
 
 use crate::calls::Loaded;
-use crate::case::{Case, Record};
-use crate::table::Row;
+use crate::case::Case;
 use crate::words::{count, enumeration, items_in_words, Name, LEGEND};
 
 pub fn text(loaded: &Loaded) -> String {
@@ -48,32 +47,33 @@ fn blocks(case: &Case, thread: usize) -> String {
 
 fn line_cells(loaded: &Loaded, number: u16, line: usize) -> [String; 5] {
     let record = loaded.case.record(number);
-    let copies = loaded.table.value_row(number).map(|row| copies(record, row)).unwrap_or_default();
+    let copies = copies(loaded, number).into_iter().map(|(name, copy)| match copy {
+        0 => format!("{name}: none"),
+        copy => format!("{name}: {copy}"),
+    });
     let guard = record.guard_words().unwrap_or_else(|| "always".to_string());
-    [line.to_string(), number.to_string(), guard, record.action(), copies]
+    [line.to_string(), number.to_string(), guard, record.action(), copies.collect::<Vec<_>>().join(", ")]
 }
 
-/// The names of a line with their copies, as the table has them.
-fn copies(record: &Record, row: Row) -> String {
-    let [_, _, guard_copy, a_copy, b_copy, target_copy] = row;
+/// The names of a line with their copies, as the table has them: each once, and 0 for no copy.
+pub fn copies(loaded: &Loaded, number: u16) -> Vec<(Name, u16)> {
+    let record = loaded.case.record(number);
+    let Some([_, _, guard_copy, a_copy, b_copy, target_copy]) = loaded.table.value_row(number) else {
+        return Vec::new();
+    };
     let named = [
         (record.guard_local().map(Name::Local), guard_copy),
         (record.a_name(), a_copy),
         (record.b_name(), b_copy),
         (record.target_name(), target_copy),
     ];
-    let mut words: Vec<String> = Vec::new();
+    let mut copies: Vec<(Name, u16)> = Vec::new();
     for (name, copy) in named {
-        let Some(name) = name else { continue };
-        let word = match copy {
-            0 => format!("{name}: none"),
-            copy => format!("{name}: {copy}"),
-        };
-        if !words.contains(&word) {
-            words.push(word);
+        if let Some(one) = name.map(|name| (name, copy)).filter(|one| !copies.contains(one)) {
+            copies.push(one);
         }
     }
-    words.join(", ")
+    copies
 }
 
 /// Cells in columns, the first two to the right.

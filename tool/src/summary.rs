@@ -79,7 +79,7 @@ impl Summary {
 
 fn answered(source: &Source, wanted: &Wanted, asking: &Asking) -> Result<Summary, Failure> {
     let loaded = Loaded::from(source)?;
-    if let Some(filed) = wanted.keep.as_ref().map(|keep| keep.filed(&loaded)).transpose()?.flatten() {
+    if let Some(filed) = wanted.keep.as_ref().map(|keep| keep.filed(&loaded, wanted.strict)).transpose()?.flatten() {
         return Ok(filed);
     }
     let solved = solve(&loaded, asking, &mut |_| {})?;

@@ -18,28 +18,20 @@ pub fn one(source: &Source, wanted: &Wanted, output: &mut Output) -> Result<Stat
     let loaded = Loaded::from(source)?;
     if let Some(keep) = &wanted.keep {
         keep.prepare(&loaded.stem)?;
-        if let Some(filed) = keep.filed(&loaded)? {
+        if let Some(filed) = keep.filed(&loaded, wanted.strict)? {
             return resumed(&filed, &keep.folder, wanted, output);
         }
     }
-    if !wanted.json {
-        let constraints = count(loaded.table.rows.len(), "constraint", "constraints");
-        let variables = count(loaded.table.variables, "variable", "variables");
-        output.say(&format!("{}: {constraints} over {variables}\n", loaded.name))?;
-    }
+    let constraints = count(loaded.table.rows.len(), "constraint", "constraints");
+    let variables = count(loaded.table.variables, "variable", "variables");
+    output.say(&format!("{}: {constraints} over {variables}\n", loaded.name))?;
     let mut said = Ok(());
-    let solved = solve(&loaded, &asking, &mut |verdict| {
-        if !wanted.json {
-            said = output.say(&answer(&loaded, &asking.names(), verdict));
-        }
-    })?;
+    let names = asking.names();
+    let solved = solve(&loaded, &asking, &mut |verdict| said = output.say(&answer(&loaded, &names, verdict)))?;
     said?;
-    let object = objects::solved(&loaded, &asking, &solved, wanted.strict).to_string();
-    output.say(&match wanted.json {
-        true => format!("{object}\n"),
-        false => format!("{}{}", asserts(&loaded, &solved.reach), warning(&solved)),
-    })?;
+    output.say(&format!("{}{}", asserts(&loaded, &solved.reach), warning(&solved)))?;
     if let Some(keep) = &wanted.keep {
+        let object = objects::solved(&loaded, &asking, &solved, wanted.strict).to_string();
         keep.keep(&loaded, &solved, &Summary::of_solved(&loaded, &solved, object))?;
     }
     ending(solved.status(wanted.strict), solved.verdict.trouble())
@@ -47,10 +39,7 @@ pub fn one(source: &Source, wanted: &Wanted, output: &mut Output) -> Result<Stat
 
 /// An answer that was filed before.
 fn resumed(filed: &Summary, folder: &OsStr, wanted: &Wanted, output: &mut Output) -> Result<Status, Failure> {
-    output.say(&match wanted.json {
-        true => format!("{}\n", filed.json),
-        false => format!("{}: filed in {} already: {}: {}\n", filed.name, shown(folder), filed.word, filed.note),
-    })?;
+    output.say(&format!("{}: filed in {} already: {}: {}\n", filed.name, shown(folder), filed.word, filed.note))?;
     ending(filed.status(wanted.strict), &filed.note)
 }
 

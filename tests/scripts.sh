@@ -1,0 +1,585 @@
+#!/usr/bin/env bash
+# Tests what scripts build on: every object that the command prints with --json is as docs/output.schema.json says, text and
+# objects agree, and the commands of docs/PARALLEL.md do what stands there. tests/json reads the objects and holds them to the
+# schema; that it can say no is tested first.
+set -u
+cd -- "$(dirname -- "${BASH_SOURCE[0]}")/.." || exit
+. tests/counting.sh || exit
+. tests/helpers.sh || exit
+scratch=$(mktemp -d) || exit
+trap 'rm -rf -- "$scratch"' EXIT
+menduvo=$PWD/bin/menduvo
+json=$PWD/target/json/release/menduvo-json
+schema=$PWD/docs/output.schema.json
+seen=$PATH # the PATH that the command sees
+export TMPDIR=$scratch
+
+# ---- The reader and the validator.
+
+# reads NAME STATUS SCHEMA: the validator's exit status on standard input.
+reads() {
+    out=$("$json" validate <(printf '%s' "$3") 2>&1)
+    status=$?
+    result "$1" test "$status" = "$2"
+}
+
+reader() {
+    local text
+    while read -r text; do
+        reads "JSON: $text" 0 '{}' <<<"$text"
+    done <<'GOOD'
+{}
+ { "a" : [ ] , "b" : { } , "c" : [ 1 , [ ] ] }
+{"a":[0,-0,12,-1.5,1e3,1E-3,0.25e+2,true,false,null]}
+{"a":"\"\\\/\b\f\n\r\t\u00e4\ud83d\ude00 ä😀"}
+GOOD
+    while read -r text; do
+        reads "no JSON: $text" 1 '{}' <<<"$text"
+    done <<'BAD'
+[1]
+1
+null
+{"a":01}
+{"a":1.}
+{"a":.5}
+{"a":+1}
+{"a":-}
+{"a":1e}
+{"a":0x10}
+{"a":1e999}
+{"a":NaN}
+{"a":nul}
+{"a":True}
+{"a":1,}
+{,}
+{"a":[1,]}
+{"a":[,1]}
+{"a":[1 2]}
+{"a" 1}
+{"a"}
+{a:1}
+{'a':1}
+{"a":1}}
+{"a":1}{"b":1}
+{"a":1
+{"a":"x
+{"a":"\x"}
+{"a":"\u12g4"}
+{"a":"\u+123"}
+{"a":"\ud800"}
+{"a":"\ud800\u0041"}
+{"a":"\udc00"}
+{"a":1,"a":2}
+// {"a":1}
+BAD
+    reads 'an empty line' 1 '{}' <<<$'{}\n\n{}'
+    reads 'a tab in a text' 1 '{}' <<<$'{"a":"\t"}'
+    reads 'a form feed for a blank' 1 '{}' <<<$'{\f}'
+    reads 'a mark of byte order' 1 '{}' <<<$'\ufeff{}'
+    reads 'bytes that are no UTF-8' 1 '{}' <<<$'{"a":"\xff"}'
+    reads 'no line' 1 '{}' </dev/null
+    reads 'a line that does not end' 1 '{}' < <(printf '{}')
+    reads 'lists without end' 1 '{}' < <(printf '{"a":'; printf '[%.0s' {1..100000}; echo)
+    out=$("$json" get a 1 b <<<$'{"a":[0,{"b":"x\\u0041\\ny"}]}\n{"a":[0,{"b":1.5}]}')
+    result 'a value is found' test "$out" = $'xA\ny\n1.5'
+}
+
+# Each keyword can say no, and one that is not known is refused wherever it stands. A line: status, schema, object.
+keywords() {
+    local wanted text object
+    while IFS='|' read -r wanted text object; do
+        reads "$text with $object" "$wanted" "$text" <<<"$object"
+    done <<'SCHEMAS'
+0|{"properties":{"a":{"type":"integer"}}}|{"a":1}
+1|{"properties":{"a":{"type":"integer"}}}|{"a":1.5}
+1|{"properties":{"a":{"type":"integer"}}}|{"a":"1"}
+0|{"properties":{"a":{"type":"number"}}}|{"a":1.5}
+1|{"properties":{"a":{"type":"number"}}}|{"a":true}
+0|{"properties":{"a":{"type":["string","null"]}}}|{"a":null}
+1|{"properties":{"a":{"type":["string","null"]}}}|{"a":false}
+1|{"properties":{"a":{"type":"array"}}}|{"a":{}}
+1|{"properties":{"a":{"type":"object"}}}|{"a":[]}
+1|{"properties":{"a":{"type":"boolean"}}}|{"a":null}
+0|{"properties":{"a":{"const":"x"}}}|{"a":"x"}
+1|{"properties":{"a":{"const":"x"}}}|{"a":"y"}
+1|{"properties":{"a":{"const":1}}}|{"a":"1"}
+1|{"properties":{"a":{"enum":[1,"x"]}}}|{"a":2}
+1|{"properties":{"a":{}},"required":["a"]}|{"b":1}
+0|{"properties":{"a":{}},"required":["a"]}|{"b":1,"a":null}
+1|{"properties":{"a":{}},"additionalProperties":false}|{"a":1,"b":1}
+1|{"properties":{"a":{"items":{"const":1}}}}|{"a":[1,1,2]}
+0|{"properties":{"a":{"minItems":2,"maxItems":3}}}|{"a":[1,1]}
+1|{"properties":{"a":{"minItems":2,"maxItems":3}}}|{"a":[1]}
+1|{"properties":{"a":{"minItems":2,"maxItems":3}}}|{"a":[1,1,1,1]}
+0|{"properties":{"a":{"minimum":1,"maximum":2}}}|{"a":2}
+1|{"properties":{"a":{"minimum":1,"maximum":2}}}|{"a":0}
+1|{"properties":{"a":{"minimum":1,"maximum":2}}}|{"a":3}
+0|{"properties":{"a":{"oneOf":[{"const":1},{"const":2}]}}}|{"a":2}
+1|{"properties":{"a":{"oneOf":[{"const":1},{"const":2}]}}}|{"a":3}
+1|{"properties":{"a":{"oneOf":[{"const":1},{"type":"integer"}]}}}|{"a":1}
+0|{"$defs":{"x":{"const":1}},"properties":{"a":{"$ref":"#/$defs/x"}}}|{"a":1}
+1|{"$defs":{"x":{"const":1}},"properties":{"a":{"$ref":"#/$defs/x"}}}|{"a":2}
+2|{"pattern":"x"}|{}
+2|{"properties":{"a":{"format":"x"}}}|{}
+2|{"$defs":{"x":{"allOf":[]}}}|{}
+2|{"properties":{"a":{"items":{"uniqueItems":true}}}}|{}
+2|{"oneOf":[{"not":{}}]}|{}
+2|{"additionalProperties":true}|{}
+2|{"additionalProperties":{}}|{}
+2|{"properties":{"a":true}}|{}
+2|{"type":"int"}|{}
+2|{"const":[1]}|{}
+2|{"required":["a"],"properties":{"b":{}}}|{}
+2|{"$ref":"#/$defs/none"}|{}
+2|{"$ref":"other.json"}|{}
+2|{"$defs":{"x":{"$ref":"#/$defs/x"}}}|{}
+2|{"maximum":"1"}|{}
+2|[]|{}
+2|{"type":}|{}
+SCHEMAS
+    reads 'a path is told' 1 '{"properties":{"a":{"items":{"properties":{"b":{"const":1}}}}}}' <<<'{"a":[{},{"b":2}]}'
+    result 'it is the path' test "$out" = 'line 1: /a/1/b: is none of: 1'
+    reads 'a line is told' 1 '{"properties":{"a":{}},"required":["a"]}' <<<$'{"a":1}\n{}'
+    result 'it is the line' test "$out" = "line 2: /: has no 'a'"
+}
+
+# ---- The objects.
+
+# A solver's model of case A, as get-value gives it.
+model='((v0 #x0000) (v1 #x0000) (v2 #x0000) (v3 #x0001) (v4 #x0002) (v5 #x0005)
+ (v6 #x0002) (v7 #x0000) (v8 #x0001) (v9 #x0005) (v10 #x0001) (v11 #x0005))'
+
+# called ARGUMENTS..: calls the command with --json. Sets status; the objects stay in a file, and so do messages.
+called() {
+    env PATH="$seen" timeout 60 "$menduvo" "$@" --json >"$scratch/objects" 2>"$scratch/errors" <"${input:-/dev/null}"
+    status=$?
+    out=$(cat "$scratch/objects" "$scratch/errors")
+    cat "$scratch/objects" >>"$scratch/all"
+}
+
+get() {
+    "$json" get "$@" <"$scratch/objects" 2>&1
+}
+
+# has LINES STATUSES ANSWERS: so many valid objects were printed, with these statuses and these answers.
+has() {
+    [ "$("$json" validate "$schema" <"$scratch/objects" 2>&1)" = "$1 lines, all valid" ] &&
+        [ "$(get status)" = "$2" ] && [ "$(get answer)" = "$3" ]
+}
+
+# object NAME STATUS ANSWER ARGUMENTS..: with --json the command prints one object with this status and this answer, and ends
+# with that status, as it does without.
+object() {
+    local name=$1 wanted=$2 answer=$3 plain
+    shift 3
+    env PATH="$seen" timeout 60 "$menduvo" "$@" >"$scratch/text" 2>"$scratch/told" <"${input:-/dev/null}"
+    plain=$?
+    called "$@"
+    result "$name" eval '[ "$plain" = "$wanted" ] && [ "$status" = "$wanted" ] && has 1 "$wanted" "$answer"'
+}
+
+# is NAME VALUE FIELD..: the field of the object has this value.
+is() {
+    local name=$1 wanted=$2 value
+    shift 2
+    value=$(get "$@")
+    result "$name: $* is $value" test "$value" = "$wanted"
+}
+
+# tells NAME: what is told on standard error is the object's message, as it is without --json.
+tells() {
+    local lines=() line
+    for ((line = 0; line < $(get message); line++)); do lines+=("$(get message "$line")"); done
+    printf 'menduvo: %s\n' "$(printf '%s\n' "${lines[@]}")" >"$scratch/message"
+    result "$1, the message" eval 'cmp -s "$scratch/message" "$scratch/errors" && cmp -s "$scratch/told" "$scratch/errors"'
+}
+
+checks() {
+    object 'check, meets' 0 meets check cases/case-a.case cases/case-a.assignment
+    is 'check, meets' cases/case-a.case case
+    is 'check, meets' cases/case-a.assignment assignment
+    is 'check, meets' 18 constraints
+    result 'no message' test ! -s "$scratch/errors"
+    echo 0 0 0 2 2 5 2 0 1 5 1 5 >"$scratch/fails"
+    object 'check, fails' 1 fails check cases/case-a.case "$scratch/fails"
+    local constraint line
+    constraint=$(get constraint)
+    result 'the constraint is the one of the text' grep -q "fails constraint $constraint\$" "$scratch/text"
+    result 'the row is that constraint' test "$(sed -n $((constraint + 1))p tests/command/list-case-a.expected)" = \
+        "$(for line in {0..5}; do get row "$line"; done | tr '\n' ' ' | sed 's/ $//')"
+    for ((line = 0; line < $(get words); line++)); do get words "$line"; done >"$scratch/words"
+    result 'the words are those of the text' cmp -s "$scratch/words" <(sed -n 's/^  //p' "$scratch/text")
+    fields 2 0 0 0 0 0 0 0 0 0 0 0 0 0 0 0 >"$scratch/empty.case"
+    object 'check, one constraint over nothing' 1 fails check "$scratch/empty.case" /dev/null
+}
+
+replays() {
+    object 'replay, violated' 1 violated replay cases/case-a.case cases/case-a.schedule
+    is 'replay, violated' 4 record
+    result 'the record is the one of the text' grep -q '^violated: record 4 ' "$scratch/text"
+    is 'replay, violated' 3 schedule
+    is 'replay, violated' G0 items 0 name
+    result 'the items are those of the text' grep -q "^end: G0 = $(get items 0 value)\$" "$scratch/text"
+    is 'replay, violated' 5 steps
+    result 'the steps are those of the text' test "$(grep -c ' record ' "$scratch/text")" = 6
+    local field step=
+    for field in block thread line record does event words; do step+="$(get steps 2 "$field"), "; done
+    result 'a step' test "$step" = '1, 1, 1, 5, G0 = 5, set, G0 = 5, '
+    result 'the broken one' eval '[ "$(get steps 4 event)" = broken ] && [ "$(get steps 4 words)" = "5 == 1 is false" ]'
+    object 'replay, clean' 0 clean replay cases/interlock.case cases/interlock.schedule
+    is 'replay, clean' null record
+    object 'replay, cut off' 0 'cut off' replay cases/lock-order.case cases/lock-order.schedule
+    result 'the record is the one of the text' grep -q "^cut off: record $(get record) " "$scratch/text"
+    object 'replay of a model' 1 violated replay cases/case-a.case tests/command/z3.model
+    is 'replay of a model' 3 schedule
+    sed 's/#x0001/#x0002/' tests/command/z3.model >"$scratch/wrong.model"
+    object 'replay of a model that fails' 1 refused replay cases/case-a.case "$scratch/wrong.model"
+    is 'replay of a model that fails' 15 refusal number
+    is 'replay of a model that fails' "$scratch/wrong.model" input
+    tells 'replay of a model that fails'
+}
+
+listings() {
+    local name
+    for name in cases/*.case; do
+        object "list $name" 0 listed list "$name"
+        # The rows, written as the listing has them.
+        { echo "$(get constraints) $(get variables)"
+            sed 's/.*"rows":\[\[//; s/\]\].*//; s/\],\[/\n/g' "$scratch/objects" | tr , ' '
+        } >"$scratch/rows"
+        result "list $name: the rows are those of the text" cmp -s "$scratch/rows" "$scratch/text"
+        object "show $name" 0 shown show "$name"
+        is "show $name" "$name" case
+        result "show $name: the counts are those of the text" grep -q \
+            "^$(get constraints) constraints over $(get variables) variables\$" "$scratch/text"
+        # Each line with its copies, written as the text has it but for the width of its columns.
+        grep -o '{"line":[0-9]*,"record":[0-9]*,"guard":[^,]*,"does":"[^"]*","copies":\[[^]]*' "$scratch/objects" | sed -E '
+            s/\{"line":([0-9]+),"record":([0-9]+),"guard":(null|"[^"]*"),"does":"([^"]*)","copies":\[/\1 \2 \3 \4 /
+            s/ null / always /
+            s/\{"name":("[^"]*"),"copy":0\}/\1: none/g
+            s/\{"name":("[^"]*"),"copy":([0-9]+)\}/\1: \2/g
+            s/,"/, /g
+            s/"//g' >"$scratch/rows"
+        grep -E '^ +[0-9]+ +[0-9]+ ' "$scratch/text" | tr -s ' ' | sed 's/^ //' >"$scratch/lines"
+        result "show $name: the lines are those of the text" cmp -s "$scratch/rows" "$scratch/lines"
+        result "show $name: there are lines" test -s "$scratch/lines"
+    done
+    object 'show, a case without a record' 0 shown show "$scratch/empty.case"
+}
+
+# What is refused, and what is not there: in every command, for every input.
+failures() {
+    local command
+    damaged 0 5
+    for command in list show solve; do
+        object "$command, a refused case" 2 refused "$command" "$scratch/damaged.case"
+        is "$command, a refused case" 2 refusal number
+        is "$command, a refused case" "$scratch/damaged.case" input
+        tells "$command, a refused case"
+        object "$command, no case" 3 failed "$command" "$scratch/none.case"
+        tells "$command, no case"
+        object "$command, a case on standard input that is refused" 2 refused "$command" -
+        is "$command, a case on standard input" 'standard input' case
+    done
+    for command in check replay; do
+        object "$command, a refused case" 2 refused "$command" "$scratch/damaged.case" cases/case-a.assignment
+        is "$command, a refused case" "$scratch/damaged.case" input
+        object "$command, no case" 3 failed "$command" "$scratch/none.case" cases/case-a.assignment
+        object "$command, no numbers" 3 failed "$command" cases/case-a.case "$scratch/none"
+        tells "$command, no numbers"
+        echo 1 2 x >"$scratch/short"
+        object "$command, no number" 2 refused "$command" cases/case-a.case "$scratch/short"
+        is "$command, no number" null refusal
+        is "$command, no number" "$scratch/short" input
+        is "$command, no number" cases/case-a.case case
+        tells "$command, no number"
+        echo 1 >"$scratch/short"
+        object "$command, too few numbers" 2 refused "$command" cases/case-a.case "$scratch/short"
+        is "$command, too few numbers" "$scratch/short" input
+        tells "$command, too few numbers"
+        input=cases/case-a.case object "$command, both from standard input and a file" 2 refused "$command" - "$scratch/short"
+        called "$command" cases/case-a.case
+        result "$command, wrong arguments have no object" eval '[ "$status" = 3 ] && [ ! -s "$scratch/objects" ]'
+    done
+    called solve cases --jobs 0
+    result 'solve, wrong arguments have no object' eval '[ "$status" = 3 ] && [ ! -s "$scratch/objects" ]'
+    called decode cases/case-a.case cases/case-a.assignment
+    result 'decode has no --json' eval '[ "$status" = 3 ] && [ ! -s "$scratch/objects" ]'
+}
+
+# Whatever a file is called, its object is one line, and has the name that the text has.
+names() {
+    local name shown seen=$scratch/fakes:$seen
+    fake z3 "cat >/dev/null; echo sat; echo '$model'"
+    for name in 'quo"te' $'new\nline' $'\e[2Jclear' $'no\xff\xfeutf' 'back\slash' $'tab\tbed' 'ünï😀' $'\u202eturned' \
+        '","status":0,"answer":"unsat' ' '; do
+        cp cases/case-a.case "$scratch/$name.case"
+        object "show $(printf %q "$name")" 0 shown show "$scratch/$name.case"
+        shown=$(get case)
+        result 'the name is that of the text' test "$(head -n 1 "$scratch/text")" = \
+            "$shown: 2 threads, 2 switches, 1 global, 0 mutexes, 5 records"
+        object "check $(printf %q "$name")" 2 refused check cases/case-a.case "$scratch/$name.case"
+        is 'check' "$shown" input
+        object "solve $(printf %q "$name")" 1 violated solve "$scratch/$name.case"
+        is 'solve' "$shown" case
+        called solve "$scratch/$name.case" --resume "$scratch/named"
+        called solve "$scratch/$name.case" --resume "$scratch/named"
+        result 'it is resumed' eval 'has 1 1 violated && [ "$(get case)" = "$shown" ] && [ "$(get resumed)" = true ]'
+        rm -r "$scratch/$name.case" "$scratch/named"
+    done
+}
+
+several() {
+    local a=cases/case-a.case b=cases/lock-order.case command
+    damaged 0 5
+    for command in list show; do
+        run "$menduvo" "$command" "$a" "$b"
+        { echo "== $a"; "$menduvo" "$command" "$a"; echo "== $b"; "$menduvo" "$command" "$b"; } >"$scratch/both"
+        result "$command, two cases" eval '[ "$status" = 0 ] && cmp -s "$scratch/out" "$scratch/both"'
+        called "$command" "$a" "$b"
+        result "$command, two objects" eval '[ "$status" = 0 ] && [ "$(get case)" = "$a"$'"'\n'"'"$b" ] && [ "$(get status)" = $'"'0\n0'"' ]'
+        run "$menduvo" "$command" "$scratch/damaged.case" "$a"
+        result "$command, the first is refused" eval '[ "$status" = 2 ] && [[ $out = *"refusal 2"*"== $a"* ]]'
+        run "$menduvo" "$command" "$scratch/damaged.case" "$scratch/none" "$a"
+        result "$command, one is not there" eval '[ "$status" = 3 ] && [[ $out = *"refusal 2"*"none: No such"*"== $a"* ]]'
+        run "$menduvo" "$command" "$scratch/none" "$scratch/damaged.case"
+        result "$command, the status does not go by their order" test "$status" = 3
+        called "$command" "$scratch/damaged.case" "$scratch/none" "$a"
+        result "$command, three objects" eval '[ "$status" = 3 ] && [ "$(get status)" = $'"'2\n3\n0'"' ] && has_all 3'
+        result "$command, two messages" test "$(grep -c '^menduvo: ' "$scratch/errors")" = 2
+        run bash -c "'$menduvo' $command $a $b --json >/dev/full"
+        result "$command, standard output is full" eval '[ "$status" = 3 ] && [ "$(grep -c "standard output: " "$scratch/out")" = 1 ]'
+        run bash -c "'$menduvo' $command $a $b >&-"
+        result "$command, standard output is closed" eval '[ "$status" = 3 ] && [[ $out = *"standard output is closed"* ]]'
+    done
+    for command in 'check cases/case-a.case cases/case-a.assignment' 'replay cases/case-a.case cases/case-a.schedule' \
+        'check cases/case-a.case none' 'solve cases/case-a.case' 'solve cases'; do
+        run bash -c "'$menduvo' $command --json >/dev/full"
+        result "$command, standard output is full" eval '[ "$status" = 3 ] && [[ $out = *"standard output: "* ]]'
+    done
+}
+
+# has_all LINES: so many valid objects were printed.
+has_all() {
+    [ "$("$json" validate "$schema" <"$scratch/objects" 2>&1)" = "$1 lines, all valid" ]
+}
+
+# ---- solve, with solvers that are fakes, and with z3.
+
+solves() {
+    local seen=$scratch/fakes:$seen a=cases/case-a.case
+    fake z3 "cat >/dev/null; echo sat; echo '$model'"
+    object 'solve, violated' 1 violated solve "$a"
+    is 'solve, violated' 4 record
+    is 'solve, violated' 12 assignment
+    is 'solve, violated' 3 schedule
+    is 'solve, violated' z3 solvers 0
+    fake z3 'cat >/dev/null; echo unsat'
+    object 'solve, unsat' 0 unsat solve "$a"
+    is 'solve, unsat' null record
+    # An assert with the guard 'L0 is not zero', which is never reached.
+    fields 2 0 0 0 1 0 0 0 0 0 0 0 0 0 0 0 0 5 1 0 0 16 0 0 >"$scratch/guarded.case"
+    object 'solve, vacuous' 0 vacuous solve "$scratch/guarded.case"
+    is 'solve, vacuous' false asserts 0 reached
+    object 'solve, strict' 1 vacuous solve "$scratch/guarded.case" --strict
+    # What was filed is told with the status of the call that resumes it.
+    called solve "$scratch/guarded.case" --strict --keep "$scratch/strict"
+    called solve "$scratch/guarded.case" --resume "$scratch/strict"
+    result 'solve, resumed, not strict' eval '[ "$status" = 0 ] && has 1 0 vacuous && [ "$(get resumed)" = true ]'
+    called solve "$scratch/./guarded.case" --strict --resume "$scratch/strict"
+    result 'solve, resumed, strict' eval '[ "$status" = 1 ] && has 1 1 vacuous && [ "$(get case)" = "$scratch/./guarded.case" ]'
+    echo nonsense >"$scratch/strict/guarded.answer"
+    called solve "$scratch/guarded.case" --resume "$scratch/strict"
+    result 'solve, a damaged answer' eval '[ "$status" = 3 ] && has 1 3 failed'
+    object 'solve, a folder that cannot be made' 3 failed solve "$a" --keep "$a/x"
+    called solve "$scratch/guarded.case" --keep "$scratch/strict"
+    result 'solve, something is in the way' eval '[ "$status" = 3 ] && has 1 3 failed'
+    fake z3 'cat >/dev/null; echo unknown'
+    object 'solve, unknown' 3 unknown solve "$a"
+    fake z3 'cat >/dev/null; echo hello'
+    object 'solve, nonsense' 3 failed solve "$a"
+    fake z3 'exec sleep 20'
+    object 'solve, timeout' 3 timeout solve "$a" --timeout 0.1
+    fake z3 "cat >/dev/null; echo sat; echo '$model'"
+    fake cvc5 'cat >/dev/null; echo unsat'
+    object 'solve, disagree' 3 disagree solve "$a" --solver both
+    object 'solve, another solver' 1 violated solve "$a" --solver-command "$scratch/fakes/z3 -x"
+    damaged 0 5
+    called solve "$a" "$scratch/damaged.case" "$scratch/none.case"
+    result 'solve, three cases and a summary' eval '[ "$status" = 1 ] && has_all 4 && [ "$(get status)" = $'"'1\n2\n3\n1'"' ]'
+    sed -i '$!d' "$scratch/objects"
+    is 'solve, the summary' 3 cases
+    is 'solve, the summary' 1 counts violated
+    is 'solve, the summary' 1 counts refused
+    is 'solve, the summary' 1 counts failed
+    is 'solve, the summary' "$scratch/damaged.case" answers 1 case
+    is 'solve, the summary' refused answers 1 answer
+    mkdir "$scratch/hollow"
+    object 'solve, a folder without cases' 3 failed solve "$scratch/hollow"
+    called solve "$a" "$scratch/hollow"
+    result 'solve, nothing begins: an object for each operand' eval '[ "$status" = 3 ] && has 2 $'"'3\n3'"' $'"'failed\nfailed'"
+    bare
+    seen=$scratch/bare
+    object 'solve, no solver' 3 failed solve "$a"
+    tells 'solve, no solver'
+}
+
+# Every case that ships, one after the other and two at a time: the same answers.
+real() {
+    local order
+    called solve cases --solver z3
+    result 'z3, all cases' eval '[ "$status" = 1 ] && has_all 7'
+    order=$(sed -n 's/.*"answers"://p' "$scratch/objects")
+    called solve cases --solver z3 --jobs 2
+    result 'z3, two at a time' eval '[ "$status" = 1 ] && has_all 7 && [ "$(sed -n "s/.*\"answers\"://p" "$scratch/objects")" = "$order" ]'
+    result 'the answers' test "$(grep -o '"answer":"[a-z]*"' <<<"$order" | cut -d '"' -f 4 | tr '\n' ' ')" = \
+        'violated unsat violated unsat unsat violated '
+}
+
+# ---- The schema can say no.
+
+# forms: of the objects that were printed one of each form, as far as fields and answer tell.
+forms() {
+    sort -u "$scratch/all" | awk '{
+        form = match($0, /"answer":"[a-z ]*"/) ? substr($0, RSTART, RLENGTH) : ""
+        form = substr($0, 1, index($0, ",")) form ($0 ~ /"summary"/) ($0 ~ /"refusal":null/) ($0 ~ /"message"/)
+        if (!(form in seen)) print
+        seen[form] = 1
+    }'
+}
+
+# damaged_objects: each object of standard input, damaged in one place: no field, one too many, a value of another type, a
+# number that is negative, another element in a list, another status.
+damaged_objects() {
+    awk '
+        function change(key, pattern, before, after, kept,    head) {
+            head = "\"" key "\":"
+            if (!match($0, head pattern)) return
+            kept = kept ? substr($0, RSTART + length(head), RLENGTH - length(head)) : ""
+            print substr($0, 1, RSTART - 1) head before kept after substr($0, RSTART + RLENGTH)
+        }
+        function damage(key,    head) {
+            head = "\"" key "\":"
+            if (match($0, head)) print substr($0, 1, RSTART) "x" substr($0, RSTART + 1)
+            if (match($0, head "\\[[^]]")) print substr($0, 1, RSTART + length(head)) "{}," substr($0, RSTART + length(head) + 1)
+            change(key, "\\[\\]", "[{}]", "", 0)
+            change(key, "\\[[^][]*\\]", "{}", "", 0)
+            change(key, "([0-9.]+|true|false)", "\"", "\"", 1)
+            change(key, "(null|true|false|\"[^\"\\\\]*\")", "70000", "", 0)
+            change(key, "[0-9.]+", "-1", "", 1)
+        }
+        {
+            print "{\"stray\":1," substr($0, 2)
+            change("status", "[0-9]", "4", "", 0)
+            if ($0 !~ /"summary":true/) change("status", "[0-9]", $0 ~ /"status":[02]/ ? 3 : $0 ~ /"status":3/ ? 0 : 2, "", 0)
+            change("answer", "\"[a-z ]*\"", "\"sat\"", "", 0)
+            change("row", "\\[", "[0,", "", 0)
+            change("rows", "\\[\\[", "[[0,", "", 0)
+            change("row", "\\[[0-9]+,", "[", "", 0)
+            split("", seen)
+            rest = $0
+            while (match(rest, /"[a-z]+":/)) {
+                key = substr(rest, RSTART + 1, RLENGTH - 3)
+                rest = substr(rest, RSTART + RLENGTH)
+                if (!(key in seen)) damage(key)
+                seen[key] = 1
+            }
+        }'
+}
+
+damages() {
+    forms >"$scratch/forms"
+    out=$(cut -c 1-120 "$scratch/forms")
+    result 'every form was printed' test "$(wc -l <"$scratch/forms")" = 27
+    damaged_objects <"$scratch/forms" >"$scratch/damages"
+    out=$("$json" refuse "$schema" <"$scratch/damages" 2>&1)
+    [[ $out != line*valid ]] || out+=": $(sed -n "$(tr -dc 0-9 <<<"$out")p" "$scratch/damages")"
+    result 'damaged objects are refused' test "$out" = "$(wc -l <"$scratch/damages") lines, none valid"
+    result 'there are many of them' test "$(wc -l <"$scratch/damages")" -gt 900
+    out=$("$json" refuse "$schema" <"$scratch/forms" 2>&1)
+    result 'those that are not damaged are not' test "$out" = 'line 1: valid'
+}
+
+# ---- docs/PARALLEL.md.
+
+# block HEADING: the commands that stand in the document under this heading.
+block() {
+    awk -v heading="## $1" '/^## /{ on = $0 == heading } /^```/{ fenced = !fenced; next } on && fenced' docs/PARALLEL.md
+}
+
+# recipe NAME HEADING: runs these commands in a scratch folder with the cases, as someone who has nothing in the home folder.
+# ssh is a fake that runs what it is given here, and notes for which machine.
+recipe() {
+    local commands
+    commands=$(block "$2")
+    result "$1: there are commands" test -n "$commands"
+    out=$(cd "$scratch/place" && env HOME="$scratch/home" SHELL="$BASH" PATH="$scratch/fakes:$PATH" \
+        timeout 60 bash -c "$commands" 2>&1 </dev/null)
+    status=$?
+}
+
+parallel_jobs() {
+    local place=$scratch/place
+    mkdir -p "$place/bin" "$scratch/home" && cp -r cases "$place/" && ln -s "$menduvo" "$place/bin/menduvo"
+    rm -rf "$scratch/fakes"
+    fake ssh 'echo "$1" >>"${0%/fakes/*}/machines"; shift; [ "$1" != -- ] || shift; exec bash -c "$*"'
+
+    recipe 'one machine' 'On one machine'
+    result 'one machine: the status counts what is not 0' test "$status" = 3
+    result 'one machine: nothing is said but the version' test "$out" = "$("$menduvo" --version)"
+    jobs_are_done 'one machine'
+    result 'one machine: the job log names two jobs at a time' eval 'block "On one machine" | grep -q -- "--jobs 2 "'
+
+    recipe 'what came of it' 'What came of it'
+    result 'what came of it' test "$(sed -E 's/^ +//' <<<"$out")" = \
+        $'3 "answer":"unsat"\n3 "answer":"violated"\n3 0\n3 1'
+
+    # Two answers are lost, and one case has not been solved at all.
+    rm "$place"/out/{case-a,interlock}.answer && rm "$place/out/lock-order".*
+    recipe 'going on' 'Going on after a stop'
+    jobs_are_done 'going on'
+    cp "$place/out.jsonl" "$scratch/objects"
+    result 'going on: what has an answer is not asked again' test "$(get resumed | sort | uniq -c | tr -s ' \n' ' ')" = \
+        ' 3 false 3 true '
+
+    rm -r "$place/out" "$place/out.jsonl" "$place/out.joblog"
+    recipe 'several machines' 'On several machines'
+    jobs_are_done 'several machines'
+    result 'several machines: both had work' test "$(sort -u "$scratch/machines")" = $'alpha\nbeta'
+    result 'several machines: the job log names them' test "$(tail -n +2 "$place/out.joblog" | cut -f 2 | sort -u)" = $'alpha\nbeta'
+}
+
+# jobs_are_done NAME: each case has an object, its files, and a line in the job log with the status of its object.
+jobs_are_done() {
+    local place=$scratch/place file
+    cp "$place/out.jsonl" "$scratch/objects"
+    cat "$scratch/objects" >>"$scratch/all"
+    result "$1: six objects" has_all 6
+    result "$1: of six cases" test "$(get case | sort)" = "$(printf '%s\n' cases/*.case | sort)"
+    paste -d ' ' <(get status) <(get case) | sort >"$scratch/told"
+    tail -n +2 "$place/out.joblog" | awk -F '\t' '{ sub(/.* /, "", $9); print $7, $9 }' | sort >"$scratch/logged"
+    result "$1: the job log has their statuses" cmp -s "$scratch/told" "$scratch/logged"
+    for file in cases/*.case; do
+        file=$place/out/$(basename "$file" .case)
+        result "$1: ${file##*/} is filed" eval 'test -s "$file.answer" && test -s "$file.smt2"'
+    done
+}
+
+: >"$scratch/all"
+run cargo build --release --offline --locked --quiet --manifest-path tests/json/Cargo.toml --target-dir target/json
+result 'the validator is built' test "$status" = 0
+run "$menduvo" --version
+result 'the command is built' test "$status" = 0
+reader
+keywords
+checks
+replays
+listings
+failures
+names
+several
+solves
+real
+damages
+parallel_jobs
+finish

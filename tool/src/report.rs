@@ -1,0 +1,129 @@
+//! The objects of `check`, `replay`, `list` and `show` with `--json`; `docs/output.schema.json` describes them.
+
+use crate::calls::{Ending, Loaded};
+use crate::case::Case;
+use crate::failure::Status;
+use crate::json::{list, Json};
+use crate::run::Run;
+use crate::show;
+use crate::table::Row;
+use crate::walk::{Event, Step};
+use crate::words::item_name;
+
+/// An object: the fields that all have, and then its own.
+fn object(command: &str, case: &str, status: Status, answer: &str, own: Vec<(&'static str, Json)>) -> Json {
+    let status = (status.number().unsigned_abs() as usize).into();
+    let all = [("command", command.into()), ("case", case.into()), ("status", status), ("answer", answer.into())];
+    Json::Object(all.into_iter().chain(own).collect())
+}
+
+/// An assignment that meets all constraints.
+pub fn meets(loaded: &Loaded, assignment: &str) -> Json {
+    let own = vec![("assignment", assignment.into()), ("constraints", loaded.table.rows.len().into())];
+    object("check", &loaded.name, Status::Done, "meets", own)
+}
+
+/// An assignment that fails this constraint first, with what is to be said of it.
+pub fn fails(loaded: &Loaded, assignment: &str, constraint: u16, words: &[String]) -> Json {
+    let row = loaded.table.rows.get(usize::from(constraint).wrapping_sub(1));
+    let own = vec![
+        ("assignment", assignment.into()),
+        ("constraints", loaded.table.rows.len().into()),
+        ("constraint", constraint.into()),
+        ("row", row.map_or(Json::Null, numbers)),
+        ("words", list(words.iter().map(String::as_str))),
+    ];
+    object("check", &loaded.name, Status::Found, "fails", own)
+}
+
+pub fn replayed(loaded: &Loaded, schedule: &[u16], run: &Run) -> Json {
+    let case = &loaded.case;
+    let (answer, record) = match run.ending {
+        Ending::Violated(record) => ("violated", Some(record)),
+        Ending::Clean => ("clean", None),
+        Ending::CutOff(record) => ("cut off", Some(record)),
+    };
+    let own = vec![
+        ("schedule", list(schedule.iter().copied())),
+        ("record", record.into()),
+        ("items", items(case, &run.items)),
+        ("steps", list(run.steps.iter().map(|step| self::step(case, step)))),
+    ];
+    object("replay", &loaded.name, run.status(), answer, own)
+}
+
+fn step(case: &Case, step: &Step) -> Json {
+    let (event, words) = match &step.event {
+        Event::Set(name, value) => ("set", format!("{name} = {value}")),
+        Event::Holds(words) => ("holds", words.clone()),
+        Event::Broken(words) => ("broken", words.clone()),
+        Event::Skipped(words) => ("skipped", words.clone()),
+        Event::CutOff(words) => ("cut off", words.clone()),
+    };
+    Json::Object(vec![
+        ("block", step.block.into()),
+        ("thread", case.thread_of_block(step.block).into()),
+        ("line", step.line.into()),
+        ("record", step.record.into()),
+        ("does", case.record(step.record).words().into()),
+        ("event", event.into()),
+        ("words", words.into()),
+    ])
+}
+
+pub fn listed(loaded: &Loaded) -> Json {
+    let own = vec![
+        ("constraints", loaded.table.rows.len().into()),
+        ("variables", loaded.table.variables.into()),
+        ("rows", list(loaded.table.rows.iter().map(numbers))),
+    ];
+    object("list", &loaded.name, Status::Done, "listed", own)
+}
+
+pub fn shown(loaded: &Loaded) -> Json {
+    let case = &loaded.case;
+    let own = vec![
+        ("threads", list((0..case.threads).map(|thread| self::thread(loaded, thread)))),
+        ("switches", case.switches.into()),
+        ("globals", case.globals.into()),
+        ("mutexes", case.mutexes.into()),
+        ("records", case.records.len().into()),
+        ("constraints", loaded.table.rows.len().into()),
+        ("variables", loaded.table.variables.into()),
+        ("start", items(case, &case.items_at_start())),
+    ];
+    object("show", &loaded.name, Status::Done, "shown", own)
+}
+
+fn thread(loaded: &Loaded, thread: usize) -> Json {
+    let lines = loaded.case.chains[thread].iter().zip(1..);
+    Json::Object(vec![
+        ("thread", thread.into()),
+        ("blocks", list(loaded.case.blocks_of(thread))),
+        ("lines", list(lines.map(|(&record, line)| self::line(loaded, record, line)))),
+    ])
+}
+
+fn line(loaded: &Loaded, number: u16, line: usize) -> Json {
+    let record = loaded.case.record(number);
+    let copies = show::copies(loaded, number).into_iter();
+    let copies = copies.map(|(name, copy)| Json::Object(vec![("name", name.to_string().into()), ("copy", copy.into())]));
+    Json::Object(vec![
+        ("line", line.into()),
+        ("record", number.into()),
+        ("guard", record.guard_words().into()),
+        ("does", record.action().into()),
+        ("copies", list(copies)),
+    ])
+}
+
+fn numbers(row: &Row) -> Json {
+    list(row.iter().copied())
+}
+
+fn items(case: &Case, values: &[u16]) -> Json {
+    let item = |(item, &value): (usize, &u16)| {
+        Json::Object(vec![("name", item_name(case, item).to_string().into()), ("value", value.into())])
+    };
+    list(values.iter().enumerate().map(item))
+}
