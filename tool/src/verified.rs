@@ -2,13 +2,14 @@
 
 use crate::failure::{Failure, Status};
 use crate::file::this_command;
+use crate::input::Source;
 use crate::json::{list, Json};
 use crate::kept::Kept;
 use crate::manifest::{Made, NAME};
 use crate::name::shown;
-use crate::objects;
 use crate::output::Output;
 use crate::reach::Reached;
+use crate::said::Said;
 use crate::sha256;
 use crate::solve::{solve, Asking, Settings};
 use crate::verify::{findings, recompute, Finding, Recomputed, State};
@@ -25,7 +26,7 @@ pub struct Verifying {
 
 /// What a solver says when it is asked again.
 struct Again {
-    solvers: String,
+    solvers: Vec<String>,
     answer: &'static str,
     /// Nothing where it gives no answer.
     same: Option<bool>,
@@ -46,20 +47,14 @@ struct Report {
 
 pub fn verify(call: &Verifying, output: &mut Output) -> Result<Status, Failure> {
     match report(call) {
-        Ok(report) if call.json => {
-            output.say(&format!("{}\n", report.json()))?;
-            ended(report.status(), None)
-        }
         Ok(report) => {
-            output.say(&report.text())?;
+            output.say(&if call.json { format!("{}\n", report.json()) } else { report.text() })?;
             ended(report.status(), report.failure)
         }
-        Err(failure) if call.json => {
-            let folder = shown(&call.folder);
-            output.say(&format!("{}\n", objects::failed("verify", &folder, &folder, &failure)))?;
-            Err(Failure::Told(failure.status()))
+        Err(failure) => {
+            let folder = Source::new(&call.folder);
+            Said::failed("verify", &folder, &folder, failure, call.json).tell(output)
         }
-        Err(failure) => Err(failure),
     }
 }
 
@@ -119,7 +114,7 @@ fn again(asking: &Asking, recomputed: &Recomputed, filed: &str) -> Result<Again,
         ("", turned) => (Some(false), format!("whether it is reached has turned: record {}", enumeration(turned))),
         (trouble, _) => (None, trouble.lines().next().unwrap_or_default().to_string()),
     };
-    Ok(Again { solvers: enumeration(&asking.names()), answer: solved.word(), same, note })
+    Ok(Again { solvers: asking.names().into_iter().map(str::to_string).collect(), answer: solved.word(), same, note })
 }
 
 impl Report {
@@ -134,6 +129,16 @@ impl Report {
             (_, 1.., _) | (None, _, Some(false)) => Status::Found.number(),
             (Some(_), ..) | (None, _, None) => Failure::STATUS_OTHER,
             (None, 0, Some(true)) => Status::Done.number(),
+        }
+    }
+
+    /// What the status stands for.
+    fn word(&self) -> &'static str {
+        match self.status() {
+            0 => "same",
+            1 => "differs",
+            2 => "refused",
+            _ => "not known",
         }
     }
 
@@ -168,7 +173,7 @@ impl Report {
         });
         let again = self.again.as_ref().map(|Again { solvers, answer, same, note }| {
             Json::Object(vec![
-                ("solvers", solvers.as_str().into()),
+                ("solvers", list(solvers.iter().map(String::as_str))),
                 ("answer", (*answer).into()),
                 ("same", (*same).into()),
                 ("note", note.as_str().into()),
@@ -179,7 +184,8 @@ impl Report {
             ("command", "verify".into()),
             ("folder", self.folder.as_str().into()),
             ("status", (self.status().unsigned_abs() as usize).into()),
-            ("answer", self.answer.as_str().into()),
+            ("answer", self.word().into()),
+            ("filed", self.answer.as_str().into()),
             ("manifest", self.manifest.as_str().into()),
             ("files", Json::List(files.collect())),
             ("notes", list(self.notes.iter().map(String::as_str))),
@@ -207,6 +213,6 @@ impl Again {
             Some(false) => "ANOTHER ANSWER",
             None => "no answer",
         };
-        format!("asked again, {solvers}: {answer}: {note}: {comes_to}\n")
+        format!("asked again, {}: {answer}: {note}: {comes_to}\n", enumeration(solvers))
     }
 }
