@@ -62,6 +62,13 @@ lies 'fails 0' 'numbers that stand for no answer' check cases/case-a.case cases/
 lies 'refusal 16' 'numbers that stand for no answer' decode cases/case-a.case cases/case-a.assignment
 lies listing 'numbers that stand for no answer' list cases/case-a.case
 
+# What is filed names the library that is linked, and this one is another.
+run bin/menduvo file cases/case-a.case "$scratch/filed" --solver-command 'echo unknown'
+result 'a check is filed' test "$status" = 3
+sum=$(sha256sum <"$scratch/libmenduvo.a")
+run "$lying" verify "$scratch/filed"
+result 'it was filed with another library' eval "[[ \$out = *\"MANIFEST, and ${sum%% *} of this command\"* ]]"
+
 # The comparison with plain Rust, over the same library. These answers fit no sample.
 run env MENDUVO_LIB_DIR="$scratch" cargo run --offline --quiet --manifest-path bench/Cargo.toml --target-dir "$scratch/built" \
     -- --answers

@@ -356,6 +356,7 @@ commits() {
     "${git[@]}" add bin crates crates.txt tool bindings cases && "${git[@]}" commit -qm all && hash=$("${git[@]}" rev-parse HEAD)
     result 'there is a commit' test "${#hash}" -ge 40
     runs 'its commit' "$slow" '' "it is red round, $hash" "$menduvo" file
+    runs 'its commit, for what is verified' "$slow" '' "it is red round, $hash" "$menduvo" verify
     runs 'whatever the caller was told' "$slow" '' "it is red round, $hash" \
         env MENDUVO_COMMIT=x GIT_DIR="$scratch" GIT_INDEX_FILE="$scratch/x" "$menduvo" file
     : >"$tree/cases/new.case" && mkdir "$tree/docs" && : >"$tree/docs/new.md"

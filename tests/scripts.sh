@@ -318,6 +318,40 @@ real() {
         'violated unsat violated unsat unsat violated '
 }
 
+# A filed folder: the same, changed, with a case that is refused, not there; and a solver that is asked again.
+verifies() {
+    local seen=$scratch/fakes:$seen folder=$scratch/filed
+    fake z3 "cat >/dev/null; echo sat; echo '$model'"
+    run "$menduvo" file cases/case-a.case "$folder" --solver z3
+    result 'a check is filed' test "$status" = 1
+    object 'verify, the same' 0 same verify "$folder"
+    is 'verify, the same' violated filed
+    is 'verify, the same' "$folder" folder
+    is 'verify, the same' "$(sha256sum "$folder/MANIFEST" | cut -d ' ' -f 1)" manifest
+    result 'the files are those of the text' test "$(get files)" = "$(grep -cE '  (same|not recomputed)' "$scratch/text")"
+    is 'verify, the same' MANIFEST files 0 name
+    is 'verify, the same' same files 0 state
+    object 'verify, asked again' 0 same verify "$folder" --solver z3
+    is 'verify, asked again' true again same
+    fake z3 'cat >/dev/null; echo unsat'
+    object 'verify, another answer' 1 differs verify "$folder" --solver z3
+    is 'verify, another answer' unsat again answer
+    fake z3 'cat >/dev/null; echo unknown'
+    object 'verify, no answer' 3 'not known' verify "$folder" --solver z3
+    is 'verify, no answer' null again same
+    echo >>"$folder/show.txt"
+    object 'verify, a difference' 1 differs verify "$folder"
+    is 'verify, a difference' differs files 3 state
+    is 'verify, a difference' false files 3 same
+    head -c 40 cases/case-a.case >"$folder/case.case"
+    object 'verify, a refused case' 2 refused verify "$folder"
+    tells 'verify, a refused case'
+    object 'verify, no folder' 3 failed verify "$scratch/none"
+    tells 'verify, no folder'
+    called verify
+    result 'verify, wrong arguments have no object' eval '[ "$status" = 3 ] && [ ! -s "$scratch/objects" ]'
+}
+
 # ---- The schema can say no.
 
 # forms: of the objects that were printed one of each form, as far as fields and answer tell.
@@ -382,7 +416,7 @@ damaged_objects() {
 damages() {
     forms >"$scratch/forms"
     out=$(cut -c 1-120 "$scratch/forms")
-    result 'every form was printed' test "$(wc -l <"$scratch/forms")" = 29
+    result 'every form was printed' test "$(wc -l <"$scratch/forms")" = 32
     damaged_objects <"$scratch/forms" >"$scratch/damages"
     out=$("$json" refuse "$schema" <"$scratch/damages" 2>&1)
     [[ $out != line*valid ]] || out+=": $(sed -n "$(tr -dc 0-9 <<<"$out")p" "$scratch/damages")"
@@ -472,6 +506,7 @@ names
 several
 solves
 real
+verifies
 damages
 parallel_jobs
 finish

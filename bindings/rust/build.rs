@@ -1,7 +1,7 @@
 //! Tells the linker where libmenduvo.a is: in the folder that MENDUVO_LIB_DIR names, else where `rt staticlib menduvo` puts it.
 
 use std::env;
-use std::path::PathBuf;
+use std::path::{self, PathBuf};
 
 fn main() {
     println!("cargo:rerun-if-changed=build.rs");
@@ -17,6 +17,8 @@ fn main() {
         println!("cargo:warning=there is no {}", archive.display());
         println!("cargo:warning=run 'rt staticlib menduvo', or let MENDUVO_LIB_DIR name the folder that has it");
     }
+    // For the build scripts of packages that stand on this one: DEP_MENDUVO_ARCHIVE.
+    println!("cargo:archive={}", path::absolute(&archive).unwrap_or(archive).display());
     println!("cargo:rustc-link-search=native={}", folder.display());
     println!("cargo:rustc-link-lib=static=menduvo");
 }

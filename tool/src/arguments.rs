@@ -1,11 +1,13 @@
 //! From the command's arguments to what is to be done.
 
 use crate::failure::Failure;
+use crate::file::Filing;
 use crate::help::{named, Page};
 use crate::input::Source;
 use crate::keep::Keep;
 use crate::solve::{Settings, Wanted};
 use crate::solver::Solver;
+use crate::verified::Verifying;
 use std::ffi::{OsStr, OsString};
 use std::os::unix::ffi::OsStrExt;
 use std::time::Duration;
@@ -21,6 +23,8 @@ pub enum Call {
     Replay { case: Source, schedule: Source, json: bool },
     Solve(Wanted),
     Picture { case: Source, schedule: Source, file: OsString, force: bool },
+    File(Filing),
+    Verify(Verifying),
 }
 
 /// What follows a command's name.
@@ -118,6 +122,8 @@ fn call(parts: &mut Parts) -> Result<Call, Failure> {
             file: parts.value("-o").ok_or_else(|| parts.usage("-o FILE.svg is missing"))?,
             force: parts.has("--force"),
         },
+        "file" => Call::File(filing(parts)?),
+        "verify" => Call::Verify(verifying(parts)?),
         _ => {
             let command = parts.next("COMMAND")?.name();
             let page = named(&command).ok_or_else(|| parts.usage(&format!("there is no command '{command}'")))?;
@@ -137,6 +143,24 @@ fn wanted(parts: &mut Parts) -> Result<Wanted, Failure> {
     })
 }
 
+fn filing(parts: &mut Parts) -> Result<Filing, Failure> {
+    let (case, folder) = (parts.next("CASE")?, parts.folder()?);
+    let source = parts.value("--source").map(|file| Source::new(&file));
+    if case.is_standard_input() && source.as_ref().is_some_and(Source::is_standard_input) {
+        return Err(parts.usage("only one input can be standard input"));
+    }
+    Ok(Filing { case, folder, source, settings: settings(parts)? })
+}
+
+fn verifying(parts: &mut Parts) -> Result<Verifying, Failure> {
+    let asks = parts.has("--solver") || parts.has("--solver-command");
+    if parts.has("--timeout") && !asks {
+        return Err(parts.usage("--timeout needs --solver or --solver-command"));
+    }
+    let settings = settings(parts)?;
+    Ok(Verifying { folder: parts.folder()?, settings: asks.then_some(settings), json: parts.has("--json") })
+}
+
 /// Whom to ask, and how long.
 fn settings(parts: &Parts) -> Result<Settings, Failure> {
     Ok(Settings { solvers: parts.solvers()?, limit: parts.limit()? })
@@ -149,6 +173,15 @@ impl Parts {
 
     fn next(&mut self, what: &str) -> Result<Source, Failure> {
         self.operands.next().ok_or_else(|| usage(self.page, &format!("{what} is missing")))
+    }
+
+    /// The operand that names a folder.
+    fn folder(&mut self) -> Result<OsString, Failure> {
+        let folder = self.next("DIR")?;
+        match folder.is_standard_input() || folder.path().is_empty() {
+            true => Err(self.usage("DIR is a folder's name; of one that is named '-' it is ./-")),
+            false => Ok(folder.path().to_os_string()),
+        }
     }
 
     /// All operands, at least one.

@@ -7,7 +7,7 @@ use crate::input::Source;
 use crate::name::shown;
 use crate::output::Output;
 use crate::words::{all, numbers_in_lines};
-use crate::{demo, help, keep, picture, report, run, said::Said, several, show, told};
+use crate::{demo, file, help, keep, picture, report, run, said::Said, several, show, told, verified};
 use std::ffi::OsStr;
 
 pub fn perform(call: Call, output: &mut Output) -> Result<Status, Failure> {
@@ -25,6 +25,8 @@ pub fn perform(call: Call, output: &mut Output) -> Result<Status, Failure> {
             [case] if !several::is_several(&wanted.cases) => told::one(case, &wanted, output),
             _ => several::all(wanted, output),
         },
+        Call::File(filing) => file::file(&filing, output),
+        Call::Verify(verifying) => verified::verify(&verifying, output),
         Call::Picture { case, schedule, file, force } => draw(&case, &schedule, &file, force, output),
     }
 }

@@ -35,7 +35,7 @@ const TIMEOUT: Choice = Choice {
     does: "give a solver this many seconds for each question, 0 for no limit;\nwithout it no limit for one case, and 60 for several",
 };
 
-pub const PAGES: [Page; 9] = [
+pub const PAGES: [Page; 11] = [
     Page {
         name: "demo",
         usage: "demo",
@@ -141,6 +141,43 @@ pub const PAGES: [Page; 9] = [
         more: "Threads are lanes, blocks are columns, lines are cells; a broken assertion is red.\n\
                A solver's model in the place of the schedule is decoded first.\n\
                Exit status 0 where the picture is written, whatever the run comes to.\n",
+    },
+    Page {
+        name: "file",
+        usage: "file CASE DIR [OPTIONS]",
+        summary: "solve a case, and file everything about it in a new folder",
+        options: &[
+            Choice {
+                name: "--source",
+                value: "FILE",
+                does: "what the case was made from, to be filed with it; - is standard input",
+            },
+            SOLVER,
+            SOLVER_COMMAND,
+            TIMEOUT,
+        ],
+        more: "DIR must not be there; it is whole or not there. It gets the case, the listing, the text for solvers, the\n\
+               solver's reply, what follows from it (assignment, schedule, run, picture), which asserts are reached, the\n\
+               verdict with what it means, a page for readers, and MANIFEST: the SHA-256 of each file, and what it was made\n\
+               with. 'sha256sum -c MANIFEST' takes it as it is. See docs/FILING.md.\n\
+               Exit status 1 where a violation is found; 0 for unsat and vacuous; 3 where there is no answer, which is\n\
+               filed too; 2 where the case is refused, and then nothing is filed.\n",
+    },
+    Page {
+        name: "verify",
+        usage: "verify DIR [OPTIONS]",
+        summary: "say, file by file, whether a filed folder is the same",
+        options: &[
+            Choice { name: "--solver", value: "z3|cvc5|both", does: "ask again, and compare the answer" },
+            SOLVER_COMMAND,
+            Choice { name: "--timeout", value: "S", does: "give a solver this many seconds for each question, 0 for no limit" },
+            JSON,
+        ],
+        more: "Each file's SHA-256 is compared with MANIFEST, and all that follows from the case and the replies is made\n\
+               again by the proved library and compared byte by byte. No solver is needed for that, and nothing is written.\n\
+               Exit status 0 where all is the same; 1 where something differs, is missing or is not listed, or a solver\n\
+               gives another answer; 2 where the filed case is refused; 3 where the folder cannot be read, or a solver that\n\
+               is asked again gives no answer.\n",
     },
     Page { name: "help", usage: "help [COMMAND]", summary: "print this, or the help of a command", options: &[], more: "" },
 ];

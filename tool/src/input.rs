@@ -9,6 +9,8 @@ use std::path::Path;
 
 /// The most bytes of a text with numbers: a model of the largest case has about a tenth of it.
 const MOST_TEXT_BYTES: usize = 1 << 20;
+/// The most bytes of a file that is kept as it is.
+pub const MOST_FILE_BYTES: usize = 1 << 26;
 
 /// Where an input comes from.
 #[derive(Clone, Debug, PartialEq, Eq)]
@@ -61,6 +63,15 @@ impl Source {
         }
         String::from_utf8(bytes)
             .map_err(|_| Failure::Refused(format!("{}: not text: numbers, or a solver's model, are expected", self.name())))
+    }
+
+    /// The bytes of a file that is kept as it is.
+    pub fn bytes(&self) -> Result<Vec<u8>, Failure> {
+        let bytes = self.read(MOST_FILE_BYTES + 1)?;
+        match bytes.len() > MOST_FILE_BYTES {
+            true => Err(Failure::Other(format!("{}: over {MOST_FILE_BYTES} bytes, the most that is kept", self.name()))),
+            false => Ok(bytes),
+        }
     }
 
     fn read(&self, most: usize) -> Result<Vec<u8>, Failure> {

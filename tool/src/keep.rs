@@ -116,9 +116,9 @@ fn remove(file: &Path) -> Result<(), Failure> {
 }
 
 /// Writes a file that is not there.
-fn write(file: &Path, text: &str) -> Result<(), Failure> {
+fn write(file: &Path, bytes: impl AsRef<[u8]>) -> Result<(), Failure> {
     let opened = OpenOptions::new().write(true).create_new(true).open(file);
-    match opened.and_then(|mut opened| opened.write_all(text.as_bytes())) {
+    match opened.and_then(|mut opened| opened.write_all(bytes.as_ref())) {
         Ok(()) => Ok(()),
         Err(error) if error.kind() == ErrorKind::AlreadyExists => Err(in_the_way(file)),
         Err(error) => Err(Failure::Other(format!("{}: {error}", shown(file.as_os_str())))),

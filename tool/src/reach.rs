@@ -10,7 +10,7 @@ use crate::calls::{Ending, Loaded};
 use crate::case::{Case, Kind, CONSTANT};
 use crate::failure::Failure;
 use crate::smt;
-use crate::solve::{verdict, Asking, Verdict};
+use crate::solve::{verdict, Ask, Verdict};
 use crate::solver::Asked;
 use crate::words::{count, enumeration};
 
@@ -68,7 +68,7 @@ fn plain(case: &Case) -> Option<String> {
 }
 
 impl Reach {
-    pub fn of(loaded: &Loaded, asking: &Asking) -> Result<Reach, Failure> {
+    pub fn of(loaded: &Loaded, asking: &dyn Ask) -> Result<Reach, Failure> {
         let case = &loaded.case;
         let lines = case.chains.iter().flatten().copied();
         let asserts: Vec<u16> = lines.filter(|&line| case.record(line).kind == Kind::Assert).collect();
@@ -109,7 +109,7 @@ impl Reach {
     }
 
     /// Asks until something is known of every assert, or the solvers do not know.
-    fn ask(&mut self, loaded: &Loaded, asking: &Asking) -> Result<(), Failure> {
+    fn ask(&mut self, loaded: &Loaded, asking: &dyn Ask) -> Result<(), Failure> {
         let mut open = self.open();
         while !open.is_empty() {
             let changed = loaded.changed(changed(&loaded.case, &open))?;

@@ -73,9 +73,15 @@ impl Settings {
     }
 }
 
-impl Asking {
+/// Who answers questions: solvers, or what they answered before.
+pub trait Ask: Sync {
+    /// Asks for a model of a text with this many variables. There is an answer for each solver.
+    fn ask(&self, text: &str, variables: usize) -> Vec<Asked>;
+}
+
+impl Ask for Asking {
     /// Asks every solver, all at once.
-    pub fn ask(&self, text: &str, variables: usize) -> Vec<Asked> {
+    fn ask(&self, text: &str, variables: usize) -> Vec<Asked> {
         match self.solvers.as_slice() {
             [solver] => vec![solver.ask(text, variables, self.limit)],
             solvers => thread::scope(|scope| {
@@ -86,20 +92,26 @@ impl Asking {
             }),
         }
     }
+}
 
-    /// The solvers' names, and whether there are several.
-    pub fn names(&self) -> String {
-        enumeration(&self.solvers.iter().map(|solver| solver.name.as_str()).collect::<Vec<_>>())
+impl Asking {
+    pub fn names(&self) -> Vec<&str> {
+        self.solvers.iter().map(|solver| solver.name.as_str()).collect()
     }
 }
 
 /// Solves a case. What came of its question is told as soon as it is known; whether its asserts are reached may take longer.
 pub fn solve(loaded: &Loaded, asking: &Asking, tell: &mut dyn FnMut(&Verdict)) -> Result<Solved, Failure> {
+    solve_by(loaded, asking, asking, tell)
+}
+
+/// The same, where one answers the case's own question, and another whether its asserts are reached.
+pub fn solve_by(loaded: &Loaded, first: &dyn Ask, others: &dyn Ask, tell: &mut dyn FnMut(&Verdict)) -> Result<Solved, Failure> {
     let begin = Instant::now();
     let text = smt::text(loaded);
     let (asked, verdict, reach) = thread::scope(|scope| {
-        let aside = scope.spawn(|| Reach::of(loaded, asking));
-        let asked = asking.ask(&text, loaded.table.variables);
+        let aside = scope.spawn(|| Reach::of(loaded, others));
+        let asked = first.ask(&text, loaded.table.variables);
         let verdict = verdict(loaded, &asked);
         tell(&verdict);
         let reach = aside.join().unwrap_or_else(|_| Err(Failure::Other("the search for reached asserts failed".to_string())));

@@ -39,7 +39,7 @@ pub enum Answer {
 pub struct Asked {
     pub solver: String,
     pub answer: Answer,
-    pub reply: String,
+    pub reply: Vec<u8>,
 }
 
 /// The solvers that are known by name. With these arguments they print a model after sat, and nothing after unsat.
@@ -138,16 +138,15 @@ impl Solver {
 
     /// What stands where nothing came back.
     pub fn silent(&self) -> Asked {
-        Asked { solver: self.name.clone(), answer: Answer::None("it was not heard".to_string()), reply: String::new() }
+        Asked { solver: self.name.clone(), answer: Answer::None("it was not heard".to_string()), reply: Vec::new() }
     }
 
     /// One run of the program. A bare sat, without a model, has no values here.
     fn asked(&self, text: &str, variables: usize, limit: Option<Duration>) -> Asked {
         let (reply, answer) = match process::run(OsStr::new(&self.program), &self.arguments, text, limit) {
-            Err(error) => (String::new(), Answer::None(error.to_string())),
+            Err(error) => (Vec::new(), Answer::None(error.to_string())),
             Ok((reply, end)) => {
-                let reply = String::from_utf8_lossy(&reply).into_owned();
-                let answer = answer(&reply, variables, &end);
+                let answer = answer(&String::from_utf8_lossy(&reply), variables, &end);
                 (reply, answer)
             }
         };
@@ -170,8 +169,7 @@ impl Asked {
 
 /// What a reply comes to, with the way in which the program ended.
 fn answer(reply: &str, variables: usize, end: &End) -> Answer {
-    let (word, rest) = reply.trim_start().split_once('\n').unwrap_or((reply.trim(), ""));
-    let word = word.trim();
+    let (word, _) = word_and_rest(reply);
     if let End::Timeout = end {
         return Answer::Timeout;
     }
@@ -181,6 +179,18 @@ fn answer(reply: &str, variables: usize, end: &End) -> Answer {
             _ => format!("it printed '{}', but {problem}", shortened(word)),
         });
     }
+    read(reply, variables)
+}
+
+/// The first line, and what follows it.
+fn word_and_rest(reply: &str) -> (&str, &str) {
+    let (word, rest) = reply.trim_start().split_once('\n').unwrap_or((reply.trim(), ""));
+    (word.trim(), rest)
+}
+
+/// What the reply of a program that ended well comes to.
+pub fn read(reply: &str, variables: usize) -> Answer {
+    let (word, rest) = word_and_rest(reply);
     match word {
         "sat" if rest.trim().is_empty() => Answer::Sat(Vec::new()),
         "sat" => match model(rest, variables) {

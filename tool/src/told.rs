@@ -7,9 +7,9 @@ use crate::name::shown;
 use crate::objects;
 use crate::output::Output;
 use crate::reach::{Reach, Reached};
-use crate::solve::{solve, Asking, Found, Solved, Verdict, Wanted};
+use crate::solve::{solve, Found, Solved, Verdict, Wanted};
 use crate::summary::Summary;
-use crate::words::{all, count, numbers_in_lines, record_in_words, these};
+use crate::words::{all, count, enumeration, numbers_in_lines, record_in_words, these};
 use std::ffi::OsStr;
 
 /// `solve CASE`.
@@ -26,7 +26,8 @@ pub fn one(source: &Source, wanted: &Wanted, output: &mut Output) -> Result<Stat
     let variables = count(loaded.table.variables, "variable", "variables");
     output.say(&format!("{}: {constraints} over {variables}\n", loaded.name))?;
     let mut said = Ok(());
-    let solved = solve(&loaded, &asking, &mut |verdict| said = output.say(&answer(&loaded, &asking, verdict)))?;
+    let names = asking.names();
+    let solved = solve(&loaded, &asking, &mut |verdict| said = output.say(&answer(&loaded, &names, verdict)))?;
     said?;
     output.say(&format!("{}{}", asserts(&loaded, &solved.reach), warning(&solved)))?;
     if let Some(keep) = &wanted.keep {
@@ -51,10 +52,10 @@ fn ending(status: i32, trouble: &str) -> Result<Status, Failure> {
 }
 
 /// What the solvers say, and what the library makes of it. Where there is no answer, the failure says why.
-pub fn answer(loaded: &Loaded, asking: &Asking, verdict: &Verdict) -> String {
+pub fn answer(loaded: &Loaded, solvers: &[&str], verdict: &Verdict) -> String {
     match verdict {
         Verdict::Violated(found) => violated(loaded, found),
-        Verdict::Unsat => unsat(loaded, asking),
+        Verdict::Unsat => unsat(loaded, solvers),
         Verdict::Unknown(_) | Verdict::Timeout(_) | Verdict::Disagree(_) | Verdict::Failed(_) => String::new(),
     }
 }
@@ -71,13 +72,13 @@ fn violated(loaded: &Loaded, found: &Found) -> String {
 }
 
 /// What unsat means, and what it does not.
-fn unsat(loaded: &Loaded, asking: &Asking) -> String {
+fn unsat(loaded: &Loaded, solvers: &[&str]) -> String {
     let constraints = these(loaded.table.rows.len(), "constraint", "constraints");
     let switches = loaded.case.switches;
     let bound = if switches == 1 { "switch" } else { "switches" };
     let threads = loaded.case.threads;
-    let names = asking.names();
-    let (say, word) = match asking.solvers.len() {
+    let names = enumeration(solvers);
+    let (say, word) = match solvers.len() {
         1 => ("says", format!("{names}'s own")),
         _ => ("say", format!("that of {names}")),
     };

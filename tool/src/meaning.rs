@@ -1,0 +1,29 @@
+//! The verdict that is filed: what `solve` prints, and what it means and does not mean, for a reader who has nothing else.
+
+use crate::calls::Loaded;
+use crate::solve::{Solved, Verdict};
+use crate::{run, told};
+
+pub fn text(loaded: &Loaded, solved: &Solved) -> String {
+    let solvers: Vec<&str> = solved.asked.iter().map(|asked| asked.solver.as_str()).collect();
+    let answer = told::answer(loaded, &solvers, &solved.verdict);
+    let means = match &solved.verdict {
+        Verdict::Violated(found) => format!(
+            "{answer}\
+             It means: this run is complete and legal, stays within the bound, and breaks the assertion:\n\
+             {}.\n\
+             The proved library checked the assignment, decoded it and replayed the schedule, so this does not rest\n\
+             on the solver. Anyone can follow run.txt by hand.\n\
+             It does not mean: that no other assertion breaks, or that this one breaks in every run; that the case\n\
+             says what the controller does.\n",
+            run::broken(&loaded.case, found.run.ending)
+        ),
+        Verdict::Unsat => answer,
+        Verdict::Unknown(why) | Verdict::Timeout(why) | Verdict::Disagree(why) | Verdict::Failed(why) => format!(
+            "There is no answer: {why}.\n\
+             It means: nothing is known of this case by this check; a violation may be there or not.\n\
+             It does not mean: that the case is wrong, or that another solver or more time finds no answer.\n"
+        ),
+    };
+    format!("The answer: {}.\n\n{means}\n{}{}", solved.word(), told::asserts(loaded, &solved.reach), told::warning(solved))
+}

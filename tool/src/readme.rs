@@ -1,0 +1,91 @@
+//! The page of a filed folder, for a reader who has none of our programs.
+
+use crate::folder::{File, Folder};
+use crate::manifest::{self, Made, Program};
+
+pub const NAME: &str = "README.txt";
+pub const ABOUT: &str = "this page";
+
+/// How cases, runs and constraints are laid out, as document 01 says it.
+const LAYOUT: &str = include_str!("layout.txt");
+
+const INTRODUCTION: &str = "\
+A BOUNDED CHECK OF THREADED CODE, FILED BY MENDUVO
+
+A case describes up to four threads over shared globals and mutexes. Constraints over numbers follow
+from it. They can be met exactly where a complete legal run of the threads, in round robin and within n
+switches, breaks an assertion. A solver was asked whether they can be met. This folder has the case,
+the constraints, what the solver said, and what follows from it, so that it can be read and checked
+again without the programs that made it.
+";
+
+const CHECKING: &str = "\
+HOW TO CHECK THE FILES
+
+In this folder, with sha256sum (GNU coreutils), or any program for SHA-256:
+  sha256sum -c MANIFEST
+It says whether the files are those that MANIFEST lists. It cannot say whether MANIFEST was changed
+too: compare the SHA-256 of MANIFEST itself with the one that was written down elsewhere.
+With menduvo, which makes again all that follows from the case and the replies, byte by byte:
+  menduvo verify FOLDER
+  menduvo verify FOLDER --solver z3     asks again as well
+Any solver that reads SMT-LIB 2 can be asked about the *.smt2 files; by hand, run.txt can be followed
+beside show.txt where there is a run.
+";
+
+const PROVED: &str = "\
+WHAT WAS PROVED, AND WHAT WAS NOT
+
+Proved by machine, of the library's code and for all cases: that the listing has just the constraints
+below; that they are met exactly where a complete legal run within the bound breaks an assertion; and
+what the checker, decoder and replayer answer. So a violation does not rest on the solver: its
+assignment was checked, decoded and replayed.
+Not proved: that constraints.smt2 says what the listing and the case say; the solver's word where it
+says unsat; the texts and the picture; that the case says what its source, or the controller, does. A
+run in another order of threads, or with more switches, is outside of all this.
+";
+
+/// The page, from the files that stand before it and the head of the list.
+pub fn text(folder: &Folder) -> String {
+    let made = &folder.manifest.made;
+    let sections = [
+        INTRODUCTION.to_string(),
+        format!("The answer: {}. verdict.txt says what it means, and what it does not mean.\n", folder.manifest.answer),
+        format!("THE FILES\n\n{}", files(folder)),
+        CHECKING.to_string(),
+        PROVED.to_string(),
+        LAYOUT.to_string(),
+        format!("WHAT IT WAS MADE WITH\n\n{}", made_with(made)),
+        format!("WHAT WAS GIVEN, AND DOES NOT FOLLOW FROM THE OTHER FILES (SHA-256)\n\n{}", given(folder)),
+    ];
+    sections.join("\n")
+}
+
+fn files(folder: &Folder) -> String {
+    let list = (manifest::NAME, "what this was made with, what was asked, and the SHA-256 of each other file");
+    let others = folder.files.iter().map(|file| (file.name.as_str(), file.about.as_str()));
+    let all: Vec<(&str, &str)> = [list].into_iter().chain(others).chain([(NAME, ABOUT)]).collect();
+    let width = all.iter().map(|(name, _)| name.len()).max().unwrap_or(0);
+    all.iter().map(|(name, about)| format!("{name:width$}  {about}\n")).collect()
+}
+
+fn made_with(made: &Made) -> String {
+    let Made { version, commit, library, command, solvers } = made;
+    let mut text = format!(
+        "menduvo {version}, of commit {commit}\nits library libmenduvo.a, which has SHA-256\n  {library}\nthe command\n  {command}\n"
+    );
+    for Program { name, version, command } in solvers {
+        text.push_str(&format!("the solver {name}, which says of itself: {version}\n  called as: {command}\n"));
+    }
+    text
+}
+
+fn given(folder: &Folder) -> String {
+    folder
+        .files
+        .iter()
+        .filter(|file| file.given)
+        .map(File::entry)
+        .map(|entry| format!("{}  {}\n", entry.hash, entry.name))
+        .collect()
+}
