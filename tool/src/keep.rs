@@ -91,11 +91,11 @@ impl Keep {
             }
         }
         if let Verdict::Violated(found) = &solved.verdict {
-            write(&self.file(stem, "assignment"), &filed::assignment(loaded, &found.assignment))?;
-            write(&self.file(stem, "schedule"), &filed::schedule(loaded, &found.schedule))?;
+            write(&self.file(stem, "assignment"), filed::assignment(loaded, &found.assignment))?;
+            write(&self.file(stem, "schedule"), filed::schedule(loaded, &found.schedule))?;
         }
-        write(&self.file(stem, "reached"), &told::asserts(loaded, &solved.reach))?;
-        write(&self.file(stem, ANSWER), &answer_file(loaded, summary))
+        write(&self.file(stem, "reached"), told::asserts(loaded, &solved.reach))?;
+        write(&self.file(stem, ANSWER), answer_file(loaded, summary))
     }
 }
 
