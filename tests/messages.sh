@@ -340,9 +340,9 @@ two_names() {
     for file in $'a\xff' $'a\xfe' $'a\nb'; do cp cases/case-a.case "$folder/$file.case"; done
     solver "cat >/dev/null; echo sat; echo '$model'"
     says 'a folder' 1 '3 cases: 3 violated' "$menduvo" solve "$folder" --keep "$scratch/two"
-    result 'three names in its table' test "$(grep -c -e '^a\\nb.case ' -e '^a\\xfe.case ' -e '^a\\xff.case ' "$scratch/out")" = 3
+    result 'three names in its table' test "$(grep -c -e '^folder/a\\nb.case ' -e '^folder/a\\xfe.case ' -e '^folder/a\\xff.case ' "$scratch/out")" = 3
     result 'nothing that a terminal acts on' eval '! LC_ALL=C grep -q "[^ -~]" "$scratch/out"'
-    result 'twelve files' test "$(find "$scratch/two" -type f -printf x)" = xxxxxxxxxxxx
+    result 'six files of each' test "$(find "$scratch/two" -type f -printf x)" = xxxxxxxxxxxxxxxxxx
     for file in $'a\xff' $'a\xfe' $'a\nb'; do
         result 'a file has the name of its case' test -s "$scratch/two/$file.schedule"
     done
@@ -354,7 +354,7 @@ two_names() {
 # picture NAME TITLE: the picture of a case with this name is XML, and has this title.
 picture() {
     cp cases/case-a.case "$scratch/$1.case"
-    run "$menduvo" picture "$scratch/$1.case" cases/case-a.schedule -o "$scratch/picture.svg"
+    run "$menduvo" picture "$scratch/$1.case" cases/case-a.schedule -o "$scratch/picture.svg" --force
     result "the picture of $2 is drawn" test "$status" = 0
     run xmllint --noout "$scratch/picture.svg"
     result "the picture of $2 is XML" test "$status, $out" = '0, '
@@ -374,7 +374,7 @@ pictures() {
     ) !\"#\$%&'()*+,-.0123456789:;<=>?@ABCDEFGHIJKLMNOPQRSTUVWXYZ[\\\\]^_\`abcdefghijklmnopqrstuvwxyz{|}~\\x7f"
     picture "$high" "$(for byte in {128..255}; do printf '\\x%02x' "$byte"; done)"
     picture $'\xef\xbf\xbe\xef\xbf\xbf]]>&lt;' '\u{fffe}\u{ffff}]]>&lt;'
-    run bash -c "$menduvo picture - cases/case-a.schedule -o '$scratch/picture.svg' <cases/case-a.case"
+    run bash -c "$menduvo picture - cases/case-a.schedule -o '$scratch/picture.svg' --force <cases/case-a.case"
     result 'the title of standard input' grep -q '>case</text>' "$scratch/picture.svg"
 }
 

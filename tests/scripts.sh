@@ -1,7 +1,7 @@
 #!/usr/bin/env bash
 # Tests what scripts build on: every object that the command prints with --json is as docs/output.schema.json says, text and
 # objects agree, and the commands of docs/PARALLEL.md do what stands there. tests/json reads the objects and holds them to the
-# schema; that it can say no is tested first.
+# schema; tests/validator.sh tests that it can say no.
 set -u
 cd -- "$(dirname -- "${BASH_SOURCE[0]}")/.." || exit
 . tests/counting.sh || exit
@@ -13,135 +13,6 @@ json=$PWD/target/json/release/menduvo-json
 schema=$PWD/docs/output.schema.json
 seen=$PATH # the PATH that the command sees
 export TMPDIR=$scratch
-
-# ---- The reader and the validator.
-
-# reads NAME STATUS SCHEMA: the validator's exit status on standard input.
-reads() {
-    out=$("$json" validate <(printf '%s' "$3") 2>&1)
-    status=$?
-    result "$1" test "$status" = "$2"
-}
-
-reader() {
-    local text
-    while read -r text; do
-        reads "JSON: $text" 0 '{}' <<<"$text"
-    done <<'GOOD'
-{}
- { "a" : [ ] , "b" : { } , "c" : [ 1 , [ ] ] }
-{"a":[0,-0,12,-1.5,1e3,1E-3,0.25e+2,true,false,null]}
-{"a":"\"\\\/\b\f\n\r\t\u00e4\ud83d\ude00 ä😀"}
-GOOD
-    while read -r text; do
-        reads "no JSON: $text" 1 '{}' <<<"$text"
-    done <<'BAD'
-[1]
-1
-null
-{"a":01}
-{"a":1.}
-{"a":.5}
-{"a":+1}
-{"a":-}
-{"a":1e}
-{"a":0x10}
-{"a":1e999}
-{"a":NaN}
-{"a":nul}
-{"a":True}
-{"a":1,}
-{,}
-{"a":[1,]}
-{"a":[,1]}
-{"a":[1 2]}
-{"a" 1}
-{"a"}
-{a:1}
-{'a':1}
-{"a":1}}
-{"a":1}{"b":1}
-{"a":1
-{"a":"x
-{"a":"\x"}
-{"a":"\u12g4"}
-{"a":"\u+123"}
-{"a":"\ud800"}
-{"a":"\ud800\u0041"}
-{"a":"\udc00"}
-{"a":1,"a":2}
-// {"a":1}
-BAD
-    reads 'an empty line' 1 '{}' <<<$'{}\n\n{}'
-    reads 'a tab in a text' 1 '{}' <<<$'{"a":"\t"}'
-    reads 'a form feed for a blank' 1 '{}' <<<$'{\f}'
-    reads 'a mark of byte order' 1 '{}' <<<$'\ufeff{}'
-    reads 'bytes that are no UTF-8' 1 '{}' <<<$'{"a":"\xff"}'
-    reads 'no line' 1 '{}' </dev/null
-    reads 'a line that does not end' 1 '{}' < <(printf '{}')
-    reads 'lists without end' 1 '{}' < <(printf '{"a":'; printf '[%.0s' {1..100000}; echo)
-    out=$("$json" get a 1 b <<<$'{"a":[0,{"b":"x\\u0041\\ny"}]}\n{"a":[0,{"b":1.5}]}')
-    result 'a value is found' test "$out" = $'xA\ny\n1.5'
-}
-
-# Each keyword can say no, and one that is not known is refused wherever it stands. A line: status, schema, object.
-keywords() {
-    local wanted text object
-    while IFS='|' read -r wanted text object; do
-        reads "$text with $object" "$wanted" "$text" <<<"$object"
-    done <<'SCHEMAS'
-0|{"properties":{"a":{"type":"integer"}}}|{"a":1}
-1|{"properties":{"a":{"type":"integer"}}}|{"a":1.5}
-1|{"properties":{"a":{"type":"integer"}}}|{"a":"1"}
-0|{"properties":{"a":{"type":"number"}}}|{"a":1.5}
-1|{"properties":{"a":{"type":"number"}}}|{"a":true}
-0|{"properties":{"a":{"type":["string","null"]}}}|{"a":null}
-1|{"properties":{"a":{"type":["string","null"]}}}|{"a":false}
-1|{"properties":{"a":{"type":"array"}}}|{"a":{}}
-1|{"properties":{"a":{"type":"object"}}}|{"a":[]}
-1|{"properties":{"a":{"type":"boolean"}}}|{"a":null}
-0|{"properties":{"a":{"const":"x"}}}|{"a":"x"}
-1|{"properties":{"a":{"const":"x"}}}|{"a":"y"}
-1|{"properties":{"a":{"const":1}}}|{"a":"1"}
-1|{"properties":{"a":{"enum":[1,"x"]}}}|{"a":2}
-1|{"properties":{"a":{}},"required":["a"]}|{"b":1}
-0|{"properties":{"a":{}},"required":["a"]}|{"b":1,"a":null}
-1|{"properties":{"a":{}},"additionalProperties":false}|{"a":1,"b":1}
-1|{"properties":{"a":{"items":{"const":1}}}}|{"a":[1,1,2]}
-0|{"properties":{"a":{"minItems":2,"maxItems":3}}}|{"a":[1,1]}
-1|{"properties":{"a":{"minItems":2,"maxItems":3}}}|{"a":[1]}
-1|{"properties":{"a":{"minItems":2,"maxItems":3}}}|{"a":[1,1,1,1]}
-0|{"properties":{"a":{"minimum":1,"maximum":2}}}|{"a":2}
-1|{"properties":{"a":{"minimum":1,"maximum":2}}}|{"a":0}
-1|{"properties":{"a":{"minimum":1,"maximum":2}}}|{"a":3}
-0|{"properties":{"a":{"oneOf":[{"const":1},{"const":2}]}}}|{"a":2}
-1|{"properties":{"a":{"oneOf":[{"const":1},{"const":2}]}}}|{"a":3}
-1|{"properties":{"a":{"oneOf":[{"const":1},{"type":"integer"}]}}}|{"a":1}
-0|{"$defs":{"x":{"const":1}},"properties":{"a":{"$ref":"#/$defs/x"}}}|{"a":1}
-1|{"$defs":{"x":{"const":1}},"properties":{"a":{"$ref":"#/$defs/x"}}}|{"a":2}
-2|{"pattern":"x"}|{}
-2|{"properties":{"a":{"format":"x"}}}|{}
-2|{"$defs":{"x":{"allOf":[]}}}|{}
-2|{"properties":{"a":{"items":{"uniqueItems":true}}}}|{}
-2|{"oneOf":[{"not":{}}]}|{}
-2|{"additionalProperties":true}|{}
-2|{"additionalProperties":{}}|{}
-2|{"properties":{"a":true}}|{}
-2|{"type":"int"}|{}
-2|{"const":[1]}|{}
-2|{"required":["a"],"properties":{"b":{}}}|{}
-2|{"$ref":"#/$defs/none"}|{}
-2|{"$ref":"other.json"}|{}
-2|{"$defs":{"x":{"$ref":"#/$defs/x"}}}|{}
-2|{"maximum":"1"}|{}
-2|[]|{}
-2|{"type":}|{}
-SCHEMAS
-    reads 'a path is told' 1 '{"properties":{"a":{"items":{"properties":{"b":{"const":1}}}}}}' <<<'{"a":[{},{"b":2}]}'
-    result 'it is the path' test "$out" = 'line 1: /a/1/b: is none of: 1'
-    reads 'a line is told' 1 '{"properties":{"a":{}},"required":["a"]}' <<<$'{"a":1}\n{}'
-    result 'it is the line' test "$out" = "line 2: /: has no 'a'"
-}
 
 # ---- The objects.
 
@@ -188,9 +59,11 @@ is() {
 
 # tells NAME: what is told on standard error is the object's message, as it is without --json.
 tells() {
-    local lines=() line
-    for ((line = 0; line < $(get message); line++)); do lines+=("$(get message "$line")"); done
-    printf 'menduvo: %s\n' "$(printf '%s\n' "${lines[@]}")" >"$scratch/message"
+    local lines=() line count
+    count=$(get message)
+    [[ $count =~ ^[0-9]+$ ]] || count=0
+    for ((line = 0; line < count; line++)); do lines+=("$(get message "$line")"); done
+    printf 'menduvo: %s\n' "$(printf '%s\n' "${lines[@]:-}")" >"$scratch/message"
     result "$1, the message" eval 'cmp -s "$scratch/message" "$scratch/errors" && cmp -s "$scratch/told" "$scratch/errors"'
 }
 
@@ -225,7 +98,9 @@ replays() {
     local field step=
     for field in block thread line record does event words; do step+="$(get steps 2 "$field"), "; done
     result 'a step' test "$step" = '1, 1, 1, 5, G0 = 5, set, G0 = 5, '
-    result 'the broken one' eval '[ "$(get steps 4 event)" = broken ] && [ "$(get steps 4 words)" = "5 == 1 is false" ]'
+    step=
+    for field in block thread line record event words; do step+="$(get steps 4 "$field"), "; done
+    result 'the broken one' test "$step" = '2, 0, 4, 4, broken, 5 == 1 is false, '
     object 'replay, clean' 0 clean replay cases/interlock.case cases/interlock.schedule
     is 'replay, clean' null record
     object 'replay, cut off' 0 'cut off' replay cases/lock-order.case cases/lock-order.schedule
@@ -265,6 +140,11 @@ listings() {
         result "show $name: there are lines" test -s "$scratch/lines"
     done
     object 'show, a case without a record' 0 shown show "$scratch/empty.case"
+    # L0 = L0 + L0
+    fields 2 0 0 0 1 0 0 0 0 0 0 0 0 0 0 0 0 1 0 0 1 0 0 0 >"$scratch/double.case"
+    object 'show, a name three times' 0 shown show "$scratch/double.case"
+    is 'show, a name three times' 1 threads 0 lines 0 copies
+    is 'show, a name three times' L0 threads 0 lines 0 copies 0 name
 }
 
 # What is refused, and what is not there: in every command, for every input.
@@ -311,7 +191,7 @@ failures() {
 names() {
     local name shown seen=$scratch/fakes:$seen
     fake z3 "cat >/dev/null; echo sat; echo '$model'"
-    for name in 'quo"te' $'new\nline' $'\e[2Jclear' $'no\xff\xfeutf' 'back\slash' $'tab\tbed' 'ünï😀' $'\u202eturned' \
+    for name in 'quo"te' $'new\nline' $'\e[2Jclear' $'no\xff\xfeutf' 'back\slash' $'tab\tbed' 'ünï😀' $'\xe2\x80\xaeturned' \
         '","status":0,"answer":"unsat' ' '; do
         cp cases/case-a.case "$scratch/$name.case"
         object "show $(printf %q "$name")" 0 shown show "$scratch/$name.case"
@@ -337,7 +217,7 @@ several() {
         { echo "== $a"; "$menduvo" "$command" "$a"; echo "== $b"; "$menduvo" "$command" "$b"; } >"$scratch/both"
         result "$command, two cases" eval '[ "$status" = 0 ] && cmp -s "$scratch/out" "$scratch/both"'
         called "$command" "$a" "$b"
-        result "$command, two objects" eval '[ "$status" = 0 ] && [ "$(get case)" = "$a"$'"'\n'"'"$b" ] && [ "$(get status)" = $'"'0\n0'"' ]'
+        result "$command, two objects" eval '[ "$status" = 0 ] && has_all 2 && [ "$(get case | tr "\n" " ")" = "$a $b " ]'
         run "$menduvo" "$command" "$scratch/damaged.case" "$a"
         result "$command, the first is refused" eval '[ "$status" = 2 ] && [[ $out = *"refusal 2"*"== $a"* ]]'
         run "$menduvo" "$command" "$scratch/damaged.case" "$scratch/none" "$a"
@@ -348,7 +228,8 @@ several() {
         result "$command, three objects" eval '[ "$status" = 3 ] && [ "$(get status)" = $'"'2\n3\n0'"' ] && has_all 3'
         result "$command, two messages" test "$(grep -c '^menduvo: ' "$scratch/errors")" = 2
         run bash -c "'$menduvo' $command $a $b --json >/dev/full"
-        result "$command, standard output is full" eval '[ "$status" = 3 ] && [ "$(grep -c "standard output: " "$scratch/out")" = 1 ]'
+        result "$command, standard output is full, told once" eval '[ "$status" = 3 ] &&
+            [ "$(grep -c "standard output: " "$scratch/out")" = 1 ]'
         run bash -c "'$menduvo' $command $a $b >&-"
         result "$command, standard output is closed" eval '[ "$status" = 3 ] && [[ $out = *"standard output is closed"* ]]'
     done
@@ -426,12 +307,13 @@ solves() {
 
 # Every case that ships, one after the other and two at a time: the same answers.
 real() {
-    local order
+    local order again
     called solve cases --solver z3
     result 'z3, all cases' eval '[ "$status" = 1 ] && has_all 7'
     order=$(sed -n 's/.*"answers"://p' "$scratch/objects")
     called solve cases --solver z3 --jobs 2
-    result 'z3, two at a time' eval '[ "$status" = 1 ] && has_all 7 && [ "$(sed -n "s/.*\"answers\"://p" "$scratch/objects")" = "$order" ]'
+    again=$(sed -n 's/.*"answers"://p' "$scratch/objects")
+    result 'z3, two at a time' eval '[ "$status" = 1 ] && has_all 7 && [ "$again" = "$order" ]'
     result 'the answers' test "$(grep -o '"answer":"[a-z]*"' <<<"$order" | cut -d '"' -f 4 | tr '\n' ' ')" = \
         'violated unsat violated unsat unsat violated '
 }
@@ -476,14 +358,15 @@ verifies() {
 forms() {
     sort -u "$scratch/all" | awk '{
         form = match($0, /"answer":"[a-z ]*"/) ? substr($0, RSTART, RLENGTH) : ""
-        form = substr($0, 1, index($0, ",")) form ($0 ~ /"summary"/) ($0 ~ /"refusal":null/) ($0 ~ /"message"/)
+        form = substr($0, 1, index($0, ",")) form ($0 ~ /"status":1/)
+        form = form ($0 ~ /"summary"/) ($0 ~ /"refusal":null/) ($0 ~ /"message"/)
         if (!(form in seen)) print
         seen[form] = 1
     }'
 }
 
-# damaged_objects: each object of standard input, damaged in one place: no field, one too many, a value of another type, a
-# number that is negative, another element in a list, another status.
+# damaged_objects: each object of standard input, damaged in one place: a field less, another or one too many, also in an object
+# within; a value of another type; a number that is negative; another element in a list, or none; another status.
 damaged_objects() {
     awk '
         function change(key, pattern, before, after, kept,    head) {
@@ -495,7 +378,13 @@ damaged_objects() {
         function damage(key,    head) {
             head = "\"" key "\":"
             if (match($0, head)) print substr($0, 1, RSTART) "x" substr($0, RSTART + 1)
-            if (match($0, head "\\[[^]]")) print substr($0, 1, RSTART + length(head)) "{}," substr($0, RSTART + length(head) + 1)
+            if (match($0, "[{]" head)) print substr($0, 1, RSTART) "\"stray\":1," substr($0, RSTART + 1)
+            if (match($0, head "(null|true|false|[0-9.]+|\"[^\"\\\\]*\"|\\[[^][{]*\\]),"))
+                print substr($0, 1, RSTART - 1) substr($0, RSTART + RLENGTH)
+            if (match($0, head "\\[[^]]")) {
+                print substr($0, 1, RSTART + length(head)) "{}," substr($0, RSTART + length(head) + 1)
+                print substr($0, 1, RSTART + length(head)) "null," substr($0, RSTART + length(head) + 1)
+            }
             change(key, "\\[\\]", "[{}]", "", 0)
             change(key, "\\[[^][]*\\]", "{}", "", 0)
             change(key, "([0-9.]+|true|false)", "\"", "\"", 1)
@@ -507,6 +396,9 @@ damaged_objects() {
             change("status", "[0-9]", "4", "", 0)
             if ($0 !~ /"summary":true/) change("status", "[0-9]", $0 ~ /"status":[02]/ ? 3 : $0 ~ /"status":3/ ? 0 : 2, "", 0)
             change("answer", "\"[a-z ]*\"", "\"sat\"", "", 0)
+            change("message", "\\[[^]]*\\]", "[]", "", 0)
+            change("words", "\\[[^]]*\\]", "[]", "", 0)
+            change("solvers", "\\[[^]]*\\]", "[]", "", 0)
             change("row", "\\[", "[0,", "", 0)
             change("rows", "\\[\\[", "[[0,", "", 0)
             change("row", "\\[[0-9]+,", "[", "", 0)
@@ -580,7 +472,8 @@ parallel_jobs() {
     recipe 'several machines' 'On several machines'
     jobs_are_done 'several machines'
     result 'several machines: both had work' test "$(sort -u "$scratch/machines")" = $'alpha\nbeta'
-    result 'several machines: the job log names them' test "$(tail -n +2 "$place/out.joblog" | cut -f 2 | sort -u)" = $'alpha\nbeta'
+    result 'several machines: the job log names them' test \
+        "$(tail -n +2 "$place/out.joblog" | cut -f 2 | sort -u)" = $'alpha\nbeta'
 }
 
 # jobs_are_done NAME: each case has an object, its files, and a line in the job log with the status of its object.
@@ -604,8 +497,7 @@ run cargo build --release --offline --locked --quiet --manifest-path tests/json/
 result 'the validator is built' test "$status" = 0
 run "$menduvo" --version
 result 'the command is built' test "$status" = 0
-reader
-keywords
+[ "$failed" = 0 ] || { finish; exit; }
 checks
 replays
 listings

@@ -77,12 +77,4 @@ impl Failure {
             note(message);
         }
     }
-
-    /// The failure where nothing that a user gave can be at fault.
-    pub fn unexpected(self) -> Failure {
-        match self {
-            Failure::ByLibrary(_, message) | Failure::Refused(message) => Failure::Other(message),
-            other => other,
-        }
-    }
 }

@@ -52,14 +52,18 @@ pub const PAGES: [Page; 11] = [
         options: &[JSON],
         more: "The first line has the count of constraints and of variables. File it with the case: constants and\n\
                operations stand in the case alone.\n\
-               For a refused case it prints the refusal's number and its place on one line, with exit status 2.\n",
+               For a refused case it prints the refusal's number and its place on one line, with exit status 2.\n\
+               Of several cases each one's text comes after a line '== NAME'. All are done, though one is refused or\n\
+               is not there; the exit status is then 3 where something failed, else 2.\n",
     },
     Page {
         name: "show",
         usage: "show CASE..",
         summary: "print the threads as readable text",
         options: &[JSON],
-        more: "For each line: its record, its guard, what it does, and the copies of its names.\n",
+        more: "For each line: its record, its guard, what it does, and the copies of its names.\n\
+               Of several cases each one's text comes after a line '== NAME'. All are done, though one is refused or\n\
+               is not there; the exit status is then 3 where something failed, else 2.\n",
     },
     Page {
         name: "check",

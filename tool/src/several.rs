@@ -153,8 +153,8 @@ fn begin(wanted: &Arc<Wanted>, cases: &Arc<Vec<Source>>, asking: &Asking) -> Rec
         thread::spawn(move || loop {
             let index = next.fetch_add(1, Ordering::Relaxed);
             let Some(case) = cases.get(index) else { return };
-            let told = sender.send((index, None));
-            if told.and_then(|()| sender.send((index, Some(Summary::of(case, &wanted, &asking))))).is_err() {
+            let told = |summary| sender.send((index, summary)).is_ok();
+            if !told(None) || !told(Some(Summary::of(case, &wanted, &asking))) {
                 return;
             }
         });

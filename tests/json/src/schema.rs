@@ -1,5 +1,5 @@
-//! The part of JSON Schema (2020-12) that `docs/output.schema.json` uses. A keyword, or a form of one, that is not known here is
-//! refused before anything is validated: what is not understood must not pass as met.
+//! The part of JSON Schema (2020-12) that `docs/output.schema.json` uses. A keyword, or a form of one, that is not known here
+//! is refused before anything is validated: what is not understood must not pass as met.
 
 use crate::value::Value;
 
