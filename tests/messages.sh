@@ -325,7 +325,7 @@ names() {
     shown $'Übung é 水 \xf0\x9f\x98\x80' $'Übung é 水 \xf0\x9f\x98\x80'
     says 'a command that is none' 3 "there is no command 'a\\x1b'" "$menduvo" $'a\x1b'
     says 'an option that is none' 3 "there is no option '-\\x1b'" "$menduvo" list $'-\x1b'
-    says 'an operand too many' 3 "'\\x1b' is too much" "$menduvo" list x $'\x1b'
+    says 'an operand too many' 3 "'\\x1b' is too much" "$menduvo" decode x y $'\x1b'
     says 'a solver that is none' 3 "'\\x1b' is not a solver" "$menduvo" solve x --solver $'\x1b'
     says 'a picture that cannot be written' 3 'menduvo: \x1b/x: ' \
         "$menduvo" picture cases/case-a.case cases/case-a.schedule -o "$scratch/"$'\x1b/x'

@@ -5,6 +5,7 @@ use crate::file::Filing;
 use crate::help::{named, Page};
 use crate::input::Source;
 use crate::keep::Keep;
+use crate::name::shown;
 use crate::solve::{Settings, Wanted};
 use crate::solver::Solver;
 use crate::verified::Verifying;
@@ -199,20 +200,21 @@ impl Parts {
         self.options.iter().find(|(option, _)| *option == name).map(|(_, value)| value.clone())
     }
 
+    /// An option's value as it is shown, which is the value itself where it is plain.
     fn text(&self, name: &str) -> Option<String> {
-        self.value(name).map(|value| value.to_string_lossy().into_owned())
+        self.value(name).map(|value| shown(&value))
     }
 
     /// The chosen solvers; none where none is chosen.
     fn solvers(&self) -> Result<Vec<Solver>, Failure> {
-        match (self.text("--solver"), self.text("--solver-command")) {
+        match (self.text("--solver"), self.value("--solver-command")) {
             (Some(_), Some(_)) => Err(self.usage("--solver and --solver-command exclude each other")),
             (Some(name), None) => {
                 Solver::named(&name).ok_or_else(|| self.usage(&format!("'{name}' is not a solver that this command knows")))
             }
             (None, Some(words)) => {
-                let solver = Solver::of_command(&words).ok_or_else(|| self.usage("--solver-command names no program"))?;
-                Ok(vec![solver])
+                let solver = words.to_str().and_then(Solver::of_command);
+                Ok(vec![solver.ok_or_else(|| self.usage("--solver-command names no program"))?])
             }
             (None, None) => Ok(Vec::new()),
         }
