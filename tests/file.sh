@@ -134,7 +134,7 @@ filing() {
 as_printed() {
     local call
     while IFS='|' read -r file call; do
-        run bash -c "cd '$scratch/violated' && $binary $call"
+        run bash -c "cd '$scratch/violated' && '$binary' $call"
         result "$file is as printed" cmp -s "$scratch/out" "$scratch/violated/$file"
     done <<'CALLS'
 listing.txt|list case.case
@@ -256,16 +256,17 @@ FAKES
 
 # A command that is killed leaves a folder that says by its name what it is.
 interrupted() {
-    local seen=$scratch/fakes:$seen process left='' tries
-    solver z3 'sleep 30'
+    local seen=$scratch/fakes:$seen process tries
+    solver z3 "touch '$scratch/begun'; sleep 30"
     mkdir "$scratch/killed"
     PATH=$seen "$binary" file cases/case-a.case "$scratch/killed/new" >"$scratch/out" 2>&1 </dev/null &
     process=$!
     for tries in {1..100}; do
-        left=$(ls -A "$scratch/killed")
-        [ -z "$left" ] || break
+        [ ! -e "$scratch/begun" ] || break
         sleep 0.02
     done
+    # The solver is to die with the command, which has noted it by now.
+    sleep 0.1
     kill -9 "$process"
     wait "$process" 2>/dev/null
     run ls -A "$scratch/killed"

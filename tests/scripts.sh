@@ -416,7 +416,7 @@ damaged_objects() {
 damages() {
     forms >"$scratch/forms"
     out=$(cut -c 1-120 "$scratch/forms")
-    result 'every form was printed' test "$(wc -l <"$scratch/forms")" = 32
+    result 'every form was printed' test "$(wc -l <"$scratch/forms")" = 34
     damaged_objects <"$scratch/forms" >"$scratch/damages"
     out=$("$json" refuse "$schema" <"$scratch/damages" 2>&1)
     [[ $out != line*valid ]] || out+=": $(sed -n "$(tr -dc 0-9 <<<"$out")p" "$scratch/damages")"

@@ -179,7 +179,7 @@ impl Report {
                 ("note", note.as_str().into()),
             ])
         });
-        let message = self.failure.as_ref().and_then(Failure::message).unwrap_or_default();
+        let message = self.failure.as_ref().and_then(Failure::message).map(|message| list(message.lines()));
         Json::Object(vec![
             ("command", "verify".into()),
             ("folder", self.folder.as_str().into()),
@@ -190,7 +190,7 @@ impl Report {
             ("files", Json::List(files.collect())),
             ("notes", list(self.notes.iter().map(String::as_str))),
             ("again", again.into()),
-            ("message", list(message.lines())),
+            ("message", message.into()),
         ])
     }
 }
