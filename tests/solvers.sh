@@ -147,6 +147,8 @@ vacuous() {
         "$menduvo" solve "$scratch/idle.case"
     says 'its assert' 0 'line 1: assert 1): NEVER REACHED within n = 1: nothing was checked of it' "$menduvo" solve "$scratch/idle.case"
     result 'no solver is asked what is plain' test "$(wc -l <"$scratch/asked")" = 3
+    run env PATH="$scratch/bare" "$menduvo" solve "$scratch/none.case"
+    result 'it is said where there is no solver' eval '[[ $out = *"nothing is checked here, whatever a solver says: the case has no assert"*"no solver is installed"* ]]'
     says 'vacuous is strictly no success' 1 VACUOUS "$menduvo" solve "$scratch/none.case" --strict
     rm -f "$scratch/fakes/z3"
     # Assert 1; if L5: assert 1, which is never reached.

@@ -43,19 +43,19 @@ impl Drop for Guarded {
 
 fn tell(sign: char, group: u32) -> io::Result<()> {
     let mut shell = SHELL.lock().unwrap_or_else(PoisonError::into_inner);
-    if shell.is_none() {
-        *shell = start()?;
+    let line = format!("{sign} {group}\n");
+    if shell.as_mut().is_some_and(|input| input.write_all(line.as_bytes()).is_ok()) {
+        return Ok(());
     }
-    match shell.as_mut() {
-        Some(input) => input.write_all(format!("{sign} {group}\n").as_bytes()),
-        None => Err(io::Error::other("the shell that ends solvers cannot be told anything")),
-    }
+    // There is none yet, or somebody ended it.
+    let input = start()?;
+    shell.insert(input).write_all(line.as_bytes())
 }
 
 /// In a group of its own, so that an interrupt from the keyboard does not reach it.
-fn start() -> io::Result<Option<ChildStdin>> {
+fn start() -> io::Result<ChildStdin> {
     let mut shell = Command::new("/bin/sh");
     shell.args(["-c", SCRIPT]).process_group(0);
     let child = shell.stdin(Stdio::piped()).stdout(Stdio::null()).stderr(Stdio::null()).spawn()?;
-    Ok(child.stdin)
+    child.stdin.ok_or_else(|| io::Error::other("the shell that ends solvers cannot be told anything"))
 }

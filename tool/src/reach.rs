@@ -56,7 +56,7 @@ pub fn changed(case: &Case, zeros: &[u16]) -> Vec<u8> {
 }
 
 /// Why no run is complete, or there is nothing to reach, where no solver is needed to see it.
-fn plain(case: &Case) -> Option<String> {
+pub fn plainly_nothing(case: &Case) -> Option<String> {
     if !case.records.iter().any(|record| record.kind == Kind::Assert) {
         return Some("the case has no assert".to_string());
     }
@@ -72,7 +72,7 @@ impl Reach {
         let case = &loaded.case;
         let lines = case.chains.iter().flatten().copied();
         let asserts: Vec<u16> = lines.filter(|&line| case.record(line).kind == Kind::Assert).collect();
-        let plain = plain(case);
+        let plain = plainly_nothing(case);
         let first = if plain.is_some() { Reached::Never } else { Reached::NotKnown(String::new()) };
         let asserts = asserts.into_iter().map(|record| (record, first.clone())).collect();
         let mut reach = Reach { asserts, plain, questions: Vec::new() };

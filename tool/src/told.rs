@@ -6,7 +6,7 @@ use crate::input::Source;
 use crate::name::shown;
 use crate::objects;
 use crate::output::Output;
-use crate::reach::{Reach, Reached};
+use crate::reach::{self, Reach, Reached};
 use crate::solve::{solve, Found, Solved, Verdict, Wanted};
 use crate::summary::Summary;
 use crate::words::{all, count, enumeration, numbers_in_lines, record_in_words, these};
@@ -14,7 +14,6 @@ use std::ffi::OsStr;
 
 /// `solve CASE`.
 pub fn one(source: &Source, wanted: &Wanted, output: &mut Output) -> Result<Status, Failure> {
-    let asking = wanted.settings.asking(false)?;
     let loaded = Loaded::from(source)?;
     if let Some(keep) = &wanted.keep {
         keep.prepare(&loaded.stem)?;
@@ -25,6 +24,10 @@ pub fn one(source: &Source, wanted: &Wanted, output: &mut Output) -> Result<Stat
     let constraints = count(loaded.table.rows.len(), "constraint", "constraints");
     let variables = count(loaded.table.variables, "variable", "variables");
     output.say(&format!("{}: {constraints} over {variables}\n", loaded.name))?;
+    if let Some(why) = reach::plainly_nothing(&loaded.case) {
+        output.say(&format!("nothing is checked here, whatever a solver says: {why}\n"))?;
+    }
+    let asking = wanted.settings.asking(false)?;
     let mut said = Ok(());
     let names = asking.names();
     let solved = solve(&loaded, &asking, &mut |verdict| said = output.say(&answer(&loaded, &names, verdict)))?;
