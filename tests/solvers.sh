@@ -237,7 +237,7 @@ dying() {
     fake z3 'echo $$ >"${0%/*}/../dying"; exec sleep 600'
     says 'a solver that takes too long' 3 'z3 gave no answer in time' "$menduvo" solve cases/case-a.case --timeout 0.3
     result 'it is gone' within 5 gone "$scratch/dying"
-    local signal
+    local signal moment
     for signal in KILL TERM INT; do
         rm -f "$scratch/dying"
         fake z3 'sleep 600 & echo $! $$ >"${0%/*}/../dying"; wait'
@@ -246,6 +246,13 @@ dying() {
         result "a solver dies with the command, and what it started too: $signal" within 5 gone "$scratch/dying"
         result "it was at work: $signal" test -s "$scratch/dying"
     done
+    # At any moment, also while solvers are being started.
+    : >"$scratch/dying"
+    fake z3 'echo $$ >>"${0%/*}/../dying"; exec sleep 600'
+    for moment in {5..40..1}; do
+        run bash -c "timeout -s KILL 0.0$((moment / 10))$((moment % 10)) '$menduvo' solve cases/case-a.case; true"
+    done
+    result 'at any moment' within 5 gone "$scratch/dying"
     fake z3 'cat >/dev/null; echo unsat; sleep 600 & echo $! >"${0%/*}/../dying"'
     says 'something holds the pipe' 0 'z3 says unsat' "$menduvo" solve cases/interlock.case
     result 'it is gone too' within 5 gone "$scratch/dying"

@@ -2,6 +2,7 @@
 //!
 //! `cargo run --release --offline -q -- [group]...` runs the named groups, or
 //! all that make sense. The last line is `N passed, M failed`.
+//! `-- write-cases FOLDER COUNT` writes random small cases.
 
 #![forbid(unsafe_code)]
 
@@ -53,6 +54,11 @@ fn under_test() -> impl calls::Calls {
 
 fn main() -> ExitCode {
     let names: Vec<String> = std::env::args().skip(1).collect();
+    if let [command, folder, cases] = names.as_slice() {
+        if command == "write-cases" {
+            return write_cases(folder, cases);
+        }
+    }
     let Some(chosen) = chosen_groups(&names) else {
         print_groups();
         return ExitCode::from(2);
@@ -70,6 +76,18 @@ fn main() -> ExitCode {
     let totals = report.totals.lock().expect("no check panics while it counts");
     println!("{} passed, {} failed", totals.passed, totals.failed);
     ExitCode::from(u8::from(totals.failed != 0))
+}
+
+/// Writes random small cases to a folder, for what is measured with them.
+fn write_cases(folder: &str, cases: &str) -> ExitCode {
+    let written = cases.parse().map_err(|_| format!("'{cases}' is no number"));
+    match written.and_then(|cases| groups::answers::write(folder.as_ref(), generate::BUSY, cases)) {
+        Ok(_) => ExitCode::SUCCESS,
+        Err(message) => {
+            eprintln!("{message}");
+            ExitCode::FAILURE
+        }
+    }
 }
 
 /// The groups that were named, or those that are run by default; none if a

@@ -30,6 +30,13 @@ pub enum End {
     Stuck,
 }
 
+/// Becomes a program, once it is told to go on. A command that is killed before it has told the guard of it tells it nothing.
+const WAITING: &str = "read -r go && exec \"$@\"";
+
+/// Of a small case a solver spends most of its time on memory that it is given page by page; so the C library of GNU is told to ask
+/// for large pages. It changes nothing else.
+const LARGE_PAGES: (&str, &str) = ("GLIBC_TUNABLES", "glibc.malloc.hugetlb=1");
+
 /// Runs a program on a text. It and all that it started is gone where this returns.
 pub fn run<A: AsRef<OsStr>>(
     program: &OsStr,
@@ -38,13 +45,16 @@ pub fn run<A: AsRef<OsStr>>(
     limit: Option<Duration>,
 ) -> io::Result<(Vec<u8>, End)> {
     let deadline = limit.map(|limit| Instant::now() + limit);
-    let mut command = Command::new(program);
-    command.args(arguments).stdin(Stdio::piped()).stdout(Stdio::piped()).process_group(0);
-    let mut child = command.spawn()?;
+    let mut command = Command::new("/bin/sh");
+    command.args(["-c", WAITING, "sh"]).arg(program).args(arguments);
+    if std::env::var_os(LARGE_PAGES.0).is_none() {
+        command.env(LARGE_PAGES.0, LARGE_PAGES.1);
+    }
+    let mut child = command.stdin(Stdio::piped()).stdout(Stdio::piped()).process_group(0).spawn()?;
     let guarded = Guarded::group_of(child.id());
     let (input, output) = (child.stdin.take(), child.stdout.take());
     let heard = guarded.is_ok().then(|| {
-        write(input, text);
+        write(input, format!("\n{text}"));
         hear(&mut child, &read(output), deadline)
     });
     let ended = heard.as_ref().is_some_and(|(_, end)| matches!(end, End::Itself(_)));
@@ -57,8 +67,7 @@ pub fn run<A: AsRef<OsStr>>(
 }
 
 /// Aside, as a program may print before it has read everything, or never read.
-fn write(input: Option<ChildStdin>, text: &str) {
-    let text = text.to_string();
+fn write(input: Option<ChildStdin>, text: String) {
     thread::spawn(move || {
         if let Some(mut input) = input {
             // A solver that does not read to the end is found out by its reply.

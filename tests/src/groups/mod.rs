@@ -1,8 +1,10 @@
 //! The groups of tests. Each is given the library under test: the proved one
 //! with the feature `proved`, else the second implementation itself. `mutants`
 //! leaves it aside and takes the second implementation with mistakes; `listing`
-//! holds it and the second implementation to what a program prints.
+//! holds it and the second implementation to what a program prints, and
+//! `answers` the command to the second implementation.
 
+pub mod answers;
 mod case_a;
 mod checks;
 mod decodings;
@@ -58,6 +60,10 @@ pub fn all() -> Vec<Group> {
     groups.push(Group {
         by_default: std::env::var_os(listing::PROGRAM).is_some(),
         ..group("listing", "the program in MENDUVO_LISTING", listing::run)
+    });
+    groups.push(Group {
+        by_default: std::env::var_os(answers::PROGRAM).is_some(),
+        ..group("answers", "the command in MENDUVO_COMMAND", answers::run)
     });
     groups
 }
