@@ -13,6 +13,15 @@ pub enum Status {
 }
 
 impl Status {
+    /// How a call ends with this exit status, where what failed was told.
+    pub fn of(number: i32) -> Result<Status, Failure> {
+        match number {
+            0 => Ok(Status::Done),
+            1 => Ok(Status::Found),
+            status => Err(Failure::Told(status)),
+        }
+    }
+
     pub fn number(self) -> i32 {
         match self {
             Status::Done => 0,

@@ -50,11 +50,7 @@ pub fn file(filing: &Filing, output: &mut Output) -> Result<Status, Failure> {
         count(folder.files.len(), "file", "files"),
         sha256::hex(manifest.as_bytes())
     ))?;
-    match solved.status(false) {
-        0 => Ok(Status::Done),
-        1 => Ok(Status::Found),
-        status => Err(Failure::Told(status)),
-    }
+    Status::of(solved.status(false))
 }
 
 /// Where the folder will be: nothing may be there, not even a link that leads nowhere.

@@ -26,6 +26,13 @@ impl From<usize> for Json {
     }
 }
 
+/// An exit status, which is 0 to 3.
+impl From<i32> for Json {
+    fn from(status: i32) -> Json {
+        Json::Number(status.unsigned_abs() as usize)
+    }
+}
+
 impl From<u16> for Json {
     fn from(value: u16) -> Json {
         Json::Number(usize::from(value))

@@ -10,7 +10,7 @@ use crate::summary::Summary;
 /// An input that was refused, or something else that failed.
 pub fn failed(command: &str, case: &str, input: &str, failure: &Failure) -> Json {
     let mut fields: Vec<(&'static str, Json)> =
-        vec![("command", command.into()), ("case", case.into()), ("status", (failure.status().unsigned_abs() as usize).into())];
+        vec![("command", command.into()), ("case", case.into()), ("status", failure.status().into())];
     if let Failure::ByLibrary(..) | Failure::Refused(_) = failure {
         let refusal = failure.refusal().map(|refusal| {
             Json::Object(vec![
@@ -48,7 +48,7 @@ pub fn solved(loaded: &Loaded, asking: &Asking, solved: &Solved, strict: bool) -
     Json::Object(vec![
         ("command", "solve".into()),
         ("case", loaded.name.as_str().into()),
-        ("status", (solved.status(strict).unsigned_abs() as usize).into()),
+        ("status", solved.status(strict).into()),
         ("answer", solved.word().into()),
         ("solvers", list(asking.solvers.iter().map(|solver| solver.name.as_str()))),
         ("seconds", Json::Seconds(solved.seconds)),
@@ -85,7 +85,7 @@ pub fn summary(summaries: &[Summary], status: i32) -> Json {
     Json::Object(vec![
         ("command", "solve".into()),
         ("summary", true.into()),
-        ("status", (status.unsigned_abs() as usize).into()),
+        ("status", status.into()),
         ("cases", summaries.len().into()),
         ("counts", Json::Object(counts.collect())),
         ("answers", Json::List(answers.collect())),

@@ -12,7 +12,7 @@ use crate::words::item_name;
 
 /// An object: the fields that all have, and then its own.
 fn object(command: &str, case: &str, status: Status, answer: &str, own: Vec<(&'static str, Json)>) -> Json {
-    let status = (status.number().unsigned_abs() as usize).into();
+    let status = status.number().into();
     let all = [("command", command.into()), ("case", case.into()), ("status", status), ("answer", answer.into())];
     Json::Object(all.into_iter().chain(own).collect())
 }

@@ -31,7 +31,7 @@ pub fn one_object(case: &Source, wanted: &Wanted, output: &mut Output) -> Result
     if let Some(message) = &summary.message {
         note(message);
     }
-    ended(summary.status(wanted.strict))
+    Status::of(summary.status(wanted.strict))
 }
 
 pub fn all(wanted: Wanted, output: &mut Output) -> Result<Status, Failure> {
@@ -72,15 +72,7 @@ pub fn all(wanted: Wanted, output: &mut Output) -> Result<Status, Failure> {
         (false, false) => format!("\nin the order of the cases:\n{}{}", columns.table(&summaries), counts(&summaries)),
     })?;
     tell_failures(&summaries);
-    ended(status)
-}
-
-fn ended(status: i32) -> Result<Status, Failure> {
-    match status {
-        0 => Ok(Status::Done),
-        1 => Ok(Status::Found),
-        status => Err(Failure::Told(status)),
-    }
+    Status::of(status)
 }
 
 /// Whom to ask, and the cases. Where nothing can begin, there is an object for each operand that says so.

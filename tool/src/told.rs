@@ -37,21 +37,13 @@ pub fn one(source: &Source, wanted: &Wanted, output: &mut Output) -> Result<Stat
         let object = objects::solved(&loaded, &asking, &solved, wanted.strict).to_string();
         keep.keep(&loaded, &solved, &Summary::of_solved(&loaded, &solved, object))?;
     }
-    ending(solved.status(wanted.strict), solved.verdict.trouble())
+    Status::of(solved.status(wanted.strict)).map_err(|_| Failure::Other(solved.verdict.trouble().to_string()))
 }
 
 /// An answer that was filed before.
 fn resumed(filed: &Summary, folder: &OsStr, wanted: &Wanted, output: &mut Output) -> Result<Status, Failure> {
     output.say(&format!("{}: filed in {} already: {}: {}\n", filed.name, shown(folder), filed.word, filed.note))?;
-    ending(filed.status(wanted.strict), &filed.note)
-}
-
-fn ending(status: i32, trouble: &str) -> Result<Status, Failure> {
-    match status {
-        0 => Ok(Status::Done),
-        1 => Ok(Status::Found),
-        _ => Err(Failure::Other(trouble.to_string())),
-    }
+    Status::of(filed.status(wanted.strict))
 }
 
 /// What the solvers say, and what the library makes of it. Where there is no answer, the failure says why.

@@ -49,21 +49,12 @@ pub fn verify(call: &Verifying, output: &mut Output) -> Result<Status, Failure> 
     match report(call) {
         Ok(report) => {
             output.say(&if call.json { format!("{}\n", report.json()) } else { report.text() })?;
-            ended(report.status(), report.failure)
+            Status::of(report.status()).map_err(|told| report.failure.unwrap_or(told))
         }
         Err(failure) => {
             let folder = Source::new(&call.folder);
             Said::failed("verify", &folder, &folder, failure, call.json).tell(output)
         }
-    }
-}
-
-fn ended(status: i32, failure: Option<Failure>) -> Result<Status, Failure> {
-    match (status, failure) {
-        (0, _) => Ok(Status::Done),
-        (1, _) => Ok(Status::Found),
-        (_, Some(failure)) => Err(failure),
-        (status, None) => Err(Failure::Told(status)),
     }
 }
 
@@ -183,7 +174,7 @@ impl Report {
         Json::Object(vec![
             ("command", "verify".into()),
             ("folder", self.folder.as_str().into()),
-            ("status", (self.status().unsigned_abs() as usize).into()),
+            ("status", self.status().into()),
             ("answer", self.word().into()),
             ("filed", self.answer.as_str().into()),
             ("manifest", self.manifest.as_str().into()),
