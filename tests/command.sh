@@ -3,14 +3,7 @@
 # damaged files, and outputs that fail. With --store it writes the expected texts anew.
 set -u
 cd -- "$(dirname -- "${BASH_SOURCE[0]}")/.." || exit
-. tests/counting.sh || exit
 . tests/helpers.sh || exit
-scratch=$(mktemp -d) || exit
-trap 'rm -rf -- "$scratch"' EXIT
-store=no
-[ "${1:-}" != --store ] || store=yes
-menduvo=$PWD/bin/menduvo
-seen=$PATH # the PATH that the command sees
 
 calling() {
     says 'the command is built' 0 'menduvo 0.' "$menduvo" --version

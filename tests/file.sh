@@ -3,13 +3,7 @@
 # every damage to it is told; and SHA-256 beside sha256sum.
 set -u
 cd -- "$(dirname -- "${BASH_SOURCE[0]}")/.." || exit
-. tests/counting.sh || exit
 . tests/helpers.sh || exit
-scratch=$(mktemp -d) || exit
-trap 'rm -rf -- "$scratch"' EXIT
-store=no
-menduvo=$PWD/bin/menduvo
-seen=$PATH
 
 # solver NAME BODY: a solver that does this, and has a version.
 solver() {
@@ -32,10 +26,6 @@ find_binary() {
     wait "$process"
     result 'the program is found' test "${binary##*/}" = menduvo
 }
-
-# A model of case A.
-model='((v0 #x0000) (v1 #x0000) (v2 #x0000) (v3 #x0001) (v4 #x0002) (v5 #x0005)'
-model+=' (v6 #x0002) (v7 #x0000) (v8 #x0001) (v9 #x0005) (v10 #x0001) (v11 #x0005))'
 
 # sums FOLDER: sha256sum takes its list as it is, and every file is the same.
 sums() {

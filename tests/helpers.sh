@@ -1,6 +1,17 @@
 # shellcheck shell=bash
-# The tests of the command source this, after counting.sh. They set the folder $scratch, the PATH $seen that the command sees,
-# and $store, which says whether expected texts are written anew.
+# The tests of the command source this, in the root of the tree. It counts (counting.sh), makes a scratch folder, and runs the command.
+. tests/counting.sh || exit
+scratch=$(mktemp -d) || exit
+trap 'rm -rf -- "$scratch"' EXIT
+menduvo=$PWD/bin/menduvo
+seen=$PATH # the PATH that the command sees
+store=no   # yes: expected texts are written anew
+[ "${1:-}" != --store ] || store=yes
+
+# A solver's model of case A, as get-value gives it.
+model='((v0 #x0000) (v1 #x0000) (v2 #x0000) (v3 #x0001) (v4 #x0002) (v5 #x0005)'
+# shellcheck disable=SC2034 # the tests read it
+model+=' (v6 #x0002) (v7 #x0000) (v8 #x0001) (v9 #x0005) (v10 #x0001) (v11 #x0005))'
 
 # run COMMAND..: as in counting.sh, with the PATH that the command sees. The output stays in a file too, without the scratch
 # folder's name.
@@ -34,7 +45,7 @@ says() {
     result "$name" eval '[ "$status" = '"$wanted"' ] && [[ $out = *"$text"* ]]'
 }
 
-# fake NAME BODY: a program in the scratch folder's fakes. They come first in PATH where $seen begins with $scratch/fakes.
+# fake NAME BODY: a program in the scratch folder's fakes. The command sees it where $seen begins with $scratch/fakes.
 fake() {
     mkdir -p "$scratch/fakes"
     printf '#!%s\n%s\n' "$BASH" "$2" >"$scratch/fakes/$1" && chmod +x "$scratch/fakes/$1"

@@ -4,12 +4,9 @@
 # scratch tree, where rt and cargo are fakes that note their calls, and at the end the real command in a copy of this tree.
 set -u
 cd -- "$(dirname -- "${BASH_SOURCE[0]}")/.." || exit
-. tests/counting.sh || exit
-scratch=$(mktemp -d) || exit
+. tests/helpers.sh || exit
 # What a test left waiting ends first.
 trap 'touch "$scratch/go"; wait; chmod -R u+w "$scratch"; rm -rf -- "$scratch"' EXIT
-. tests/helpers.sh || exit
-seen=$PATH
 by_hand=${MENDUVO_LIB_DIR:-} # for the real command
 unset MENDUVO_LIB_DIR MENDUVO_COMMIT "${!GIT_@}"
 tree="$scratch/a tree" menduvo="$scratch/a tree/bin/menduvo"

@@ -4,24 +4,8 @@
 # Needs xmllint (Debian package libxml2-utils).
 set -u
 cd -- "$(dirname -- "${BASH_SOURCE[0]}")/.." || exit
-. tests/counting.sh || exit
 . tests/helpers.sh || exit
-scratch=$(mktemp -d) || exit
-trap 'rm -rf -- "$scratch"' EXIT
-# shellcheck disable=SC2034 # helpers.sh reads it
-store=no
-menduvo=$PWD/bin/menduvo
-seen=$scratch/fakes:$PATH # the PATH that the command sees
-
-# solver BODY: the z3 that the command finds.
-solver() {
-    mkdir -p "$scratch/fakes"
-    printf '#!%s\n%s\n' "$BASH" "$1" >"$scratch/fakes/z3" && chmod +x "$scratch/fakes/z3"
-}
-
-# A model of case A, which is cases/case-a.assignment.
-model='((v0 #x0000) (v1 #x0000) (v2 #x0000) (v3 #x0001) (v4 #x0002) (v5 #x0005)
- (v6 #x0002) (v7 #x0000) (v8 #x0001) (v9 #x0005) (v10 #x0001) (v11 #x0005))'
+seen=$scratch/fakes:$PATH
 
 # text NAME STATUS WORDS TEXT: what check says of case A and this text, whose escapes are those of printf.
 text() {
@@ -74,7 +58,7 @@ texts() {
 
 # The files of numbers that the command writes say what they are, and so do those that ship.
 files() {
-    solver "cat >/dev/null; echo sat; echo '$model'"
+    fake z3 "cat >/dev/null; echo sat; echo '$model'"
     says 'files are kept' 1 'violated' "$menduvo" solve cases/case-a.case --keep "$scratch/kept"
     result 'an assignment as it ships' cmp "$scratch/kept/case-a.assignment" cases/case-a.assignment
     result 'a schedule as it ships' cmp "$scratch/kept/case-a.schedule" cases/case-a.schedule
@@ -92,7 +76,7 @@ files() {
     done
     # One record, an assert of 0, and one block.
     fields 2 0 0 0 1 0 0 0 0 0 0 0 0 0 0 0 0 5 0 0 0 16 0 0 >"$scratch/one.case"
-    solver "cat >/dev/null; echo sat; echo '((v0 #x0000) (v1 #x0000))'"
+    fake z3 "cat >/dev/null; echo sat; echo '((v0 #x0000) (v1 #x0000))'"
     run bash -c "$menduvo solve - --keep '$scratch/kept' <'$scratch/one.case'"
     run cat "$scratch/kept/case.assignment" "$scratch/kept/case.schedule"
     result 'singulars, and standard input' test "$out" = \
@@ -294,7 +278,7 @@ links() {
 
 singulars() {
     fields 2 1 0 0 0 0 0 0 0 0 0 0 0 0 0 0 >"$scratch/empty.case"
-    solver 'cat >/dev/null; echo unsat'
+    fake z3 'cat >/dev/null; echo unsat'
     says 'one constraint' 0 'nothing meets this one constraint.' "$menduvo" solve "$scratch/empty.case"
     result 'one switch' eval '[[ $out = *"within n = 1 switch, in"* ]]'
     says 'more constraints' 0 'nothing meets these 18 constraints.' "$menduvo" solve cases/case-a.case
@@ -338,7 +322,7 @@ two_names() {
     local folder=$scratch/folder file
     mkdir "$folder"
     for file in $'a\xff' $'a\xfe' $'a\nb'; do cp cases/case-a.case "$folder/$file.case"; done
-    solver "cat >/dev/null; echo sat; echo '$model'"
+    fake z3 "cat >/dev/null; echo sat; echo '$model'"
     says 'a folder' 1 '3 cases: 3 violated' "$menduvo" solve "$folder" --keep "$scratch/two"
     result 'three names in its table' test "$(grep -c -e '^folder/a\\nb.case ' -e '^folder/a\\xfe.case ' -e '^folder/a\\xff.case ' "$scratch/out")" = 3
     result 'nothing that a terminal acts on' eval '! LC_ALL=C grep -q "[^ -~]" "$scratch/out"'

@@ -4,21 +4,12 @@
 # schema; tests/validator.sh tests that it can say no.
 set -u
 cd -- "$(dirname -- "${BASH_SOURCE[0]}")/.." || exit
-. tests/counting.sh || exit
 . tests/helpers.sh || exit
-scratch=$(mktemp -d) || exit
-trap 'rm -rf -- "$scratch"' EXIT
-menduvo=$PWD/bin/menduvo
 json=$PWD/target/json/release/menduvo-json
 schema=$PWD/docs/output.schema.json
-seen=$PATH # the PATH that the command sees
 export TMPDIR=$scratch
 
 # ---- The objects.
-
-# A solver's model of case A, as get-value gives it.
-model='((v0 #x0000) (v1 #x0000) (v2 #x0000) (v3 #x0001) (v4 #x0002) (v5 #x0005)
- (v6 #x0002) (v7 #x0000) (v8 #x0001) (v9 #x0005) (v10 #x0001) (v11 #x0005))'
 
 # called ARGUMENTS..: calls the command with --json. Sets status; the objects stay in a file, and so do messages.
 called() {

@@ -4,19 +4,9 @@
 # it writes the expected texts anew.
 set -u
 cd -- "$(dirname -- "${BASH_SOURCE[0]}")/.." || exit
-. tests/counting.sh || exit
 . tests/helpers.sh || exit
-scratch=$(mktemp -d) || exit
-trap 'rm -rf -- "$scratch"' EXIT
-store=no
-[ "${1:-}" != --store ] || store=yes
-menduvo=$PWD/bin/menduvo
-seen=$scratch/fakes:$PATH # the PATH that the command sees
+seen=$scratch/fakes:$PATH
 mkdir "$scratch/fakes"
-
-# A solver's model of case A, as get-value gives it.
-model='((v0 #x0000) (v1 #x0000) (v2 #x0000) (v3 #x0001) (v4 #x0002) (v5 #x0005)
- (v6 #x0002) (v7 #x0000) (v8 #x0001) (v9 #x0005) (v10 #x0001) (v11 #x0005))'
 
 # within SECONDS COMMAND..: the command comes true within so many seconds.
 within() {
