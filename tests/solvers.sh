@@ -46,18 +46,20 @@ case_file() {
     fields 2 3 2 1 1 "$record" 0 0 0 0 0 0 0 0 0 0 "${all[@]}" >"$file"
 }
 
-# The one default that takes a minute to see is looked at in the end.
+# The defaults take a minute to see, so they are looked at in the end.
 begin_default_timeout() {
     mkdir "$scratch/hanging" "$scratch/slow"
     cp cases/case-a.case "$scratch/hanging"
     printf '#!%s\nexec sleep 600\n' "$BASH" >"$scratch/slow/z3" && chmod +x "$scratch/slow/z3"
     env PATH="$scratch/slow:$PATH" timeout 100 "$menduvo" solve "$scratch/hanging" >"$scratch/hanging.out" 2>&1 &
+    env PATH="$scratch/slow:$PATH" timeout 100 "$menduvo" solve cases/case-a.case >"$scratch/single.out" 2>&1 &
 }
 
 default_timeout() {
     wait %1
     status=$? out=$(<"$scratch/hanging.out")
     result 'a folder has a limit of itself' eval '[ "$status" = 3 ] && [[ $out = *"1 timeout"* ]]'
+    result 'one case has none' kill %2
 }
 
 answers() {
@@ -213,10 +215,10 @@ both() {
     says 'they disagree' 3 'z3 says sat, and its assignment is checked and replayed; cvc5 says unsat, and is wrong' \
         "$menduvo" solve cases/case-a.case --solver both
     fake cvc5 'exec sleep 60'
-    says 'one has no time, the other a run' 1 'violated: record 4' "$menduvo" solve cases/case-a.case --solver both --timeout 0.3
+    says 'one has no time, the other a run' 1 'violated: record 4' "$menduvo" solve cases/case-a.case --solver both --timeout 1.5
     fake z3 'cat >/dev/null; echo unsat'
     says 'one has no time, the other says unsat' 3 'cvc5 gave no answer in time; z3 says unsat' \
-        "$menduvo" solve cases/case-a.case --solver both --timeout 0.3
+        "$menduvo" solve cases/case-a.case --solver both --timeout 1.5
     fake cvc5 'cat >/dev/null; echo unsat; kill -9 $$'
     says 'one is killed, the other says unsat' 3 'signal 9; z3 says unsat' "$menduvo" solve cases/case-a.case --solver both
     rm -f "$scratch"/fakes/{z3,cvc5}
@@ -225,22 +227,22 @@ both() {
 
 dying() {
     fake z3 'echo $$ >"${0%/*}/../dying"; exec sleep 600'
-    says 'a solver that takes too long' 3 'z3 gave no answer in time' "$menduvo" solve cases/case-a.case --timeout 0.3
+    says 'a solver that takes too long' 3 'z3 gave no answer in time' "$menduvo" solve cases/case-a.case --timeout 1.5
     result 'it is gone' within 5 gone "$scratch/dying"
     local signal moment
     for signal in KILL TERM INT; do
         rm -f "$scratch/dying"
         fake z3 'sleep 600 & echo $! $$ >"${0%/*}/../dying"; wait'
         # Not in the background of this shell, where an interrupt would be ignored.
-        run bash -c "timeout -s $signal 0.5 '$menduvo' solve cases/case-a.case; true"
+        run bash -c "timeout -s $signal 2 '$menduvo' solve cases/case-a.case; true"
         result "a solver dies with the command, and what it started too: $signal" within 5 gone "$scratch/dying"
         result "it was at work: $signal" test -s "$scratch/dying"
     done
     # At any moment, also while solvers are being started.
     : >"$scratch/dying"
     fake z3 'echo $$ >>"${0%/*}/../dying"; exec sleep 600'
-    for moment in {5..40..1}; do
-        run bash -c "timeout -s KILL 0.0$((moment / 10))$((moment % 10)) '$menduvo' solve cases/case-a.case; true"
+    for moment in {005..150..4}; do
+        run bash -c "timeout -s KILL 0.$moment '$menduvo' solve cases/case-a.case; true"
     done
     result 'at any moment' eval '[ -s "$scratch/dying" ] && within 5 gone "$scratch/dying"'
     fake z3 'cat >/dev/null; echo unsat; sleep 600 & echo $! >"${0%/*}/../dying"'
@@ -278,9 +280,9 @@ folders() {
     fake z3 'case $(cat) in *"18 constraints"*) exec sleep 600 ;; *) echo unsat ;; esac'
     mkdir "$scratch/busy" && cp cases/{case-a,interlock,lock-order}.case "$scratch/busy"
     says 'a case that keeps the solver busy stops no other' 3 '3 cases: 0 violated, 2 unsat, 0 vacuous, 1 timeout' \
-        "$menduvo" solve "$scratch/busy" --timeout 0.3
+        "$menduvo" solve "$scratch/busy" --timeout 1.5
     fake z3 "case \$(cat) in *'18 constraints'*) echo sat; echo '$model' ;; *) sleep 600 ;; esac"
-    says 'a violation wins over a timeout' 1 '1 violated, 0 unsat, 0 vacuous, 2 timeout' "$menduvo" solve "$scratch/busy" --timeout 0.3
+    says 'a violation wins over a timeout' 1 '1 violated, 0 unsat, 0 vacuous, 2 timeout' "$menduvo" solve "$scratch/busy" --timeout 1.5
     parallel_jobs
     as_known
 }
@@ -305,7 +307,7 @@ as_known() {
     fake z3 "text=\$(cat); echo \$\$ >>\${0%/*}/../dying
         case \$text in *'18 constraints'*) echo sat; echo '$model' ;; *) exec sleep 600 ;; esac"
     : >"$scratch/dying"
-    run timeout -s INT 1.5 "$menduvo" solve "$scratch/busy" --keep "$scratch/partly"
+    run timeout -s INT 4 "$menduvo" solve "$scratch/busy" --keep "$scratch/partly"
     result 'an interrupt leaves the line that is known' eval '[[ $out = *"busy/case-a.case"*"violated"* ]] && [[ $out != *"2 cases"* ]]'
     result 'and the solvers are gone' within 5 gone "$scratch/dying"
     result 'and what was kept' test -s "$scratch/partly/case-a.answer" -a ! -e "$scratch/partly/interlock.answer"
