@@ -194,7 +194,7 @@ Files:
 const STATUSES: &str = "\
 Exit status:
   0  done
-  1  a violation was found, or an assignment fails
+  1  a violation was found, an assignment fails, or a filed folder is not the same
   2  an input was refused; the message has the refusal's number, its place and what it means
   3  something else failed: a file, a solver, standard output, the arguments
 ";
@@ -202,8 +202,9 @@ Exit status:
 /// `menduvo help`.
 pub fn all() -> String {
     let mut text = String::from("menduvo: bounded checking of threaded cases, over a proved library\n\nCommands:\n");
+    let width = PAGES.iter().map(|page| page.usage.len()).max().unwrap_or(0);
     for page in &PAGES {
-        text.push_str(&format!("  {:50} {}\n", page.usage, page.summary));
+        text.push_str(&format!("  {:width$}  {}\n", page.usage, page.summary));
     }
     text.push_str("  --version\n\n'menduvo COMMAND --help' says more about one. 'menduvo demo' shows the whole job.\n\n");
     text + FILES + "\n" + STATUSES
