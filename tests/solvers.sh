@@ -81,14 +81,15 @@ cat >/dev/null; echo unsat; kill -9 $$|z3 gave no answer that can be read: it pr
 cat >/dev/null; echo unsat; exit 1|z3 gave no answer that can be read: it printed 'unsat', but it ended with exit status 1
 echo unsat; echo '(error "no model")'|z3 gave no answer that can be read: it printed 'unsat', and then '(error "no model")'
 echo sat|z3 gave no answer that can be read: it says sat, and gives no model
+echo sat; echo '((v0 #x0000) (v3 #x0000))'|the model has no value for 10 of 12 variables (v1, v2, v4, v5, v6 and 5 more); 0 is taken for them
 echo sat; echo '((v0 #x0000)'|z3 gave no answer that can be read: a parenthesis is not closed
 echo sat; echo '(error "line 3: oops")'|z3 gave no answer that can be read: the solver reports an error
 printf '\377\376\033[2J\n'|z3 gave no answer that can be read: it printed
 trap '' PIPE; yes 2>/dev/null; exit 0|z3 gave no answer that can be read: it printed 'y'
 trap '' PIPE; yes sat 2>/dev/null; exit 0|z3 gave no answer that can be read: no value of v0
 echo unsat; exec >&-; sleep 60|z3 gave no answer that can be read: it printed 'unsat', but it did not end
-echo unknown|z3 gave up: the answer is unknown
-echo timeout|z3 gave no answer in time
+echo unknown|menduvo: unknown: z3 gave up
+echo timeout|menduvo: timeout: z3 gave no answer in time
 FAKES
     fake z3 'cat >/dev/null; echo unsat; exit 20'
     says 'a solver that ends with 20 after unsat' 0 'z3 says unsat' "$menduvo" solve cases/interlock.case
@@ -212,7 +213,7 @@ both() {
     says 'both say unsat' 0 'z3 and cvc5 say unsat' "$menduvo" solve cases/interlock.case --solver both --keep "$scratch/both"
     result 'both replies are kept' test "$(cat "$scratch"/both/interlock.{z3,cvc5}.reply)" = $'unsat\nunsat'
     fake z3 "cat >/dev/null; echo sat; echo '$model'"
-    says 'they disagree' 3 'z3 says sat, and its assignment is checked and replayed; cvc5 says unsat, and is wrong' \
+    says 'they disagree' 3 'the solvers disagree: z3 says sat, and its assignment is checked and replayed; cvc5 says unsat, and is wrong' \
         "$menduvo" solve cases/case-a.case --solver both
     fake cvc5 'exec sleep 60'
     says 'one has no time, the other a run' 1 'violated: record 4' "$menduvo" solve cases/case-a.case --solver both --timeout 1.5
@@ -227,7 +228,7 @@ both() {
 
 dying() {
     fake z3 'echo $$ >"${0%/*}/../dying"; exec sleep 600'
-    says 'a solver that takes too long' 3 'z3 gave no answer in time' "$menduvo" solve cases/case-a.case --timeout 1.5
+    says 'a solver that takes too long' 3 'timeout: z3 gave no answer in time' "$menduvo" solve cases/case-a.case --timeout 1.5
     result 'it is gone' within 5 gone "$scratch/dying"
     local signal moment
     for signal in KILL TERM INT; do

@@ -5,10 +5,9 @@ use crate::diagnosis;
 use crate::failure::{note, Failure};
 use crate::input::Source;
 use crate::needed;
-use crate::numbers::{self, Given};
+use crate::numbers::{self, Given, Model};
 use crate::refusal::Refusal;
 use crate::table::{self, Table};
-use crate::words::enumeration;
 use menduvo::{Checked, Decoded, Encoded, Listed, Replayed};
 use std::ffi::OsString;
 
@@ -74,7 +73,7 @@ impl Loaded {
     /// Numbers or a model, as an assignment.
     pub fn assignment(&self, source: &Source) -> Result<Vec<u16>, Failure> {
         match self.given(source)? {
-            Given::Numbers(numbers) | Given::Model { values: numbers, .. } => Ok(numbers),
+            Given::Numbers(numbers) | Given::Model(Model { values: numbers, .. }) => Ok(numbers),
         }
     }
 
@@ -82,7 +81,7 @@ impl Loaded {
     pub fn schedule(&self, source: &Source) -> Result<Vec<u16>, Failure> {
         match self.given(source)? {
             Given::Numbers(numbers) => Ok(numbers),
-            Given::Model { values, .. } => self.decode(&source.name(), &values),
+            Given::Model(model) => self.decode(&source.name(), &model.values),
         }
     }
 
@@ -91,9 +90,9 @@ impl Loaded {
         let name = source.name();
         let given = numbers::read(&source.text()?, self.table.variables);
         let given = given.map_err(|problem| Failure::Refused(format!("{name}: {problem}")))?;
-        if let Given::Model { values, left_out } = &given {
-            if !left_out.is_empty() {
-                note(&format!("{name}: {}", left_out_in_words(left_out, values.len())));
+        if let Given::Model(model) = &given {
+            if let Some(words) = model.left_out_in_words() {
+                note(&format!("{name}: {words}"));
             }
         }
         Ok(given)
@@ -160,18 +159,4 @@ impl Loaded {
             ))),
         }
     }
-}
-
-/// The variables that a model leaves out: how many, and the first of them.
-fn left_out_in_words(left_out: &[usize], variables: usize) -> String {
-    let mut names: Vec<String> = left_out.iter().take(5).map(|variable| format!("v{variable}")).collect();
-    if left_out.len() > names.len() {
-        names.push(format!("{} more", left_out.len() - names.len()));
-    }
-    let them = if left_out.len() == 1 { "it" } else { "them" };
-    format!(
-        "the model has no value for {} of {variables} variables ({}); 0 is taken for {them}, and the checker decides",
-        left_out.len(),
-        enumeration(&names)
-    )
 }

@@ -3,7 +3,7 @@
 use crate::calls::Loaded;
 use crate::failure::{Failure, Status};
 use crate::input::Source;
-use crate::numbers::{self, Given};
+use crate::numbers::{self, Given, Model};
 use crate::output::Output;
 use crate::run;
 use crate::show;
@@ -49,7 +49,7 @@ fn next(output: &mut Output) -> Result<Status, Failure> {
 /// The filed assignment, checked, decoded and replayed.
 fn filed(loaded: &Loaded, output: &mut Output) -> Result<(), Failure> {
     let name = "cases/lost-update.assignment";
-    let (Given::Numbers(assignment) | Given::Model { values: assignment, .. }) =
+    let (Given::Numbers(assignment) | Given::Model(Model { values: assignment, .. })) =
         numbers::read(ASSIGNMENT, loaded.table.variables).map_err(|problem| Failure::Refused(format!("{name}: {problem}")))?;
     let constraints = count(loaded.table.rows.len(), "constraint", "constraints");
     let variables = count(assignment.len(), "variable", "variables");

@@ -1,18 +1,46 @@
 //! Assignments and schedules as text: decimal numbers, or a solver's own model (z3's and cvc5's).
 
 use crate::name::shown;
-use crate::words::count;
+use crate::words::{count, enumeration};
 use std::ffi::OsStr;
 
 /// What a text holds.
 #[derive(Debug, PartialEq, Eq)]
 pub enum Given {
     Numbers(Vec<u16>),
-    /// The values of v0, v1, .. in a model. One that the model leaves out may have any value, and has 0 here.
-    Model {
-        values: Vec<u16>,
-        left_out: Vec<usize>,
-    },
+    Model(Model),
+}
+
+/// The values of v0, v1, .. in a model. One that the model leaves out may have any value, and has 0 here.
+#[derive(Clone, Debug, Default, PartialEq, Eq)]
+pub struct Model {
+    pub values: Vec<u16>,
+    left_out: Vec<usize>,
+}
+
+impl Model {
+    fn of(found: &[Option<u16>]) -> Model {
+        Model {
+            values: found.iter().map(|value| value.unwrap_or_default()).collect(),
+            left_out: (0..found.len()).filter(|&variable| found[variable].is_none()).collect(),
+        }
+    }
+
+    /// The variables that it leaves out: how many, and the first of them; nothing where there are none.
+    pub fn left_out_in_words(&self) -> Option<String> {
+        let mut names: Vec<String> = self.left_out.iter().take(5).map(|variable| format!("v{variable}")).collect();
+        if self.left_out.len() > names.len() {
+            names.push(format!("{} more", self.left_out.len() - names.len()));
+        }
+        let them = if self.left_out.len() == 1 { "it" } else { "them" };
+        let words = format!(
+            "the model has no value for {} of {} variables ({}); 0 is taken for {them}, and the checker decides",
+            self.left_out.len(),
+            self.values.len(),
+            enumeration(&names)
+        );
+        (!names.is_empty()).then_some(words)
+    }
 }
 
 /// A line and its number, from 1.
@@ -37,19 +65,12 @@ pub fn read(text: &str, variables: usize) -> Result<Given, String> {
     }
     if first == "sat" || first.starts_with(['(', ';']) {
         return match values(lines, variables) {
-            Ok(found) => Ok(given(&found)),
+            Ok(found) => Ok(Given::Model(Model::of(&found))),
             Err(Problem { line: Some(line), words }) => Err(format!("line {line}: {words}")),
             Err(Problem { line: None, words }) => Err(words),
         };
     }
     decimals(lines).map(Given::Numbers)
-}
-
-fn given(found: &[Option<u16>]) -> Given {
-    Given::Model {
-        values: found.iter().map(|value| value.unwrap_or_default()).collect(),
-        left_out: (0..found.len()).filter(|&variable| found[variable].is_none()).collect(),
-    }
 }
 
 /// The lines of a text, whichever system it comes from.
@@ -100,9 +121,8 @@ enum Term {
 }
 
 /// The values of v0, v1, .. in a solver's reply to get-model or get-value, with or without the word sat before it.
-pub fn model(text: &str, variables: usize) -> Result<Vec<u16>, String> {
-    let found = values(&lines(text), variables).map_err(|problem| problem.words)?;
-    Ok(found.into_iter().map(Option::unwrap_or_default).collect())
+pub fn model(text: &str, variables: usize) -> Result<Model, String> {
+    values(&lines(text), variables).map(|found| Model::of(&found)).map_err(|problem| problem.words)
 }
 
 /// The same values, none where the model leaves a variable out.

@@ -5,6 +5,7 @@ use crate::calls::{Ending, Loaded};
 use crate::failure::{Failure, Status};
 use crate::input::Source;
 use crate::keep::Keep;
+use crate::numbers::Model;
 use crate::reach::Reach;
 use crate::run::{self, Run};
 use crate::smt;
@@ -129,8 +130,8 @@ pub fn solve_by(loaded: &Loaded, first: &dyn Ask, others: &dyn Ask, tell: &mut d
 pub fn verdict(loaded: &Loaded, asked: &[Asked]) -> Verdict {
     let mut found = None;
     for Asked { solver, answer, .. } in asked {
-        if let Answer::Sat(assignment) = answer {
-            match followed(loaded, solver, assignment) {
+        if let Answer::Sat(model) = answer {
+            match followed(loaded, solver, model) {
                 Ok(one) => found = found.or(Some(one)),
                 Err(failure) => return Verdict::Failed(failure.message().unwrap_or_default().to_string()),
             }
@@ -160,22 +161,24 @@ pub fn verdict(loaded: &Loaded, asked: &[Asked]) -> Verdict {
     }
     match (of(|answer| *answer == Answer::Timeout).as_slice(), of(|answer| *answer == Answer::Unknown).as_slice()) {
         ([], []) => Verdict::Unsat,
-        ([], unknown) => Verdict::Unknown(besides(format!("{} gave up: the answer is unknown", enumeration(unknown)))),
+        ([], unknown) => Verdict::Unknown(besides(format!("{} gave up", enumeration(unknown)))),
         (timeout, _) => Verdict::Timeout(besides(format!("{} gave no answer in time", enumeration(timeout)))),
     }
 }
 
 /// A solver's assignment, checked, decoded and replayed. No input of the user is refused here.
-fn followed(loaded: &Loaded, solver: &str, assignment: &[u16]) -> Result<Found, Failure> {
+fn followed(loaded: &Loaded, solver: &str, model: &Model) -> Result<Found, Failure> {
     let name = format!("the assignment of {solver}");
+    let assignment = &model.values;
     if let Some(constraint) = loaded.check(&name, assignment)? {
-        let details = loaded.constraint_in_words(constraint, assignment)?.join("\n  ");
+        let details = loaded.constraint_in_words(constraint, assignment)?.into_iter().chain(model.left_out_in_words());
+        let details = details.collect::<Vec<_>>().join("\n  ");
         return Err(Failure::Other(format!("{name} fails, so {solver} or the text that it was given is wrong\n  {details}")));
     }
     let schedule = loaded.decode(&name, assignment)?;
     let run = run::replay(loaded, "the decoded schedule", &schedule)?;
     match run.ending {
-        Ending::Violated(_) => Ok(Found { solver: solver.to_string(), assignment: assignment.to_vec(), schedule, run }),
+        Ending::Violated(_) => Ok(Found { solver: solver.to_string(), assignment: assignment.clone(), schedule, run }),
         _ => Err(Failure::Other(format!(
             "an assignment that meets the constraints replays to '{}': this is not the proved library",
             run::verdict(&loaded.case, run.ending)
@@ -184,6 +187,16 @@ fn followed(loaded: &Loaded, solver: &str, assignment: &[u16]) -> Result<Found, 
 }
 
 impl Verdict {
+    /// That there is no answer, and why, in lines.
+    pub fn message(&self) -> String {
+        match self {
+            Verdict::Unknown(why) => format!("unknown: {why}"),
+            Verdict::Timeout(why) => format!("timeout: {why}"),
+            Verdict::Disagree(why) => format!("the solvers disagree: {why}"),
+            other => other.trouble().to_string(),
+        }
+    }
+
     /// Why there is no answer, in lines; nothing where there is one.
     pub fn trouble(&self) -> &str {
         match self {

@@ -1,7 +1,7 @@
 //! Asking a solver. Its word is reported as its own; nothing that it prints is trusted.
 
 use crate::failure::Failure;
-use crate::numbers::{model, shortened};
+use crate::numbers::{model, shortened, Model};
 use crate::process::{self, End};
 use crate::smt;
 use std::ffi::OsStr;
@@ -25,8 +25,7 @@ pub struct Solver {
 /// What a solver says of a text.
 #[derive(Clone, Debug, PartialEq, Eq)]
 pub enum Answer {
-    /// The values of v0, v1, .. in order.
-    Sat(Vec<u16>),
+    Sat(Model),
     Unsat,
     Unknown,
     Timeout,
@@ -129,7 +128,7 @@ impl Solver {
     pub fn ask(&self, text: &str, variables: usize, limit: Option<Duration>) -> Asked {
         let first = self.asked(text, variables, limit);
         match first.answer {
-            Answer::Sat(ref values) if values.len() != variables => {
+            Answer::Sat(ref model) if model.values.len() != variables => {
                 self.asked(&format!("{text}{}", smt::get_values(variables)), variables, limit).after_sat(variables)
             }
             _ => first,
@@ -158,7 +157,7 @@ impl Asked {
     /// The same where sat was said before, and a model was asked for.
     fn after_sat(self, variables: usize) -> Asked {
         let problem = match &self.answer {
-            Answer::Sat(values) if values.len() != variables => "it says sat, and gives no model",
+            Answer::Sat(model) if model.values.len() != variables => "it says sat, and gives no model",
             Answer::Unsat => "it says sat, and then unsat where a model is asked for",
             Answer::Unknown => "it says sat, and then unknown where a model is asked for",
             _ => return self,
@@ -192,9 +191,9 @@ fn word_and_rest(reply: &str) -> (&str, &str) {
 pub fn read(reply: &str, variables: usize) -> Answer {
     let (word, rest) = word_and_rest(reply);
     match word {
-        "sat" if rest.trim().is_empty() => Answer::Sat(Vec::new()),
+        "sat" if rest.trim().is_empty() => Answer::Sat(Model::default()),
         "sat" => match model(rest, variables) {
-            Ok(values) => Answer::Sat(values),
+            Ok(model) => Answer::Sat(model),
             Err(problem) => Answer::None(problem),
         },
         "unsat" if !rest.trim().is_empty() => Answer::None(format!(

@@ -52,7 +52,7 @@ impl Summary {
             status,
             whole: solved.reach.is_whole(),
             json,
-            message: (status == Failure::STATUS_OTHER).then(|| format!("{}: {}", loaded.name, solved.verdict.trouble())),
+            message: (status == Failure::STATUS_OTHER).then(|| format!("{}: {}", loaded.name, solved.verdict.message())),
             resumed: false,
         }
     }

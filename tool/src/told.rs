@@ -37,7 +37,7 @@ pub fn one(source: &Source, wanted: &Wanted, output: &mut Output) -> Result<Stat
         let object = objects::solved(&loaded, &asking, &solved, wanted.strict).to_string();
         keep.keep(&loaded, &solved, &Summary::of_solved(&loaded, &solved, object))?;
     }
-    Status::of(solved.status(wanted.strict)).map_err(|_| Failure::Other(solved.verdict.trouble().to_string()))
+    Status::of(solved.status(wanted.strict)).map_err(|_| Failure::Other(solved.verdict.message()))
 }
 
 /// An answer that was filed before.
