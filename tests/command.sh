@@ -71,6 +71,10 @@ reading() {
     says 'a picture replaces a file' 0 'cut off' \
         "$menduvo" picture cases/lock-order.case cases/lock-order.schedule -o "$scratch/a.svg" --force
     result 'the picture is replaced' cmp -s "$scratch/a.svg" tests/command/picture-lock-order.expected
+    cp cases/case-a.schedule "$scratch/input.schedule"
+    says 'a picture replaces no input' 3 'input.schedule is an input' \
+        "$menduvo" picture cases/case-a.case "$scratch/input.schedule" -o "$scratch/input.schedule" --force
+    says 'a picture without a name' 3 '-o FILE.svg is missing' "$menduvo" picture cases/case-a.case cases/case-a.schedule -o ''
     says 'picture to a place that is not there' 3 'a.svg: ' \
         "$menduvo" picture cases/case-a.case cases/case-a.schedule -o "$scratch/none/a.svg"
 }

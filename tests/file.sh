@@ -240,7 +240,8 @@ FAKES
     solver z3 "cat >/dev/null; echo sat; echo '$model'"
     solver cvc5 'cat >/dev/null; echo unsat'
     says 'solvers that disagree' 3 'disagree: z3 says sat' "$menduvo" file cases/case-a.case "$scratch/disagree" --solver both
-    whole disagree disagree reply-z3.txt reply-cvc5.txt
+    whole disagree disagree reply-z3.txt reply-cvc5.txt assignment.txt schedule.txt run.txt picture.svg
+    has disagree verdict.txt 'It means: the run above is complete and legal'
     has disagree verdict.txt 'cvc5 says unsat, and is wrong'
 }
 
@@ -340,7 +341,7 @@ list_damages() {
     local name
     for name in ../violated/run.txt /etc/passwd .. . a/b .hidden -x MANIFEST 'a b'; do
         copied violated && printf '%064d  %s\n' 0 "$name" >>"$scratch/copy/MANIFEST"
-        tells "the list names $name" 3 "line [0-9]+: this is no name of a file in the folder, and not '"
+        tells "the list names $name" 3 "line [0-9]+: this is no name of a file in the folder: '"
     done
 }
 

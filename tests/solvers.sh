@@ -211,10 +211,19 @@ both() {
     fake z3 'cat >/dev/null; echo unsat'
     fake cvc5 'cat >/dev/null; echo unsat'
     says 'both say unsat' 0 'z3 and cvc5 say unsat' "$menduvo" solve cases/interlock.case --solver both --keep "$scratch/both"
-    result 'both replies are kept' test "$(cat "$scratch"/both/interlock.{z3,cvc5}.reply)" = $'unsat\nunsat'
+    result 'both replies are kept' test "$(cat "$scratch"/both/interlock.reply-{z3,cvc5})" = $'unsat\nunsat'
     fake z3 "cat >/dev/null; echo sat; echo '$model'"
     says 'they disagree' 3 'the solvers disagree: z3 says sat, and its assignment is checked and replayed; cvc5 says unsat, and is wrong' \
-        "$menduvo" solve cases/case-a.case --solver both
+        "$menduvo" solve cases/case-a.case --solver both --keep "$scratch/disagree"
+    result 'the run is shown, and kept' eval '[[ $out = *"violated: record 4"* ]] && [ -s "$scratch/disagree/case-a.schedule" ]'
+    fake cvc5 'cat >/dev/null; echo sat; echo "((v0 #x0001))"'
+    says 'one is wrong, the other has a run' 1 'violated: record 4' "$menduvo" solve cases/case-a.case --solver both
+    rm "$scratch/fakes/z3"
+    fake cvc5 'cat >/dev/null; echo unsat'
+    says 'they disagree whether an assert is reached' 3 'the solvers disagree: whether an assert is reached: z3 says sat' \
+        "$menduvo" solve "$scratch/input.case" --solver both
+    result 'which it is' eval '[[ $out = *"assert L0): reached, e.g. schedule"*" 54321"* ]]'
+    fake z3 "cat >/dev/null; echo sat; echo '$model'"
     fake cvc5 'exec sleep 60'
     says 'one has no time, the other a run' 1 'violated: record 4' "$menduvo" solve cases/case-a.case --solver both --timeout 1.5
     fake z3 'cat >/dev/null; echo unsat'
@@ -314,10 +323,10 @@ as_known() {
     result 'and what was kept' test -s "$scratch/partly/case-a.answer" -a ! -e "$scratch/partly/interlock.answer"
     fake z3 'cat >/dev/null; echo asked >>"${0%/*}/../resumed"; echo unsat'
     says 'it is resumed' 1 'violated    18 over 12' "$menduvo" solve "$scratch/busy" --resume "$scratch/partly"
-    result 'only the rest is asked' eval '[ "$(wc -l <"$scratch/resumed")" = 1 ] && [[ $out = *"filed already; record 4"*"1 violated, 1 unsat"* ]]'
+    result 'only the rest is asked' eval '[ "$(wc -l <"$scratch/resumed")" = 1 ] && [[ $out = *"filed already, by z3; record 4"*"1 violated, 1 unsat"* ]]'
     says 'all is filed' 1 '1 violated, 1 unsat' "$menduvo" solve "$scratch/busy" --resume "$scratch/partly"
     result 'nothing is asked' test "$(wc -l <"$scratch/resumed")" = 1
-    says 'one case, filed already' 1 "case-a.case: filed in partly already: violated" \
+    says 'one case, filed already' 1 'filed in partly already, by z3: violated' \
         "$menduvo" solve "$scratch/busy/case-a.case" --resume "$scratch/partly"
 }
 
@@ -352,8 +361,70 @@ keeping() {
     says 'nothing to force' 3 '--force needs --keep or --resume' "$menduvo" solve cases --force
     : >"$scratch/file"
     says 'a file in the place of the folder' 3 'file: ' "$menduvo" solve cases/case-a.case --keep "$scratch/file"
-    sed -i 's/^answer unsat/answer maybe/' "$scratch/kept/case-a.answer"
-    says 'a damaged answer' 3 'not an answer that this command wrote' "$menduvo" solve "$scratch/another/case-a.case" --resume "$scratch/kept"
+    own_files
+    resuming
+}
+
+# Files that are not this command's, and the case itself, stay; and a violation is told whatever happens to its files.
+own_files() {
+    fake z3 "cat >/dev/null; echo sat; echo '$model'"
+    mkdir "$scratch/own" && cp cases/case-a.{case,schedule} "$scratch/own"
+    says 'a schedule of the user' 3 'own/case-a.schedule is there already' "$menduvo" solve "$scratch/own" --resume "$scratch/own"
+    result 'stays' cmp -s cases/case-a.schedule "$scratch/own/case-a.schedule"
+    cp cases/case-a.case "$scratch/own/plant.schedule"
+    says 'the case itself' 3 'own/plant.schedule is the case itself' \
+        "$menduvo" solve "$scratch/own/plant.schedule" --keep "$scratch/own" --force
+    result 'stays, too' cmp -s cases/case-a.case "$scratch/own/plant.schedule"
+    # Something comes into the way while the solver is at work.
+    fake z3 "cat >/dev/null; mkdir -p '$scratch/blocked/case-a.assignment'; echo sat; echo '$model'"
+    says 'a violation that cannot be kept' 1 'violated: record 4' "$menduvo" solve cases/case-a.case --keep "$scratch/blocked"
+    result 'that is told' eval '[[ $out = *"blocked/case-a.assignment is there already"* ]]'
+    rm -r "$scratch/blocked"
+    says 'a violation that cannot be kept, of several' 1 '2 cases: 1 violated' \
+        "$menduvo" solve cases/case-a.case "$scratch/none.case" --keep "$scratch/blocked"
+    result 'that is told, too' eval '[[ $out = *"is broken; NOT KEPT: blocked/case-a.assignment"* ]]'
+}
+
+# What --resume takes for an answer, and what it does not.
+resuming() {
+    local answer=$scratch/again/case-a.answer
+    resume() { run "$menduvo" solve cases/case-a.case --resume "$scratch/again" "$@"; }
+    fake z3 'cat >/dev/null; echo unsat'
+    fake cvc5 'cat >/dev/null; echo unsat'
+    resume
+    result 'nothing is there yet' eval '[ "$status" = 0 ] && [[ $out = *"z3 says unsat"* ]]'
+    resume
+    result 'it is taken, and named by its solver' eval '[ "$status" = 0 ] && [[ $out = *"filed in again already, by z3: unsat"* ]]'
+    resume --solver cvc5
+    result 'it is not the word of another solver' eval '[ "$status" = 3 ] && [[ $out = *"not by the solver that is chosen"* ]]'
+    resume --solver cvc5 --force
+    result 'that is asked by force' eval '[ "$status" = 0 ] && [[ $out = *"cvc5 says unsat"* ]]'
+    cp "$answer" "$scratch/whole" && sed -i 's/^status 0/status 1/' "$answer"
+    resume
+    result 'a changed answer' eval '[ "$status" = 3 ] && [[ $out = *"not an answer that this command wrote; --force asks again"* ]]'
+    head -c 300 "$scratch/whole" >"$answer"
+    resume
+    result 'half an answer' eval '[ "$status" = 3 ] && [[ $out = *"not an answer that this command wrote"* ]]'
+    rm "$answer" && mkfifo "$answer"
+    resume
+    result 'a pipe' eval '[ "$status" = 3 ] && [[ $out = *"not an answer that this command wrote"* ]]'
+    resume --force
+    result 'they are replaced by force' eval '[ "$status" = 0 ] && [[ $out = *"z3 says unsat"* ]] && [ -f "$answer" ]'
+    echo >>"$scratch/again/case-a.reply"
+    resume
+    result 'a reply that has changed' eval '[ "$status" = 3 ] && [[ $out = *"what was filed with this answer has changed"* ]]'
+    # The case is unsat, and whether its assert is reached takes too long.
+    fake z3 'text=$(cat); case $text in *"L1 != 0: assert 0"*) exec sleep 600 ;; *) echo unsat ;; esac'
+    run "$menduvo" solve "$scratch/between.case" --keep "$scratch/open" --timeout 1.5
+    result 'a question is open' eval '[ "$status" = 0 ] && [[ $out = *"not known whether it is reached: z3 gave no answer in time"* ]]'
+    rm "$scratch/fakes/z3"
+    run "$menduvo" solve "$scratch/between.case" --resume "$scratch/open"
+    result 'it is asked again' eval '[ "$status" = 0 ] && [[ $out = *"reached, e.g. schedule 0 1 3 1"* ]]'
+    head -c 40 "$scratch/between.case" >"$scratch/cut" && mv "$scratch/cut" "$scratch/between.case"
+    says 'a case that is refused by now' 2 '1 refused' "$menduvo" solve "$scratch/between.case" "$scratch/idle.case" --keep "$scratch/open" --force
+    result 'has no answer beside it' test ! -e "$scratch/open/between.answer" -a -e "$scratch/open/idle.answer"
+    mkdir "$scratch/odd" "$scratch/odd/folder.case" && mkfifo "$scratch/odd/pipe.case" && cp cases/case-a.case "$scratch/odd/.case"
+    says 'no folder and no pipe, and a name that is an ending' 1 '1 case: 1 violated' "$menduvo" solve "$scratch/odd" --timeout 20
 }
 
 # On a terminal of 40 columns no line of progress is wider.

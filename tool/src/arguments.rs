@@ -120,7 +120,7 @@ fn call(parts: &mut Parts) -> Result<Call, Failure> {
         "picture" => Call::Picture {
             case: parts.next("CASE")?,
             schedule: parts.next("SCHEDULE")?,
-            file: parts.value("-o").ok_or_else(|| parts.usage("-o FILE.svg is missing"))?,
+            file: parts.value("-o").filter(|file| !file.is_empty()).ok_or_else(|| parts.usage("-o FILE.svg is missing"))?,
             force: parts.has("--force"),
         },
         "file" => Call::File(filing(parts)?),

@@ -9,6 +9,7 @@ use crate::output::Output;
 use crate::words::{all, numbers_in_lines};
 use crate::{demo, file, help, keep, picture, report, run, said::Said, several, show, told, verified};
 use std::ffi::OsStr;
+use std::path::Path;
 
 pub fn perform(call: Call, output: &mut Output) -> Result<Status, Failure> {
     match call {
@@ -125,6 +126,9 @@ fn draw(case: &Source, schedule: &Source, file: &OsStr, force: bool, output: &mu
     let svg = picture::svg(&loaded.case, &shown(&loaded.stem), &run);
     if file == "-" {
         return output.say(&svg).map(|()| Status::Done);
+    }
+    if [case, schedule].iter().any(|input| keep::is_same(Path::new(file), Path::new(input.path()))) {
+        return Err(Failure::Other(format!("{} is an input, and is not replaced", shown(file))));
     }
     keep::write_file(file, &svg, force)?;
     output.say(&format!("{}: {}\n", shown(file), run::verdict(&loaded.case, run.ending)))?;

@@ -95,7 +95,7 @@ impl Folder {
 
     /// What the library made of an assignment.
     fn run(&mut self, loaded: &Loaded, verdict: &Verdict) {
-        let Verdict::Violated(found) = verdict else {
+        let Some(found) = verdict.found() else {
             return;
         };
         let (assignment, schedule) = (&found.assignment, &found.schedule);

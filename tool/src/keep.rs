@@ -1,14 +1,14 @@
 //! `solve --keep FOLDER` and `--resume FOLDER`: the texts of each case's answer, in files that are named as the case. Nothing that
 //! is there is replaced unless that is asked for, and nothing of an earlier answer stays beside a new one.
 
+use crate::answer_file::{self, Filed};
 use crate::calls::Loaded;
 use crate::failure::Failure;
 use crate::filed;
+use crate::input::Source;
 use crate::name::shown;
-use crate::objects;
 use crate::sha256;
-use crate::solve::{Solved, Verdict, ANSWERS};
-use crate::solver::Asked;
+use crate::solve::{Asking, Solved, Wanted};
 use crate::summary::Summary;
 use crate::told;
 use std::ffi::{OsStr, OsString};
@@ -24,22 +24,25 @@ pub struct Keep {
     pub resume: bool,
 }
 
-/// The ending of the file that is written last. Where it is not there, the others are not whole.
+/// The ending of the answer's own file. It is there, without an answer, before the others, and gets the answer after them.
 const ANSWER: &str = "answer";
 
 /// Every ending of a kept file.
-const ENDINGS: [&str; 8] = ["smt2", "reply", "z3.reply", "cvc5.reply", "assignment", "schedule", "reached", ANSWER];
-
-/// What `--resume` takes for an answer; the others are asked again.
-const FINAL: [&str; 3] = ["violated", "unsat", "vacuous"];
+const ENDINGS: [&str; 8] = ["smt2", "reply", "reply-z3", "reply-cvc5", "assignment", "schedule", "reached", ANSWER];
 
 impl Keep {
-    /// Makes the folder, and looks whether something is in the way, before any solver is asked.
-    pub fn prepare(&self, stem: &OsStr) -> Result<(), Failure> {
-        fs::create_dir_all(&self.folder).map_err(|error| Failure::Other(format!("{}: {error}", shown(&self.folder))))?;
-        let there = ENDINGS.iter().map(|ending| self.file(stem, ending)).find(|file| file.symlink_metadata().is_ok());
-        match there {
-            Some(file) if !self.force && !self.resume => Err(in_the_way(&file)),
+    /// Makes the folder, and looks whether something is in the way, before any solver is asked. What stands beside an answer's own
+    /// file was written by this command.
+    pub fn prepare(&self, source: &Source) -> Result<(), Failure> {
+        fs::create_dir_all(&self.folder).map_err(|error| failure(Path::new(&self.folder), &error))?;
+        let stem = source.stem();
+        let files: Vec<PathBuf> = ENDINGS.iter().map(|ending| self.file(&stem, ending)).collect();
+        if let Some(file) = files.iter().find(|file| is_same(file, Path::new(source.path()))) {
+            return Err(Failure::Other(format!("{} is the case itself, and is not replaced", shown(file.as_os_str()))));
+        }
+        let resumed = self.resume && is_there(&self.file(&stem, ANSWER));
+        match files.iter().find(|file| is_there(file)) {
+            Some(file) if !self.force && !resumed => Err(in_the_way(file)),
             _ => Ok(()),
         }
     }
@@ -51,52 +54,97 @@ impl Keep {
     }
 
     /// The answer that is filed for this case, where answers are resumed and there is one. Its object has the status of this call.
-    pub fn filed(&self, loaded: &Loaded, strict: bool) -> Result<Option<Summary>, Failure> {
-        if !self.resume {
+    pub fn filed(&self, loaded: &Loaded, wanted: &Wanted, asking: &Asking) -> Result<Option<Summary>, Failure> {
+        let file = self.file(&loaded.stem, ANSWER);
+        if !self.resume || !is_there(&file) {
             return Ok(None);
         }
-        let file = self.file(&loaded.stem, ANSWER);
-        let text = match fs::read_to_string(&file) {
-            Ok(text) => text,
-            Err(error) if error.kind() == ErrorKind::NotFound => return Ok(None),
-            Err(error) => return Err(Failure::Other(format!("{}: {error}", shown(file.as_os_str())))),
+        let problem = match answer_file::read(&file) {
+            Some((case, _)) if case != sha256::hex(&loaded.case.bytes) => {
+                "the answer that is filed is of another case of this name"
+            }
+            Some((_, None)) => return Ok(None),
+            Some((_, Some(answer))) if !answer.is_final() => return Ok(None),
+            Some((_, Some(answer))) if !self.has_all(&loaded.stem, &answer) => "what was filed with this answer has changed",
+            Some((_, Some(answer))) => match answer.is_by(wanted, asking) {
+                true => return Ok(Some(answer.resumed(&loaded.name, wanted.strict))),
+                false => "the answer that is filed is not by the solver that is chosen",
+            },
+            None => "not an answer that this command wrote",
         };
-        let (case, summary) = read_back(&text, &loaded.name, strict)
-            .ok_or_else(|| Failure::Other(format!("{}: not an answer that this command wrote", shown(file.as_os_str()))))?;
-        match case == sha256::hex(&loaded.case.bytes) {
-            true => Ok(FINAL.contains(&summary.word.as_str()).then_some(summary)),
-            false if self.force => Ok(None),
-            false => Err(Failure::Other(format!(
-                "{}: the answer that is filed is of another case of this name; --force replaces it",
-                shown(file.as_os_str())
-            ))),
+        match self.force {
+            true => Ok(None),
+            false => {
+                Err(Failure::Other(format!("{}: {problem}; --force asks again, and replaces it", shown(file.as_os_str()))))
+            }
         }
     }
 
-    /// Files what came of a case.
-    pub fn keep(&self, loaded: &Loaded, solved: &Solved, summary: &Summary) -> Result<(), Failure> {
-        let stem = loaded.stem.as_os_str();
-        if self.force || self.resume {
-            for ending in ENDINGS {
-                remove(&self.file(stem, ending))?;
-            }
-        }
-        write(&self.file(stem, "smt2"), &solved.text)?;
-        match solved.asked.as_slice() {
-            [asked] => write(&self.file(stem, "reply"), &asked.reply)?,
-            several => {
-                for Asked { solver, reply, .. } in several {
-                    write(&self.file(stem, &format!("{solver}.reply")), reply)?;
-                }
-            }
-        }
-        if let Verdict::Violated(found) = &solved.verdict {
-            write(&self.file(stem, "assignment"), filed::assignment(loaded, &found.assignment))?;
-            write(&self.file(stem, "schedule"), filed::schedule(loaded, &found.schedule))?;
-        }
-        write(&self.file(stem, "reached"), told::asserts(loaded, &solved.reach))?;
-        write(&self.file(stem, ANSWER), answer_file(loaded, summary))
+    fn has_all(&self, stem: &OsStr, answer: &Filed) -> bool {
+        let is_same = |(ending, hash): &(String, String)| {
+            answer_file::bytes(&self.file(stem, ending)).is_some_and(|bytes| sha256::hex(&bytes) == *hash)
+        };
+        answer.files.iter().all(is_same)
     }
+
+    /// Removes what is there of an earlier answer, where it is to be replaced.
+    pub fn clear(&self, stem: &OsStr) -> Result<(), Failure> {
+        let replaced = self.force || (self.resume && is_there(&self.file(stem, ANSWER)));
+        if !replaced {
+            return Ok(());
+        }
+        for file in ENDINGS.map(|ending| self.file(stem, ending)) {
+            match fs::remove_file(&file) {
+                Err(error) if error.kind() != ErrorKind::NotFound => return Err(failure(&file, &error)),
+                _ => {}
+            }
+        }
+        Ok(())
+    }
+
+    /// Files what came of a case.
+    pub fn keep(&self, loaded: &Loaded, asking: &Asking, solved: &Solved, summary: &Summary) -> Result<(), Failure> {
+        let stem = loaded.stem.as_os_str();
+        let case = sha256::hex(&loaded.case.bytes);
+        let answer = self.file(stem, ANSWER);
+        write(&answer, answer_file::begun(&case).as_bytes())?;
+        let texts = texts(loaded, solved);
+        for (ending, bytes) in &texts {
+            write(&self.file(stem, ending), bytes)?;
+        }
+        let text = answer_file::text(&case, asking, solved, summary, &texts);
+        let whole = self.file(stem, &format!("{ANSWER}.part-{}", std::process::id()));
+        write(&whole, text.as_bytes())?;
+        fs::rename(&whole, &answer).map_err(|error| failure(&answer, &error))
+    }
+}
+
+/// What is kept of an answer: endings, and what the files have.
+fn texts(loaded: &Loaded, solved: &Solved) -> Vec<(String, Vec<u8>)> {
+    let mut texts = vec![("smt2".to_string(), solved.text.clone().into_bytes())];
+    texts.extend(solved.asked.iter().map(|asked| match solved.asked.len() {
+        1 => ("reply".to_string(), asked.reply.clone()),
+        _ => (format!("reply-{}", asked.solver), asked.reply.clone()),
+    }));
+    if let Some(found) = solved.verdict.found() {
+        texts.push(("assignment".to_string(), filed::assignment(loaded, &found.assignment).into_bytes()));
+        texts.push(("schedule".to_string(), filed::schedule(loaded, &found.schedule).into_bytes()));
+    }
+    texts.push(("reached".to_string(), told::asserts(loaded, &solved.reach).into_bytes()));
+    texts
+}
+
+fn is_there(file: &Path) -> bool {
+    file.symlink_metadata().is_ok()
+}
+
+/// Whether two names lead to one file.
+pub fn is_same(one: &Path, other: &Path) -> bool {
+    matches!((one.canonicalize(), other.canonicalize()), (Ok(one), Ok(other)) if one == other)
+}
+
+fn failure(file: &Path, error: &std::io::Error) -> Failure {
+    Failure::Other(format!("{}: {error}", shown(file.as_os_str())))
 }
 
 fn in_the_way(file: &Path) -> Failure {
@@ -106,23 +154,17 @@ fn in_the_way(file: &Path) -> Failure {
     ))
 }
 
-fn remove(file: &Path) -> Result<(), Failure> {
-    match fs::remove_file(file) {
-        Err(error) if error.kind() != ErrorKind::NotFound => {
-            Err(Failure::Other(format!("{}: {error}", shown(file.as_os_str()))))
-        }
-        _ => Ok(()),
-    }
-}
-
-/// Writes a file that is not there.
-fn write(file: &Path, bytes: impl AsRef<[u8]>) -> Result<(), Failure> {
-    let opened = OpenOptions::new().write(true).create_new(true).open(file);
-    match opened.and_then(|mut opened| opened.write_all(bytes.as_ref())) {
-        Ok(()) => Ok(()),
-        Err(error) if error.kind() == ErrorKind::AlreadyExists => Err(in_the_way(file)),
-        Err(error) => Err(Failure::Other(format!("{}: {error}", shown(file.as_os_str())))),
-    }
+/// Writes a file that is not there. One that cannot be written to its end goes again.
+fn write(file: &Path, bytes: &[u8]) -> Result<(), Failure> {
+    let mut opened = match OpenOptions::new().write(true).create_new(true).open(file) {
+        Ok(opened) => opened,
+        Err(error) if error.kind() == ErrorKind::AlreadyExists => return Err(in_the_way(file)),
+        Err(error) => return Err(failure(file, &error)),
+    };
+    opened.write_all(bytes).map_err(|error| {
+        let _ = fs::remove_file(file);
+        failure(file, &error)
+    })
 }
 
 /// Replaces a file only where that is asked for.
@@ -137,39 +179,6 @@ pub fn write_file(file: &OsStr, text: &str, force: bool) -> Result<(), Failure> 
         Err(error) if error.kind() == ErrorKind::AlreadyExists => {
             Err(Failure::Other(format!("{} is there already; --force replaces it", shown(file))))
         }
-        Err(error) => Err(Failure::Other(format!("{}: {error}", shown(file)))),
+        Err(error) => Err(failure(Path::new(file), &error)),
     }
-}
-
-const FORM: &str = "# an answer of 'menduvo solve', for --resume";
-
-/// An answer's file: a line for each part, with its name before it.
-fn answer_file(loaded: &Loaded, summary: &Summary) -> String {
-    let Summary { word, size, seconds, note, status, whole, json, .. } = summary;
-    let case = sha256::hex(&loaded.case.bytes);
-    format!(
-        "{FORM}\ncase {case}\nanswer {word}\nsize {size}\nseconds {seconds:.3}\nstatus {status}\nwhole {whole}\nnote {note}\njson {json}\n"
-    )
-}
-
-/// The hash of the case that an answer is of, and the answer.
-fn read_back(text: &str, name: &str, strict: bool) -> Option<(String, Summary)> {
-    let mut lines = text.strip_suffix('\n')?.split('\n');
-    lines.next().filter(|line| *line == FORM)?;
-    let mut part = |name: &str| lines.next()?.strip_prefix(name)?.strip_prefix(' ').map(str::to_string);
-    let case = part("case")?;
-    let mut summary = Summary {
-        name: name.to_string(),
-        word: part("answer").filter(|word| ANSWERS.contains(&word.as_str()))?,
-        size: part("size")?,
-        seconds: part("seconds")?.parse().ok()?,
-        status: part("status")?.parse().ok()?,
-        whole: part("whole")?.parse().ok()?,
-        note: part("note")?,
-        json: part("json")?,
-        message: None,
-        resumed: true,
-    };
-    summary.json = objects::resumed(&summary.json, name, summary.status(strict))?;
-    lines.next().is_none().then_some((case, summary))
 }

@@ -2,6 +2,7 @@
 //! starts a solver.
 #![forbid(unsafe_code)]
 
+mod answer_file;
 mod arguments;
 mod calls;
 mod case;

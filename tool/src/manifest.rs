@@ -128,13 +128,15 @@ impl<'a> Lines<'a> {
     fn value(&mut self, key: &str) -> Result<String, String> {
         let line = self.line()?;
         let value = line.strip_prefix(&format!("# {key}: ")).filter(|value| value.trim() == *value && !value.is_empty());
-        value.map(str::to_string).ok_or_else(|| self.problem(&format!("'# {key}: ' and a value are expected"), line))
+        value.map(str::to_string).ok_or_else(|| {
+            self.problem(&format!("expected is '# {key}: ' and a value, without a blank at its end; this is not"), line)
+        })
     }
 
     fn made(&mut self) -> Result<Made, String> {
         let format = self.value("format")?;
         if format != FORMAT {
-            return Err(self.problem(&format!("the format '{FORMAT}' is expected, which this command knows"), &format));
+            return Err(self.problem(&format!("this command knows the format '{FORMAT}', and not this one"), &format));
         }
         let (version, commit) = (self.value("menduvo")?, self.value("commit")?);
         let (library, command) = (self.value("library")?, self.value("command")?);
@@ -153,7 +155,7 @@ impl<'a> Lines<'a> {
             [text, reply, answer] if is_plain(text) && is_plain(reply) => {
                 Ok(Question { text: text.to_string(), reply: reply.to_string(), answer: answer.to_string() })
             }
-            _ => Err(self.problem("two names of files and an answer are expected", &value)),
+            _ => Err(self.problem("expected are two names of files and an answer; this is not", &value)),
         }
     }
 
@@ -162,7 +164,7 @@ impl<'a> Lines<'a> {
         let digits =
             |hash: &str| hash.len() == 64 && hash.bytes().all(|byte| byte.is_ascii_digit() || (b'a'..=b'f').contains(&byte));
         let Some((hash, name)) = line.split_once("  ").filter(|(hash, _)| digits(hash)) else {
-            return Err(self.problem("a SHA-256, two spaces and a name are expected", line));
+            return Err(self.problem("expected are a SHA-256, two blanks and a name; this is not", line));
         };
         match is_plain(name) {
             true => Ok(Entry { name: name.to_string(), hash: hash.to_string() }),
@@ -174,7 +176,7 @@ impl<'a> Lines<'a> {
         let (line, last) = (self.all.get(self.next).copied(), self.next + 1 >= self.all.len());
         self.next += 1;
         match line {
-            Some(line) if line.chars().any(char::is_control) => Err(self.problem("a control character", line)),
+            Some(line) if line.chars().any(char::is_control) => Err(self.problem("it has a control character", line)),
             Some(line) if !last => Ok(line),
             Some("") | None => Err(format!("line {}: it ends before its end", self.next)),
             Some(line) => Err(self.problem("the line does not end", line)),
@@ -182,6 +184,6 @@ impl<'a> Lines<'a> {
     }
 
     fn problem(&self, problem: &str, line: &str) -> String {
-        format!("line {}: {problem}, and not '{}'", self.next, shortened(line))
+        format!("line {}: {problem}: '{}'", self.next, shortened(line))
     }
 }

@@ -19,7 +19,14 @@ pub fn text(loaded: &Loaded, solved: &Solved) -> String {
             run::broken(&loaded.case, found.run.ending)
         ),
         Verdict::Unsat => answer,
-        Verdict::Unknown(why) | Verdict::Timeout(why) | Verdict::Disagree(why) | Verdict::Failed(why) => format!(
+        Verdict::Disagree(why, Some(_)) => format!(
+            "{answer}\
+             The solvers disagree: {why}.\n\
+             It means: the run above is complete and legal, stays within the bound, and breaks an assertion. A solver is\n\
+             wrong about this case, and its other answers are worth nothing until it is known why.\n\
+             It does not mean: that no other assertion breaks; that the case says what the controller does.\n"
+        ),
+        Verdict::Unknown(why) | Verdict::Timeout(why) | Verdict::Disagree(why, None) | Verdict::Failed(why) => format!(
             "There is no answer: {why}.\n\
              It means: nothing is known of this case by this check; a violation may be there or not.\n\
              It does not mean: that the case is wrong, or that another solver or more time finds no answer.\n"

@@ -24,7 +24,7 @@ fn push(shown: &mut String, sign: char) {
 
 /// Control characters, white space other than a blank, what turns the direction of writing or has no width, and what is no
 /// character.
-fn is_unseen(sign: char) -> bool {
+pub fn is_unseen(sign: char) -> bool {
     let code = u32::from(sign);
     sign.is_control()
         || (sign.is_whitespace() && sign != ' ')

@@ -216,14 +216,12 @@ fn variable(name: &str) -> Option<usize> {
 
 /// `#x0005`, `#b0000000000000101` or `(_ bv5 16)`.
 fn constant(term: &Term) -> Option<u16> {
+    let digits = |word: &str, mark: &str, count: usize, base: u32| {
+        let digits = word.strip_prefix(mark).filter(|digits| digits.len() == count && !digits.starts_with('+'))?;
+        u16::from_str_radix(digits, base).ok()
+    };
     match term {
-        Term::Word(word) => match word.strip_prefix("#x") {
-            Some(digits) if digits.len() == 4 => u16::from_str_radix(digits, 16).ok(),
-            _ => word
-                .strip_prefix("#b")
-                .filter(|digits| digits.len() == 16)
-                .and_then(|digits| u16::from_str_radix(digits, 2).ok()),
-        },
+        Term::Word(word) => digits(word, "#x", 4, 16).or_else(|| digits(word, "#b", 16, 2)),
         Term::List(list, _) => match list.as_slice() {
             [Term::Word(mark), Term::Word(value), Term::Word(width)] if mark == "_" && width == "16" => {
                 decimal(value.strip_prefix("bv")?).ok()

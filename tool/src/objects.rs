@@ -4,7 +4,7 @@ use crate::calls::{Ending, Loaded};
 use crate::failure::Failure;
 use crate::json::{list, Json};
 use crate::reach::Reached;
-use crate::solve::{Asking, Solved, Verdict, ANSWERS};
+use crate::solve::{Asking, Solved, ANSWERS};
 use crate::summary::Summary;
 
 /// An input that was refused, or something else that failed.
@@ -28,11 +28,8 @@ pub fn failed(command: &str, case: &str, input: &str, failure: &Failure) -> Json
 }
 
 /// What came of a case.
-pub fn solved(loaded: &Loaded, asking: &Asking, solved: &Solved, strict: bool) -> Json {
-    let found = match &solved.verdict {
-        Verdict::Violated(found) => Some(found),
-        _ => None,
-    };
+pub fn solved(loaded: &Loaded, asking: &Asking, solved: &Solved, strict: bool, note: &str) -> Json {
+    let found = solved.verdict.found();
     let record = found.and_then(|found| match found.run.ending {
         Ending::Violated(record) => Some(record),
         _ => None,
@@ -59,7 +56,7 @@ pub fn solved(loaded: &Loaded, asking: &Asking, solved: &Solved, strict: bool) -
         ("assignment", found.map(|found| list(found.assignment.iter().copied())).into()),
         ("schedule", found.map(|found| list(found.schedule.iter().copied())).into()),
         ("asserts", Json::List(asserts.collect())),
-        ("note", solved.note(loaded).into()),
+        ("note", note.into()),
         ("resumed", false.into()),
     ])
 }

@@ -49,12 +49,18 @@ impl Progress {
     }
 }
 
-/// The text, cut where it is too wide.
+/// The text, cut where it may be too wide: a sign that is not ASCII may take two columns.
 fn fitting(text: &str, width: usize) -> String {
-    match text.chars().count() <= width {
-        true => text.to_string(),
-        false => text.chars().take(width.saturating_sub(2)).chain("..".chars().take(width)).collect(),
+    let columns = |sign: char| if sign.is_ascii() { 1 } else { 2 };
+    if text.chars().map(columns).sum::<usize>() <= width {
+        return text.to_string();
     }
+    let mut used = 2;
+    let fits = |sign: &char| {
+        used += columns(*sign);
+        used <= width
+    };
+    text.chars().take_while(fits).chain("..".chars().take(width)).collect()
 }
 
 /// The standard library does not tell; `stty` does, of the terminal that it is given.

@@ -1,5 +1,6 @@
 //! Arguments as words that can be pasted into a shell, on one line and without a character that a terminal would act on.
 
+use crate::name::is_unseen;
 use std::ffi::OsStr;
 use std::os::unix::ffi::OsStrExt;
 
@@ -12,7 +13,7 @@ fn quoted(word: &OsStr) -> String {
     let safe = |byte: u8| byte.is_ascii_alphanumeric() || b"_@%+=:,./-".contains(&byte);
     match word.to_str() {
         Some(text) if !text.is_empty() && text.bytes().all(safe) => text.to_string(),
-        Some(text) if !text.chars().any(char::is_control) => format!("'{}'", text.replace('\'', "'\\''")),
+        Some(text) if !text.chars().any(is_unseen) => format!("'{}'", text.replace('\'', "'\\''")),
         _ => format!("$'{}'", escaped(word.as_bytes())),
     }
 }

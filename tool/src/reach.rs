@@ -40,6 +40,8 @@ pub struct Reach {
     /// Why no run can reach anything, where that is plain to see.
     pub plain: Option<String>,
     pub questions: Vec<Question>,
+    /// That solvers exclude each other in some answer.
+    pub disagreement: Option<String>,
 }
 
 /// The case with these asserts' expressions made 0, and every other assert's made 1.
@@ -75,7 +77,7 @@ impl Reach {
         let plain = plainly_nothing(case);
         let first = if plain.is_some() { Reached::Never } else { Reached::NotKnown(String::new()) };
         let asserts = asserts.into_iter().map(|record| (record, first.clone())).collect();
-        let mut reach = Reach { asserts, plain, questions: Vec::new() };
+        let mut reach = Reach { asserts, plain, questions: Vec::new(), disagreement: None };
         if reach.plain.is_none() {
             for schedule in simple_schedules(case) {
                 reach.note_run(loaded, &schedule)?;
@@ -117,8 +119,11 @@ impl Reach {
             let asked = asking.ask(&text, changed.table.variables);
             let answer = verdict(&changed, &asked);
             self.questions.push(Question { records: open.clone(), text, asked });
-            let known = match answer {
-                Verdict::Violated(found) => {
+            if let Verdict::Disagree(why, _) = &answer {
+                self.disagreement = Some(why.clone());
+            }
+            let known = match (answer.found(), &answer) {
+                (Some(found), _) => {
                     self.note_run(loaded, &found.schedule)?;
                     let left = self.open();
                     if left.len() < open.len() {
@@ -127,10 +132,8 @@ impl Reach {
                     }
                     Reached::NotKnown("a run that should reach it does not: this is not the proved library".to_string())
                 }
-                Verdict::Unsat => Reached::Never,
-                Verdict::Unknown(why) | Verdict::Timeout(why) | Verdict::Disagree(why) | Verdict::Failed(why) => {
-                    Reached::NotKnown(why)
-                }
+                (None, Verdict::Unsat) => Reached::Never,
+                (None, other) => Reached::NotKnown(other.trouble().to_string()),
             };
             for (_, reached) in self.asserts.iter_mut().filter(|(record, _)| open.contains(record)) {
                 *reached = known.clone();
@@ -148,6 +151,11 @@ impl Reach {
     /// Whether there are asserts, and each is shown to be reached.
     pub fn is_whole(&self) -> bool {
         !self.asserts.is_empty() && self.asserts.iter().all(|(_, reached)| matches!(reached, Reached::Yes(_)))
+    }
+
+    /// Whether something is known of each assert.
+    pub fn is_settled(&self) -> bool {
+        !self.asserts.iter().any(|(_, reached)| matches!(reached, Reached::NotKnown(_)))
     }
 
     /// In a few words, where something is not shown to be reached.

@@ -12,6 +12,7 @@ use crate::summary::Summary;
 use crate::words::count;
 use std::collections::HashMap;
 use std::ffi::{OsStr, OsString};
+use std::os::unix::ffi::OsStrExt;
 use std::path::PathBuf;
 use std::sync::atomic::{AtomicUsize, Ordering};
 use std::sync::mpsc::{self, Receiver};
@@ -107,7 +108,8 @@ fn case_files(folder: &OsStr) -> Result<Vec<Source>, Failure> {
     let mut files: Vec<PathBuf> = Vec::new();
     for entry in std::fs::read_dir(folder).map_err(named)? {
         let path = entry.map_err(named)?.path();
-        if path.extension() == Some(OsStr::new("case")) {
+        // No folder, and no pipe, which may never end.
+        if path.as_os_str().as_bytes().ends_with(b".case") && path.is_file() {
             files.push(path);
         }
     }
@@ -129,7 +131,7 @@ fn ready(wanted: &Wanted, cases: &[Source]) -> Result<(), Failure> {
             let (one, other) = (other.name(), case.name());
             return Err(Failure::Other(format!("{one} and {other} would be kept under the same name; keep them apart")));
         }
-        keep.prepare(&case.stem())?;
+        keep.prepare(case)?;
     }
     Ok(())
 }
@@ -189,8 +191,8 @@ impl Columns {
     }
 
     fn line(&self, summary: &Summary) -> String {
-        let Summary { name, word, size, seconds, note, resumed, .. } = summary;
-        let filed = if *resumed { "filed already; " } else { "" };
+        let Summary { name, word, size, seconds, note, filed_by, .. } = summary;
+        let filed = filed_by.as_ref().map(|by| format!("filed already, by {by}; ")).unwrap_or_default();
         format!("{name:width$}  {word:<8}  {size:>12}  {seconds:>8.2}  {filed}{note}\n", width = self.name)
     }
 

@@ -46,6 +46,8 @@ pub struct Found {
     pub assignment: Vec<u16>,
     pub schedule: Vec<u16>,
     pub run: Run,
+    /// That the solver's model left variables out.
+    pub left_out: Option<String>,
 }
 
 /// What came of a question. The words say who did not answer, or what is wrong.
@@ -54,7 +56,8 @@ pub enum Verdict {
     Unsat,
     Unknown(String),
     Timeout(String),
-    Disagree(String),
+    /// With the run that shows who is wrong, where it is about the case's own question.
+    Disagree(String, Option<Box<Found>>),
     Failed(String),
 }
 
@@ -119,21 +122,26 @@ pub fn solve_by(loaded: &Loaded, first: &dyn Ask, others: &dyn Ask, tell: &mut d
         (asked, verdict, reach)
     });
     let mut reach = reach?;
-    if let Verdict::Violated(found) = &verdict {
+    if let Some(found) = verdict.found() {
         reach.note_run(loaded, &found.schedule)?;
     }
+    let verdict = match (verdict, &reach.disagreement) {
+        // Who is wrong about the one question may be wrong about the other.
+        (Verdict::Unsat, Some(why)) => Verdict::Disagree(format!("whether an assert is reached: {why}"), None),
+        (verdict, _) => verdict,
+    };
     Ok(Solved { text, asked, verdict, reach, seconds: begin.elapsed().as_secs_f64() })
 }
 
 /// What solvers' answers come to. An assignment is checked, decoded and replayed, so one is enough; unsat is a word, so all must
 /// give it.
 pub fn verdict(loaded: &Loaded, asked: &[Asked]) -> Verdict {
-    let mut found = None;
+    let (mut found, mut wrong) = (None, None);
     for Asked { solver, answer, .. } in asked {
         if let Answer::Sat(model) = answer {
             match followed(loaded, solver, model) {
                 Ok(one) => found = found.or(Some(one)),
-                Err(failure) => return Verdict::Failed(failure.message().unwrap_or_default().to_string()),
+                Err(failure) => wrong = wrong.or(failure.message().map(str::to_string)),
             }
         }
     }
@@ -141,19 +149,22 @@ pub fn verdict(loaded: &Loaded, asked: &[Asked]) -> Verdict {
         asked.iter().filter(|asked| wanted(&asked.answer)).map(|asked| asked.solver.as_str()).collect()
     };
     let unsat = of(|answer| *answer == Answer::Unsat);
-    if let (Some(found), [denies, ..]) = (&found, unsat.as_slice()) {
-        return Verdict::Disagree(format!(
-            "{} says sat, and its assignment is checked and replayed; {denies} says unsat, and is wrong",
-            found.solver
-        ));
-    }
-    if let Some(found) = found {
-        return Verdict::Violated(found);
+    match (found, unsat.as_slice()) {
+        (Some(found), [denies, ..]) => {
+            let sat = &found.solver;
+            let why = format!("{sat} says sat, and its assignment is checked and replayed; {denies} says unsat, and is wrong");
+            return Verdict::Disagree(why, Some(Box::new(found)));
+        }
+        (Some(found), []) => return Verdict::Violated(found),
+        (None, _) => {}
     }
     let besides = |words: String| match unsat.as_slice() {
         [] => words,
         [solver, ..] => format!("{words}; {solver} says unsat"),
     };
+    if let Some(wrong) = wrong {
+        return Verdict::Failed(besides(wrong));
+    }
     for Asked { solver, answer, .. } in asked {
         if let Answer::None(problem) = answer {
             return Verdict::Failed(besides(format!("the solver {solver} gave no answer that can be read: {problem}")));
@@ -178,7 +189,10 @@ fn followed(loaded: &Loaded, solver: &str, model: &Model) -> Result<Found, Failu
     let schedule = loaded.decode(&name, assignment)?;
     let run = run::replay(loaded, "the decoded schedule", &schedule)?;
     match run.ending {
-        Ending::Violated(_) => Ok(Found { solver: solver.to_string(), assignment: assignment.clone(), schedule, run }),
+        Ending::Violated(_) => {
+            let (solver, left_out) = (solver.to_string(), model.left_out_in_words());
+            Ok(Found { solver, assignment: assignment.clone(), schedule, run, left_out })
+        }
         _ => Err(Failure::Other(format!(
             "an assignment that meets the constraints replays to '{}': this is not the proved library",
             run::verdict(&loaded.case, run.ending)
@@ -192,7 +206,7 @@ impl Verdict {
         match self {
             Verdict::Unknown(why) => format!("unknown: {why}"),
             Verdict::Timeout(why) => format!("timeout: {why}"),
-            Verdict::Disagree(why) => format!("the solvers disagree: {why}"),
+            Verdict::Disagree(why, _) => format!("the solvers disagree: {why}"),
             other => other.trouble().to_string(),
         }
     }
@@ -201,7 +215,16 @@ impl Verdict {
     pub fn trouble(&self) -> &str {
         match self {
             Verdict::Violated(_) | Verdict::Unsat => "",
-            Verdict::Unknown(why) | Verdict::Timeout(why) | Verdict::Disagree(why) | Verdict::Failed(why) => why,
+            Verdict::Unknown(why) | Verdict::Timeout(why) | Verdict::Disagree(why, _) | Verdict::Failed(why) => why,
+        }
+    }
+
+    /// The run that was found.
+    pub fn found(&self) -> Option<&Found> {
+        match self {
+            Verdict::Violated(found) => Some(found),
+            Verdict::Disagree(_, found) => found.as_deref(),
+            _ => None,
         }
     }
 }
@@ -218,7 +241,7 @@ impl Solved {
             Verdict::Unsat => "unsat",
             Verdict::Unknown(_) => "unknown",
             Verdict::Timeout(_) => "timeout",
-            Verdict::Disagree(_) => "disagree",
+            Verdict::Disagree(..) => "disagree",
             Verdict::Failed(_) => "failed",
         }
     }

@@ -4,7 +4,7 @@ use crate::calls::Loaded;
 use crate::failure::{Failure, Status};
 use crate::input::Source;
 use crate::objects;
-use crate::solve::{solve, Asking, Solved, Wanted};
+use crate::solve::{solve, Asking, Solved, Verdict, Wanted};
 
 /// A case's answer, as it is printed and filed.
 #[derive(Clone, Debug)]
@@ -23,8 +23,8 @@ pub struct Summary {
     pub json: String,
     /// What failed, in full.
     pub message: Option<String>,
-    /// Whether the answer was filed before.
-    pub resumed: bool,
+    /// Whose answer it is, where it was filed before.
+    pub filed_by: Option<String>,
 }
 
 impl Summary {
@@ -41,20 +41,28 @@ impl Summary {
         }
     }
 
-    pub fn of_solved(loaded: &Loaded, solved: &Solved, json: String) -> Summary {
-        let status = solved.status(false);
+    pub fn of_solved(loaded: &Loaded, asking: &Asking, solved: &Solved, strict: bool) -> Summary {
+        let (status, note) = (solved.status(false), solved.note(loaded));
         Summary {
             name: loaded.name.clone(),
             word: solved.word().to_string(),
             size: format!("{} over {}", loaded.table.rows.len(), loaded.table.variables),
             seconds: solved.seconds,
-            note: solved.note(loaded),
+            json: objects::solved(loaded, asking, solved, strict, &note).to_string(),
+            note,
             status,
             whole: solved.reach.is_whole(),
-            json,
             message: (status == Failure::STATUS_OTHER).then(|| format!("{}: {}", loaded.name, solved.verdict.message())),
-            resumed: false,
+            filed_by: None,
         }
+    }
+
+    /// A violation is not hidden by what happens to its files.
+    fn not_kept(self, loaded: &Loaded, asking: &Asking, solved: &Solved, failure: &Failure) -> Summary {
+        let why = failure.message().unwrap_or_default();
+        let note = format!("{}; NOT KEPT: {}", self.note, why.lines().next().unwrap_or_default());
+        let json = objects::solved(loaded, asking, solved, false, &note).to_string();
+        Summary { message: Some(format!("{}: not kept: {why}", self.name)), note, json, ..self }
     }
 
     fn of_failure(source: &Source, failure: &Failure) -> Summary {
@@ -72,20 +80,30 @@ impl Summary {
             whole: false,
             json: objects::failed("solve", &source.name(), &source.name(), failure).to_string(),
             message: Some(message.to_string()),
-            resumed: false,
+            filed_by: None,
         }
     }
 }
 
 fn answered(source: &Source, wanted: &Wanted, asking: &Asking) -> Result<Summary, Failure> {
-    let loaded = Loaded::from(source)?;
-    if let Some(filed) = wanted.keep.as_ref().map(|keep| keep.filed(&loaded, wanted.strict)).transpose()?.flatten() {
-        return Ok(filed);
+    let loaded = Loaded::from(source).or_else(|failure| {
+        // An answer of what the case was before is not left beside a refusal.
+        let forced = wanted.keep.as_ref().filter(|keep| keep.force);
+        forced.map_or(Ok(()), |keep| keep.clear(&source.stem()))?;
+        Err(failure)
+    })?;
+    if let Some(keep) = &wanted.keep {
+        if let Some(filed) = keep.filed(&loaded, wanted, asking)? {
+            return Ok(filed);
+        }
+        keep.clear(&loaded.stem)?;
     }
     let solved = solve(&loaded, asking, &mut |_| {})?;
-    let summary = Summary::of_solved(&loaded, &solved, objects::solved(&loaded, asking, &solved, wanted.strict).to_string());
-    if let Some(keep) = &wanted.keep {
-        keep.keep(&loaded, &solved, &summary)?;
+    let summary = Summary::of_solved(&loaded, asking, &solved, wanted.strict);
+    let kept = wanted.keep.as_ref().map_or(Ok(()), |keep| keep.keep(&loaded, asking, &solved, &summary));
+    match (kept, &solved.verdict) {
+        (Ok(()), _) => Ok(summary),
+        (Err(failure), Verdict::Violated(_)) => Ok(summary.not_kept(&loaded, asking, &solved, &failure)),
+        (Err(failure), _) => Err(failure),
     }
-    Ok(summary)
 }

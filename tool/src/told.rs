@@ -4,7 +4,6 @@ use crate::calls::Loaded;
 use crate::failure::{Failure, Status};
 use crate::input::Source;
 use crate::name::shown;
-use crate::objects;
 use crate::output::Output;
 use crate::reach::{self, Reach, Reached};
 use crate::solve::{solve, Found, Solved, Verdict, Wanted};
@@ -16,10 +15,7 @@ use std::ffi::OsStr;
 pub fn one(source: &Source, wanted: &Wanted, output: &mut Output) -> Result<Status, Failure> {
     let loaded = Loaded::from(source)?;
     if let Some(keep) = &wanted.keep {
-        keep.prepare(&loaded.stem)?;
-        if let Some(filed) = keep.filed(&loaded, wanted.strict)? {
-            return resumed(&filed, &keep.folder, wanted, output);
-        }
+        keep.prepare(source)?;
     }
     let constraints = count(loaded.table.rows.len(), "constraint", "constraints");
     let variables = count(loaded.table.variables, "variable", "variables");
@@ -28,37 +24,48 @@ pub fn one(source: &Source, wanted: &Wanted, output: &mut Output) -> Result<Stat
         output.say(&format!("nothing is checked here, whatever a solver says: {why}\n"))?;
     }
     let asking = wanted.settings.asking(false)?;
+    if let Some(keep) = &wanted.keep {
+        if let Some(filed) = keep.filed(&loaded, wanted, &asking)? {
+            return resumed(&filed, &keep.folder, wanted, output);
+        }
+        keep.clear(&loaded.stem)?;
+    }
     let mut said = Ok(());
     let names = asking.names();
     let solved = solve(&loaded, &asking, &mut |verdict| said = output.say(&answer(&loaded, &names, verdict)))?;
     said?;
     output.say(&format!("{}{}", asserts(&loaded, &solved.reach), warning(&solved)))?;
-    if let Some(keep) = &wanted.keep {
-        let object = objects::solved(&loaded, &asking, &solved, wanted.strict).to_string();
-        keep.keep(&loaded, &solved, &Summary::of_solved(&loaded, &solved, object))?;
+    let summary = Summary::of_solved(&loaded, &asking, &solved, wanted.strict);
+    let kept = wanted.keep.as_ref().map_or(Ok(()), |keep| keep.keep(&loaded, &asking, &solved, &summary));
+    match (kept, &solved.verdict) {
+        // A violation is not hidden by what happens to its files.
+        (Err(failure), Verdict::Violated(_)) => failure.report(),
+        (kept, _) => kept?,
     }
     Status::of(solved.status(wanted.strict)).map_err(|_| Failure::Other(solved.verdict.message()))
 }
 
 /// An answer that was filed before.
 fn resumed(filed: &Summary, folder: &OsStr, wanted: &Wanted, output: &mut Output) -> Result<Status, Failure> {
-    output.say(&format!("{}: filed in {} already: {}: {}\n", filed.name, shown(folder), filed.word, filed.note))?;
+    let by = filed.filed_by.as_deref().unwrap_or("a solver");
+    output.say(&format!("filed in {} already, by {by}: {}: {}\n", shown(folder), filed.word, filed.note))?;
     Status::of(filed.status(wanted.strict))
 }
 
 /// What the solvers say, and what the library makes of it. Where there is no answer, the failure says why.
 pub fn answer(loaded: &Loaded, solvers: &[&str], verdict: &Verdict) -> String {
-    match verdict {
-        Verdict::Violated(found) => violated(loaded, found),
-        Verdict::Unsat => unsat(loaded, solvers),
-        Verdict::Unknown(_) | Verdict::Timeout(_) | Verdict::Disagree(_) | Verdict::Failed(_) => String::new(),
+    match (verdict.found(), verdict) {
+        (Some(found), _) => violated(loaded, found),
+        (None, Verdict::Unsat) => unsat(loaded, solvers),
+        (None, _) => String::new(),
     }
 }
 
 fn violated(loaded: &Loaded, found: &Found) -> String {
-    let Found { solver, assignment, schedule, run } = found;
+    let Found { solver, assignment, schedule, run, left_out } = found;
+    let left_out = left_out.as_ref().map(|words| format!("({words})\n")).unwrap_or_default();
     format!(
-        "{solver} says sat. Its assignment:\n{}checked: it meets {}\ndecoded: schedule {}\n{}",
+        "{solver} says sat. Its assignment:\n{}{left_out}checked: it meets {}\ndecoded: schedule {}\n{}",
         numbers_in_lines(assignment),
         all(loaded.table.rows.len(), "constraint", "constraints"),
         numbers_in_lines(schedule),
@@ -102,6 +109,14 @@ pub fn asserts(loaded: &Loaded, reach: &Reach) -> String {
             }
         };
         text.push_str(&format!("  {}: {}\n", record_in_words(&loaded.case, *record), words.trim_end()));
+    }
+    if reach.plain.is_none() && reach.asserts.iter().any(|(_, reached)| *reached == Reached::Never) {
+        let names =
+            reach.questions.last().map_or(Vec::new(), |last| last.asked.iter().map(|one| one.solver.as_str()).collect());
+        text.push_str(&format!(
+            "  (NEVER REACHED is the word of {}; a schedule is replayed by the proved library)\n",
+            enumeration(&names)
+        ));
     }
     if reach.asserts.is_empty() {
         text.push_str("  none\n");

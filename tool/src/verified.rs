@@ -100,12 +100,21 @@ fn again(asking: &Asking, recomputed: &Recomputed, filed: &str) -> Result<Again,
         matches!((before, now), (Reached::Yes(_), Reached::Never) | (Reached::Never, Reached::Yes(_)))
     });
     let turned: Vec<u16> = turned.map(|((record, _), _)| *record).collect();
-    let (same, note) = match (solved.verdict.trouble(), turned.as_slice()) {
-        ("", []) => (Some(solved.word() == filed), solved.note(&recomputed.loaded)),
-        ("", turned) => (Some(false), format!("whether it is reached has turned: record {}", enumeration(turned))),
-        (trouble, _) => (None, trouble.lines().next().unwrap_or_default().to_string()),
+    let (same, note) = match (solved.verdict.trouble(), recomputed.solved.verdict.trouble(), turned.as_slice()) {
+        ("", "", []) => (Some(answer(solved.word()) == answer(filed)), solved.note(&recomputed.loaded)),
+        ("", "", turned) => (Some(false), format!("whether it is reached has turned: record {}", enumeration(turned))),
+        ("", _, _) => (None, format!("{}; there is no filed answer to compare it with", solved.note(&recomputed.loaded))),
+        (trouble, _, _) => (None, trouble.lines().next().unwrap_or_default().to_string()),
     };
     Ok(Again { solvers: asking.names().into_iter().map(str::to_string).collect(), answer: solved.word(), same, note })
+}
+
+/// The answer to the case's own question: a vacuous one is unsat. Which asserts are reached is compared by itself.
+fn answer(word: &str) -> &str {
+    match word {
+        "vacuous" => "unsat",
+        word => word,
+    }
 }
 
 impl Report {
