@@ -304,7 +304,7 @@ damages() {
         rm "$scratch/copy/$name"
         tells "$1: $name is not listed and not there" 1 "(^|"$'\n'")$name +missing: it belongs to|(MANIFEST|README.txt) +differs"
         copied "$1" && sed -i -E "s/^.(.{63}  $name)\$/g\\1/; t; s/^(.{63}).  $name\$/\\10  $name/" "$scratch/copy/MANIFEST"
-        tells "$1: the hash of $name is no hash" 3 'MANIFEST: line [0-9]+: a SHA-256'
+        tells "$1: the hash of $name is no hash" 3 'MANIFEST: line [0-9]+: expected are a SHA-256'
         copied "$1" && sed -i -E "s/^.*  $name\$/$(printf '%064d' 0)  $name/" "$scratch/copy/MANIFEST"
         tells "$1: another hash of $name" 1 "(^|"$'\n'")$name +differs: its SHA-256 is not"
     done < <(sed -nE 's/^[0-9a-f]{64}  //p' "$scratch/$1/MANIFEST")
@@ -333,11 +333,11 @@ list_damages() {
     copied unsat && sed -i 's/ unsat$/ timeout/' "$scratch/copy/MANIFEST"
     tells 'an answer that the reply does not have' 1 'verdict.txt +differs'
     copied unsat && sed -i '/^# answer/s/$/ /' "$scratch/copy/MANIFEST"
-    tells 'a value that ends with a blank' 3 "line [0-9]+: '# answer: ' and a value are expected"
+    tells 'a value that ends with a blank' 3 "line [0-9]+: expected is '# answer: ' and a value, without a blank at its end"
     copied unsat && sed -i '/  show.txt$/p' "$scratch/copy/MANIFEST"
     tells 'a file that is listed twice' 3 'line [0-9]+: show.txt is listed twice'
     copied unsat && sed -i '1s/1$/2/' "$scratch/copy/MANIFEST"
-    tells 'another format' 3 "line 1: the format 'menduvo file 1' is expected"
+    tells 'another format' 3 "line 1: this command knows the format 'menduvo file 1', and not this one: 'menduvo file 2'"
     local name
     for name in ../violated/run.txt /etc/passwd .. . a/b .hidden -x MANIFEST 'a b'; do
         copied violated && printf '%064d  %s\n' 0 "$name" >>"$scratch/copy/MANIFEST"
@@ -395,6 +395,9 @@ asking_again() {
         "$binary" verify "$scratch/violated" --solver z3 --timeout 0.2
     says 'any solver' 3 'asked again, sleepy: timeout' \
         "$binary" verify "$scratch/violated" --solver-command "$scratch/fakes/sleepy 30" --timeout 0.2
+    solver sure 'cat >/dev/null; echo unsat'
+    copied none-1
+    says 'no filed answer' 3 'there is no filed answer to compare it with: no answer' "$binary" verify "$scratch/copy" --solver-command "$scratch/fakes/sure"
     says 'a solver that is not there' 3 'none is not installed' \
         "$binary" verify "$scratch/violated" --solver-command "$scratch/none"
     says 'a limit for nobody' 3 '--timeout needs --solver' "$binary" verify "$scratch/violated" --timeout 1

@@ -356,6 +356,12 @@ commits() {
     runs 'its commit, for what is verified' "$slow" '' "it is red round, $hash" "$menduvo" verify
     runs 'whatever the caller was told' "$slow" '' "it is red round, $hash" \
         env MENDUVO_COMMIT=x GIT_DIR="$scratch" GIT_INDEX_FILE="$scratch/x" "$menduvo" file
+    # Git takes no orders from a repository of somebody else, unless it is told to.
+    if [ "$(id -u)" = 0 ]; then
+        chown -R 65534 "$tree"
+        runs 'the tree is of somebody else' "$slow" '' "it is red round, $hash" "$menduvo" file
+        chown -R 0 "$tree"
+    fi
     : >"$tree/cases/new.case" && mkdir "$tree/docs" && : >"$tree/docs/new.md"
     runs 'a file that is no part of it' "$slow" '' "it is red round, $hash" "$menduvo" file
     for name in crates/new.rt bindings/new tool/new.rs bin/new; do

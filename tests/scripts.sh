@@ -452,7 +452,7 @@ parallel_jobs() {
         $'3 "answer":"unsat"\n3 "answer":"violated"\n3 0\n3 1'
 
     # Two answers are lost, and one case has not been solved at all.
-    rm "$place"/out/{case-a,interlock}.answer && rm "$place/out/lock-order".*
+    rm "$place"/out/{case-a,interlock,lock-order}.*
     recipe 'going on' 'Going on after a stop'
     jobs_are_done 'going on'
     cp "$place/out.jsonl" "$scratch/objects"

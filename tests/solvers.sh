@@ -91,6 +91,9 @@ echo unsat; exec >&-; sleep 60|z3 gave no answer that can be read: it printed 'u
 echo unknown|menduvo: unknown: z3 gave up
 echo timeout|menduvo: timeout: z3 gave no answer in time
 FAKES
+    fake z3 "cat >/dev/null; echo sat; sed 's/(v[0127] #x0000)//g' <<<'$model'"
+    says 'a model that leaves zeros out' 1 '(the model has no value for 4 of 12 variables (v0, v1, v2 and v7); 0 is taken for them' \
+        "$menduvo" solve cases/case-a.case
     fake z3 'cat >/dev/null; echo unsat; exit 20'
     says 'a solver that ends with 20 after unsat' 0 'z3 says unsat' "$menduvo" solve cases/interlock.case
     fake z3 "cat >/dev/null; echo sat; echo '$model'; exit 10"
@@ -159,6 +162,7 @@ vacuous() {
             "$menduvo" solve "$scratch/some.case" --solver "$solver"
         result "$solver: the other is" eval '[[ $out = *"line 1: assert 1): reached, e.g. schedule 2 2 0 0"* ]] && [[ $out != *VACUOUS* ]]'
         says "$solver: which is strictly no success" 1 'NEVER REACHED' "$menduvo" solve "$scratch/some.case" --solver "$solver" --strict
+        result "$solver: by its word" eval '[[ $out = *"(NEVER REACHED is the word of '"$solver"'; a schedule is replayed by the proved library)"* ]]'
         says "$solver: no run is legal" 0 'VACUOUS: this unsat says nothing' "$menduvo" solve "$scratch/illegal.case" --solver "$solver"
         says "$solver: reached between two lines" 0 'assert 1): reached, e.g. schedule 0 1 3 1' \
             "$menduvo" solve "$scratch/between.case" --solver "$solver" --strict

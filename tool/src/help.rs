@@ -123,7 +123,7 @@ pub const PAGES: [Page; 11] = [
                DIR: every file in it that ends in .case. Of several cases each one's line is printed when it is known,\n\
                and at the end how many have each answer:\n\
                \x20 violated   a run that breaks an assertion was found, checked and replayed\n\
-               \x20 unsat      nothing meets the constraints, by the solver's word, and some assert is reached\n\
+               \x20 unsat      nothing meets the constraints, by the solver's word; the note names asserts that are not reached\n\
                \x20 vacuous    nothing meets the constraints, and no assert is reached: it says nothing\n\
                \x20 timeout    the solver's time was up\n\
                \x20 unknown    the solver gave up\n\
