@@ -175,7 +175,7 @@ fn counts(summaries: &[Summary]) -> String {
 fn tell_failures(summaries: &[Summary]) {
     let mut failures = summaries.iter().filter_map(|summary| summary.message.as_ref());
     if let Some(first) = failures.next() {
-        let counted = count(1 + failures.count(), "case was not solved", "cases were not solved");
+        let counted = count(1 + failures.count(), "case was not done", "cases were not done");
         note(&format!("{counted}; as: {first}"));
     }
 }
