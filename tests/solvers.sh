@@ -421,6 +421,8 @@ resuming() {
     fake z3 'text=$(cat); case $text in *"L1 != 0: assert 0"*) exec sleep 600 ;; *) echo unsat ;; esac'
     run "$menduvo" solve "$scratch/between.case" --keep "$scratch/open" --timeout 1.5
     result 'a question is open' eval '[ "$status" = 0 ] && [[ $out = *"not known whether it is reached: z3 gave no answer in time"* ]]'
+    run bash -c "'$menduvo' solve '$scratch/between.case' | head -n 1"
+    result 'nobody reads on, and nobody waits' eval '[ "$status" = 0 ] && [[ $out = "between.case: "* ]]'
     rm "$scratch/fakes/z3"
     run "$menduvo" solve "$scratch/between.case" --resume "$scratch/open"
     result 'it is asked again' eval '[ "$status" = 0 ] && [[ $out = *"reached, e.g. schedule 0 1 3 1"* ]]'

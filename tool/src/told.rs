@@ -30,10 +30,14 @@ pub fn one(source: &Source, wanted: &Wanted, output: &mut Output) -> Result<Stat
         }
         keep.clear(&loaded.stem)?;
     }
-    let mut said = Ok(());
     let names = asking.names();
-    let solved = solve(&loaded, &asking, &mut |verdict| said = output.say(&answer(&loaded, &names, verdict)))?;
-    said?;
+    let solved = solve(&loaded, &asking, &mut |verdict| {
+        if let Err(failure) = output.say(&answer(&loaded, &names, verdict)) {
+            // Nobody waits for the rest, which may take long. The guard ends what is still asked.
+            failure.report();
+            std::process::exit(failure.status());
+        }
+    })?;
     output.say(&format!("{}{}", asserts(&loaded, &solved.reach), warning(&solved)))?;
     let summary = Summary::of_solved(&loaded, &asking, &solved, wanted.strict);
     let kept = wanted.keep.as_ref().map_or(Ok(()), |keep| keep.keep(&loaded, &asking, &solved, &summary));
