@@ -101,8 +101,8 @@ pub const PAGES: [Page; 11] = [
                 name: "--keep",
                 value: "FOLDER",
                 does:
-                    "write NAME.smt2 (the text), NAME.reply, NAME.assignment, NAME.schedule, NAME.reached and\nNAME.answer to \
-                       this folder, named as the case",
+                    "write NAME.smt2 (the text), NAME.reply, NAME.assignment, NAME.schedule,\nNAME.reached and NAME.answer \
+                       to this folder, named as the case",
             },
             Choice {
                 name: "--resume",
@@ -187,8 +187,8 @@ Files:
   CASE         the bytes of a case file; '-' is standard input
   ASSIGNMENT   a number for each variable, or a solver's model (z3's or cvc5's) over v0, v1, ..
   SCHEDULE     block lengths, then input values
-  Numbers are decimal, 0 to 65535, with white space or commas between them; '#' starts a comment to the line's end.
-  '-' is standard input.
+  Numbers are decimal, 0 to 65535, with white space or commas between them; '#' starts a comment to the
+  line's end. '-' is standard input.
 ";
 
 const STATUSES: &str = "\
