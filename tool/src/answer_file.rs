@@ -1,18 +1,14 @@
 //! The file of a kept answer, which `--resume` reads: a line for each part, with its name before it, and last a SHA-256 of the
 //! lines before, so that a file that is not whole, or was changed, is told.
 
+use crate::input::plain_file;
 use crate::objects;
 use crate::sha256;
 use crate::solve::{Asking, Solved, Wanted, ANSWERS};
 use crate::summary::Summary;
-use std::fs::File;
-use std::io::Read;
 use std::path::Path;
 
 const FORM: &str = "# an answer of 'menduvo solve', for --resume";
-
-/// The most bytes of a kept file.
-const MOST_BYTES: u64 = 16 << 20;
 
 /// What `--resume` takes for an answer; the others are asked again.
 const FINAL: [&str; 3] = ["violated", "unsat", "vacuous"];
@@ -75,7 +71,7 @@ fn with_sum(text: String) -> String {
 
 /// The hash of the case that an answer is of, and the answer, if it is known.
 pub fn read(file: &Path) -> Option<(String, Option<Filed>)> {
-    let text = String::from_utf8(bytes(file)?).ok()?;
+    let text = String::from_utf8(plain_file(file).ok()?).ok()?;
     let (before, _) = text.strip_suffix('\n')?.rsplit_once('\n')?;
     if with_sum(format!("{before}\n")) != text {
         return None;
@@ -105,15 +101,4 @@ fn answer(lines: &[&str]) -> Option<Filed> {
     };
     let files = lines.map(file).collect::<Option<Vec<_>>>()?;
     Some(Filed { summary, commands, settled, files })
-}
-
-/// The bytes of a plain file of some size: a link may lead elsewhere, and a pipe may never end.
-pub fn bytes(path: &Path) -> Option<Vec<u8>> {
-    let found = path.symlink_metadata().ok()?;
-    if !found.is_file() || found.len() > MOST_BYTES {
-        return None;
-    }
-    let mut bytes = Vec::new();
-    File::open(path).ok()?.take(MOST_BYTES).read_to_end(&mut bytes).ok()?;
-    Some(bytes)
 }

@@ -1,7 +1,9 @@
 //! How a call of the command ends, and its exit status.
 
+use crate::name::shown;
 use crate::refusal::Refusal;
 use std::io::Write;
+use std::path::Path;
 
 /// A call that did its work.
 #[derive(Clone, Copy, Debug, PartialEq, Eq)]
@@ -54,6 +56,11 @@ pub enum Failure {
 impl Failure {
     pub const STATUS_REFUSED: i32 = 2;
     pub const STATUS_OTHER: i32 = 3;
+
+    /// What the system says of a file or folder.
+    pub fn of_file(path: impl AsRef<Path>, error: &std::io::Error) -> Failure {
+        Failure::Other(format!("{}: {error}", shown(path.as_ref().as_os_str())))
+    }
 
     pub fn status(&self) -> i32 {
         match self {

@@ -98,7 +98,7 @@ impl Unfinished {
         let mut name = place.file_name().unwrap_or_default().to_os_string();
         name.push(format!(".unfinished-{}", std::process::id()));
         let path = place.with_file_name(name);
-        fs::create_dir(&path).map_err(|error| failure(&path, &error))?;
+        fs::create_dir(&path).map_err(|error| Failure::of_file(&path, &error))?;
         Ok(Unfinished(path))
     }
 
@@ -107,7 +107,7 @@ impl Unfinished {
         let path = self.0.join(name);
         let opened = OpenOptions::new().write(true).create_new(true).open(&path);
         let written = opened.and_then(|mut file| file.write_all(bytes).and_then(|()| file.sync_all()));
-        written.map_err(|error| failure(&path, &error))
+        written.map_err(|error| Failure::of_file(&path, &error))
     }
 
     fn rename(self, place: &Path) -> Result<(), Failure> {
@@ -116,7 +116,7 @@ impl Unfinished {
             return Err(Failure::Other(format!("{} has come while solvers were asked", shown(place.as_os_str()))));
         }
         let synced = File::open(&self.0).and_then(|folder| folder.sync_all());
-        synced.and_then(|()| fs::rename(&self.0, place)).map_err(|error| failure(place, &error))
+        synced.and_then(|()| fs::rename(&self.0, place)).map_err(|error| Failure::of_file(place, &error))
     }
 }
 
@@ -125,8 +125,4 @@ impl Drop for Unfinished {
         // After renaming nothing is there under this name. What cannot be removed says by its name what it is.
         let _ = fs::remove_dir_all(&self.0);
     }
-}
-
-fn failure(path: &Path, error: &std::io::Error) -> Failure {
-    Failure::Other(format!("{}: {error}", shown(path.as_os_str())))
 }

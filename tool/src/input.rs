@@ -10,7 +10,7 @@ use std::path::Path;
 /// The most bytes of a text with numbers: a model of the largest case has about a tenth of it.
 const MOST_TEXT_BYTES: usize = 1 << 20;
 /// The most bytes of a file that is kept as it is.
-pub const MOST_FILE_BYTES: usize = 1 << 26;
+const MOST_FILE_BYTES: usize = 1 << 26;
 
 /// Where an input comes from.
 #[derive(Clone, Debug, PartialEq, Eq)]
@@ -80,6 +80,19 @@ impl Source {
             false => File::open(&self.0).and_then(|file| read_at_most(file, most)),
         };
         read.map_err(|error| Failure::Other(format!("{}: {error}", self.name())))
+    }
+}
+
+/// The bytes of a plain file that was kept, or why they cannot be had: a link may lead elsewhere, and a pipe may never end.
+pub fn plain_file(path: &Path) -> Result<Vec<u8>, String> {
+    let found = path.symlink_metadata().map_err(|error| error.to_string())?;
+    if !found.is_file() {
+        return Err("it is not a plain file".to_string());
+    }
+    let read = File::open(path).and_then(|file| read_at_most(file, MOST_FILE_BYTES + 1));
+    match read.map_err(|error| error.to_string())? {
+        bytes if bytes.len() > MOST_FILE_BYTES => Err(format!("it has over {MOST_FILE_BYTES} bytes")),
+        bytes => Ok(bytes),
     }
 }
 

@@ -5,7 +5,7 @@ use crate::answer_file::{self, Filed};
 use crate::calls::Loaded;
 use crate::failure::Failure;
 use crate::filed;
-use crate::input::Source;
+use crate::input::{plain_file, Source};
 use crate::name::shown;
 use crate::sha256;
 use crate::solve::{Asking, Solved, Wanted};
@@ -34,7 +34,7 @@ impl Keep {
     /// Makes the folder, and looks whether something is in the way, before any solver is asked. What stands beside an answer's own
     /// file was written by this command.
     pub fn prepare(&self, source: &Source) -> Result<(), Failure> {
-        fs::create_dir_all(&self.folder).map_err(|error| failure(Path::new(&self.folder), &error))?;
+        fs::create_dir_all(&self.folder).map_err(|error| Failure::of_file(&self.folder, &error))?;
         let stem = source.stem();
         let files: Vec<PathBuf> = ENDINGS.iter().map(|ending| self.file(&stem, ending)).collect();
         if let Some(file) = files.iter().find(|file| is_same(file, Path::new(source.path()))) {
@@ -82,7 +82,7 @@ impl Keep {
 
     fn has_all(&self, stem: &OsStr, answer: &Filed) -> bool {
         let is_same = |(ending, hash): &(String, String)| {
-            answer_file::bytes(&self.file(stem, ending)).is_some_and(|bytes| sha256::hex(&bytes) == *hash)
+            plain_file(&self.file(stem, ending)).is_ok_and(|bytes| sha256::hex(&bytes) == *hash)
         };
         answer.files.iter().all(is_same)
     }
@@ -95,7 +95,7 @@ impl Keep {
         }
         for file in ENDINGS.map(|ending| self.file(stem, ending)) {
             match fs::remove_file(&file) {
-                Err(error) if error.kind() != ErrorKind::NotFound => return Err(failure(&file, &error)),
+                Err(error) if error.kind() != ErrorKind::NotFound => return Err(Failure::of_file(&file, &error)),
                 _ => {}
             }
         }
@@ -115,7 +115,7 @@ impl Keep {
         let text = answer_file::text(&case, asking, solved, summary, &texts);
         let whole = self.file(stem, &format!("{ANSWER}.part-{}", std::process::id()));
         write(&whole, text.as_bytes())?;
-        fs::rename(&whole, &answer).map_err(|error| failure(&answer, &error))
+        fs::rename(&whole, &answer).map_err(|error| Failure::of_file(&answer, &error))
     }
 }
 
@@ -143,10 +143,6 @@ pub fn is_same(one: &Path, other: &Path) -> bool {
     matches!((one.canonicalize(), other.canonicalize()), (Ok(one), Ok(other)) if one == other)
 }
 
-fn failure(file: &Path, error: &std::io::Error) -> Failure {
-    Failure::Other(format!("{}: {error}", shown(file.as_os_str())))
-}
-
 fn in_the_way(file: &Path) -> Failure {
     Failure::Other(format!(
         "{} is there already; --force replaces it, and --resume FOLDER goes on with what has no answer there",
@@ -159,11 +155,11 @@ fn write(file: &Path, bytes: &[u8]) -> Result<(), Failure> {
     let mut opened = match OpenOptions::new().write(true).create_new(true).open(file) {
         Ok(opened) => opened,
         Err(error) if error.kind() == ErrorKind::AlreadyExists => return Err(in_the_way(file)),
-        Err(error) => return Err(failure(file, &error)),
+        Err(error) => return Err(Failure::of_file(file, &error)),
     };
     opened.write_all(bytes).map_err(|error| {
         let _ = fs::remove_file(file);
-        failure(file, &error)
+        Failure::of_file(file, &error)
     })
 }
 
@@ -179,6 +175,6 @@ pub fn write_file(file: &OsStr, text: &str, force: bool) -> Result<(), Failure> 
         Err(error) if error.kind() == ErrorKind::AlreadyExists => {
             Err(Failure::Other(format!("{} is there already; --force replaces it", shown(file))))
         }
-        Err(error) => Err(failure(Path::new(file), &error)),
+        Err(error) => Err(Failure::of_file(file, &error)),
     }
 }

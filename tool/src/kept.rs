@@ -1,12 +1,11 @@
 //! A filed folder as it is found. Nothing outside of it is read, whatever its list names, and nothing is written.
 
 use crate::failure::Failure;
-use crate::input::MOST_FILE_BYTES;
+use crate::input::plain_file;
 use crate::manifest::{Manifest, NAME};
 use crate::name::shown;
 use std::ffi::OsStr;
-use std::fs::{self, File};
-use std::io::Read;
+use std::fs;
 use std::path::Path;
 
 pub struct Kept {
@@ -24,10 +23,10 @@ impl Kept {
         let path = Path::new(folder);
         let place = path.join(NAME);
         let named = |problem: String| Failure::Other(format!("{}: {problem}", shown(place.as_os_str())));
-        let list = String::from_utf8(bytes(&place).map_err(named)?).map_err(|_| named("not text".to_string()))?;
+        let list = String::from_utf8(plain_file(&place).map_err(named)?).map_err(|_| named("not text".to_string()))?;
         let manifest = Manifest::read(&list).map_err(named)?;
         let names = manifest.files.iter().map(|entry| entry.name.clone());
-        let files = names.map(|name| (name.clone(), bytes(&path.join(name)))).collect();
+        let files = names.map(|name| (name.clone(), plain_file(&path.join(name)))).collect();
         let others = others(path, &manifest)?;
         Ok(Kept { manifest, list, files, others })
     }
@@ -42,24 +41,9 @@ impl Kept {
     }
 }
 
-/// The bytes of a plain file: a link may lead elsewhere, and a pipe may never end.
-fn bytes(path: &Path) -> Result<Vec<u8>, String> {
-    let found = path.symlink_metadata().map_err(|error| error.to_string())?;
-    if !found.is_file() {
-        return Err("it is not a plain file".to_string());
-    }
-    let mut bytes = Vec::new();
-    let read = File::open(path).and_then(|file| file.take(MOST_FILE_BYTES as u64 + 1).read_to_end(&mut bytes));
-    read.map_err(|error| error.to_string())?;
-    match bytes.len() > MOST_FILE_BYTES {
-        true => Err(format!("it has over {MOST_FILE_BYTES} bytes")),
-        false => Ok(bytes),
-    }
-}
-
 /// What is in the folder and not in its list, by name.
 fn others(folder: &Path, manifest: &Manifest) -> Result<Vec<String>, Failure> {
-    let named = |error: std::io::Error| Failure::Other(format!("{}: {error}", shown(folder.as_os_str())));
+    let named = |error: std::io::Error| Failure::of_file(folder, &error);
     let mut others = Vec::new();
     for entry in fs::read_dir(folder).map_err(named)? {
         let name = shown(&entry.map_err(named)?.file_name());

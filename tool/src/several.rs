@@ -104,7 +104,7 @@ fn expanded(operands: &[Source]) -> Result<Vec<Source>, Failure> {
 }
 
 fn case_files(folder: &OsStr) -> Result<Vec<Source>, Failure> {
-    let named = |error: std::io::Error| Failure::Other(format!("{}: {error}", shown(folder)));
+    let named = |error: std::io::Error| Failure::of_file(folder, &error);
     let mut files: Vec<PathBuf> = Vec::new();
     for entry in std::fs::read_dir(folder).map_err(named)? {
         let path = entry.map_err(named)?.path();
