@@ -207,6 +207,7 @@ refusing() {
     result 'no solver was asked' test ! -e "$scratch/asked"
     solver z3 "cat >/dev/null; mkdir -p '$scratch/place/late'; echo unsat"
     says 'a folder that comes meanwhile' 3 'has come while' "$menduvo" file cases/case-a.case "$scratch/place/late"
+    result 'the answer is told' eval '[[ $out = *"case-a.case: unsat: nothing within n = 2, in round robin; IT IS NOT FILED"* ]]'
     result 'it stays as it is' test -z "$(ls -A "$scratch/place/late")"
     result 'and nothing beside it' test "$(ls "$scratch/place" | wc -l)" = 4
 }

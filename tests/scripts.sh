@@ -294,6 +294,12 @@ solves() {
     seen=$scratch/bare
     object 'solve, no solver' 3 failed solve "$a"
     tells 'solve, no solver'
+    object 'solve, no solver, and nothing to check' 3 failed solve "$scratch/empty.case"
+    is 'solve, no solver, and nothing to check' \
+        "  $scratch/empty.case: nothing is checked here, whatever a solver says: the case has no assert" message 1
+    called solve "$a" "$scratch/empty.case"
+    result 'solve, no solver: each object tells of its own case' eval 'has 2 $'"'3\n3'"' $'"'failed\nfailed'"' &&
+        [ "$(get message | tr "\n" " ")" = "1 2 " ]'
 }
 
 # Every case that ships, one after the other and two at a time: the same answers.

@@ -145,6 +145,10 @@ vacuous() {
     result 'no solver is asked what is plain' test "$(wc -l <"$scratch/asked")" = 3
     run env PATH="$scratch/bare" "$menduvo" solve "$scratch/none.case"
     result 'it is said where there is no solver' eval '[[ $out = *"nothing is checked here, whatever a solver says: the case has no assert"*"no solver is installed"* ]]'
+    run env PATH="$scratch/bare" "$menduvo" solve cases/case-a.case "$scratch/none.case" "$scratch/idle.case"
+    result 'of several cases, too' test "$status, $out" = "3, menduvo: no solver is installed, or none is in PATH; on Debian: apt-get install z3 (or cvc5)
+  none.case: nothing is checked here, whatever a solver says: the case has no assert
+  idle.case: nothing is checked here, whatever a solver says: thread 2 has lines and no block within n = 1, so no run is complete"
     says 'vacuous is strictly no success' 1 VACUOUS "$menduvo" solve "$scratch/none.case" --strict
     rm -f "$scratch/fakes/z3"
     # Assert 1; if L5: assert 1, which is never reached.
@@ -183,8 +187,6 @@ vacuous() {
     says 'a folder with vacuous answers' 0 '3 unsat, 3 vacuous' "$menduvo" solve "$scratch/words" --solver z3 --keep "$scratch/strictly"
     says 'strictly' 1 '3 unsat, 3 vacuous' "$menduvo" solve "$scratch/words" --solver z3 --strict
     says 'strictly, resumed' 1 '3 unsat, 3 vacuous' "$menduvo" solve "$scratch/words" --resume "$scratch/strictly" --strict
-    # The question is answered, and whether the assert is reached is not.
-    fake z3 'case $(cat) in *"(or false)"*|*"L1 == 0"*) echo unsat ;; *) exec sleep 60 ;; esac'
 }
 
 # Every schedule of a case, tried one by one: the asserts that a complete legal run reaches are those that are told.
@@ -219,6 +221,12 @@ both() {
     fake z3 "cat >/dev/null; echo sat; echo '$model'"
     says 'they disagree' 3 'the solvers disagree: z3 says sat, and its assignment is checked and replayed; cvc5 says unsat, and is wrong' \
         "$menduvo" solve cases/case-a.case --solver both --keep "$scratch/disagree"
+    fake z3 "cat >/dev/null; mkdir -p '$scratch/split/case-a.schedule'; echo sat; echo '$model'"
+    says 'they disagree, and it cannot be kept' 3 'case-a.case      disagree    18 over 12' \
+        "$menduvo" solve cases/case-a.case cases/lock-order.case --solver both --keep "$scratch/split"
+    result 'that is told' eval '[[ $out = *"cvc5 says unsat, and is wrong; NOT KEPT: split/case-a.schedule"* ]]'
+    fake z3 "cat >/dev/null; echo sat; echo '$model'"
+    run "$menduvo" solve cases/case-a.case --solver both
     result 'the run is shown, and kept' eval '[[ $out = *"violated: record 4"* ]] && [ -s "$scratch/disagree/case-a.schedule" ]'
     fake cvc5 'cat >/dev/null; echo sat; echo "((v0 #x0001))"'
     says 'one is wrong, the other has a run' 1 'violated: record 4' "$menduvo" solve cases/case-a.case --solver both
@@ -383,6 +391,12 @@ own_files() {
     fake z3 "cat >/dev/null; mkdir -p '$scratch/blocked/case-a.assignment'; echo sat; echo '$model'"
     says 'a violation that cannot be kept' 1 'violated: record 4' "$menduvo" solve cases/case-a.case --keep "$scratch/blocked"
     result 'that is told' eval '[[ $out = *"blocked/case-a.assignment is there already"* ]]'
+    # Nobody reads on after the first line, which is there before the answer.
+    fake z3 "cat >/dev/null; sleep 0.5; echo sat; echo '$model'"
+    run bash -c "set -o pipefail; '$menduvo' solve cases/case-a.case --keep '$scratch/unheard' | head -n 1"
+    result 'an answer that nobody reads' eval '[ "$status" = 3 ] && [[ $out = "cases/case-a.case: 18 constraints"* ]]'
+    result 'it is kept all the same' test -s "$scratch/unheard/case-a.schedule" -a -s "$scratch/unheard/case-a.answer"
+    fake z3 "cat >/dev/null; mkdir -p '$scratch/blocked/case-a.assignment'; echo sat; echo '$model'"
     rm -r "$scratch/blocked"
     says 'a violation that cannot be kept, of several' 1 '2 cases: 1 violated' \
         "$menduvo" solve cases/case-a.case "$scratch/none.case" --keep "$scratch/blocked"

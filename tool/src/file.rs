@@ -2,7 +2,7 @@
 //! another name beside its place, and renamed at the end.
 
 use crate::calls::Loaded;
-use crate::failure::{Failure, Status};
+use crate::failure::{note, Failure, Status};
 use crate::folder::{one_line, Check, Folder, CASE};
 use crate::input::Source;
 use crate::manifest::{Made, Program, NAME};
@@ -37,15 +37,14 @@ pub fn file(filing: &Filing, output: &mut Output) -> Result<Status, Failure> {
     let made = made(&asking);
     let folder = Folder::of(&Check { loaded: &loaded, source, solved: &solved, made: &made })?;
     let manifest = folder.manifest.text();
-    for file in &folder.files {
-        unfinished.write(&file.name, &file.bytes)?;
+    let answer = format!("{name}: {}: {}", solved.word(), solved.note(&loaded));
+    if let Err(failure) = unfinished.become_whole(&folder, &manifest, &place) {
+        // A solver's hours are not lost with the folder.
+        note(&format!("{answer}; IT IS NOT FILED"));
+        return Err(failure);
     }
-    unfinished.write(NAME, manifest.as_bytes())?;
-    unfinished.rename(&place)?;
     output.say(&format!(
-        "{name}: {}: {}\nfiled in {}: {} and {NAME}\nSHA-256 of {NAME}, to be written down elsewhere:\n{}\n",
-        solved.word(),
-        solved.note(&loaded),
+        "{answer}\nfiled in {}: {} and {NAME}\nSHA-256 of {NAME}, to be written down elsewhere:\n{}\n",
         shown(&filing.folder),
         count(folder.files.len(), "file", "files"),
         sha256::hex(manifest.as_bytes())
@@ -100,6 +99,14 @@ impl Unfinished {
         let path = place.with_file_name(name);
         fs::create_dir(&path).map_err(|error| Failure::of_file(&path, &error))?;
         Ok(Unfinished(path))
+    }
+
+    fn become_whole(self, folder: &Folder, manifest: &str, place: &Path) -> Result<(), Failure> {
+        for file in &folder.files {
+            self.write(&file.name, &file.bytes)?;
+        }
+        self.write(NAME, manifest.as_bytes())?;
+        self.rename(place)
     }
 
     /// Writes a file to the disk itself, so that the folder is not renamed before it is whole.

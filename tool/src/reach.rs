@@ -58,7 +58,7 @@ pub fn changed(case: &Case, zeros: &[u16]) -> Vec<u8> {
 }
 
 /// Why no run is complete, or there is nothing to reach, where no solver is needed to see it.
-pub fn plainly_nothing(case: &Case) -> Option<String> {
+fn plainly_nothing(case: &Case) -> Option<String> {
     if !case.records.iter().any(|record| record.kind == Kind::Assert) {
         return Some("the case has no assert".to_string());
     }
@@ -67,6 +67,11 @@ pub fn plainly_nothing(case: &Case) -> Option<String> {
     let (threads, have) = if idle.len() == 1 { ("thread", "has") } else { ("threads", "have") };
     let lines = format!("{threads} {} {have} lines and no block within n = {}", enumeration(&idle), case.switches);
     (!idle.is_empty()).then(|| format!("{lines}, so no run is complete"))
+}
+
+/// The same, as it is said where a solver was not asked.
+pub fn plainly_nothing_in_words(case: &Case) -> Option<String> {
+    plainly_nothing(case).map(|why| format!("nothing is checked here, whatever a solver says: {why}"))
 }
 
 impl Reach {

@@ -1,12 +1,14 @@
 //! `solve` on several cases: each one's line is printed when it is known, and in the end a table in the order of the cases. Of one
 //! case alone, its object.
 
+use crate::calls::Loaded;
 use crate::failure::{note, Failure, Status};
 use crate::input::Source;
 use crate::name::shown;
 use crate::objects;
 use crate::output::Output;
 use crate::progress::Progress;
+use crate::reach::plainly_nothing_in_words;
 use crate::solve::{Asking, Wanted, ANSWERS};
 use crate::summary::Summary;
 use crate::words::count;
@@ -78,17 +80,34 @@ pub fn all(wanted: Wanted, output: &mut Output) -> Result<Status, Failure> {
 
 /// Whom to ask, and the cases. Where nothing can begin, there is an object for each operand that says so.
 fn prepared(wanted: &Wanted, many: bool, output: &mut Output) -> Result<(Asking, Vec<Source>), Failure> {
-    let prepared = wanted.settings.asking(many).and_then(|asking| {
+    let asking = wanted.settings.asking(many);
+    // What needs no solver is said where there is none.
+    let plain = |operand: &Source| if asking.is_err() { plain_in_words(operand) } else { String::new() };
+    let plain: Vec<String> = wanted.cases.iter().map(plain).collect();
+    let prepared = asking.and_then(|asking| {
         let cases = expanded(&wanted.cases)?;
         ready(wanted, &cases)?;
         Ok((asking, cases))
     });
-    if let (Err(failure), true) = (&prepared, wanted.json) {
-        for name in wanted.cases.iter().map(Source::name) {
-            output.say(&format!("{}\n", objects::failed("solve", &name, &name, failure)))?;
-        }
+    let failure = match prepared {
+        Ok(prepared) => return Ok(prepared),
+        Err(failure) => failure.message().unwrap_or_default().to_string(),
+    };
+    for (operand, plain) in wanted.cases.iter().zip(&plain).filter(|_| wanted.json) {
+        let (name, failure) = (operand.name(), Failure::Other(format!("{failure}{plain}")));
+        output.say(&format!("{}\n", objects::failed("solve", &name, &name, &failure)))?;
     }
-    prepared
+    Err(Failure::Other(failure + &plain.concat()))
+}
+
+/// The cases of an operand in which nothing is checked, as is plain without a solver: a line for each.
+fn plain_in_words(operand: &Source) -> String {
+    let cases = expanded(std::slice::from_ref(operand)).unwrap_or_default();
+    let words = cases.iter().filter_map(|case| {
+        let loaded = Loaded::from(case).ok()?;
+        Some(format!("\n  {}: {}", loaded.name, plainly_nothing_in_words(&loaded.case)?))
+    });
+    words.collect()
 }
 
 /// The cases, with the files of a folder that end in .case in its place, by name.

@@ -4,7 +4,7 @@ use crate::calls::Loaded;
 use crate::failure::{Failure, Status};
 use crate::input::Source;
 use crate::objects;
-use crate::solve::{solve, Asking, Solved, Verdict, Wanted};
+use crate::solve::{solve, Asking, Solved, Wanted};
 
 /// A case's answer, as it is printed and filed.
 #[derive(Clone, Debug)]
@@ -57,7 +57,7 @@ impl Summary {
         }
     }
 
-    /// A violation is not hidden by what happens to its files.
+    /// A run that was found is not hidden by what happens to its files.
     fn not_kept(self, loaded: &Loaded, asking: &Asking, solved: &Solved, failure: &Failure) -> Summary {
         let why = failure.message().unwrap_or_default();
         let note = format!("{}; NOT KEPT: {}", self.note, why.lines().next().unwrap_or_default());
@@ -101,9 +101,9 @@ fn answered(source: &Source, wanted: &Wanted, asking: &Asking) -> Result<Summary
     let solved = solve(&loaded, asking, &mut |_| {})?;
     let summary = Summary::of_solved(&loaded, asking, &solved, wanted.strict);
     let kept = wanted.keep.as_ref().map_or(Ok(()), |keep| keep.keep(&loaded, asking, &solved, &summary));
-    match (kept, &solved.verdict) {
+    match (kept, solved.verdict.found()) {
         (Ok(()), _) => Ok(summary),
-        (Err(failure), Verdict::Violated(_)) => Ok(summary.not_kept(&loaded, asking, &solved, &failure)),
-        (Err(failure), _) => Err(failure),
+        (Err(failure), Some(_)) => Ok(summary.not_kept(&loaded, asking, &solved, &failure)),
+        (Err(failure), None) => Err(failure),
     }
 }

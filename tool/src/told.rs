@@ -5,7 +5,7 @@ use crate::failure::{Failure, Status};
 use crate::input::Source;
 use crate::name::shown;
 use crate::output::Output;
-use crate::reach::{self, Reach, Reached};
+use crate::reach::{plainly_nothing_in_words, Reach, Reached};
 use crate::solve::{solve, Found, Solved, Verdict, Wanted};
 use crate::summary::Summary;
 use crate::words::{all, count, enumeration, numbers_in_lines, record_in_words, these};
@@ -20,8 +20,8 @@ pub fn one(source: &Source, wanted: &Wanted, output: &mut Output) -> Result<Stat
     let constraints = count(loaded.table.rows.len(), "constraint", "constraints");
     let variables = count(loaded.table.variables, "variable", "variables");
     output.say(&format!("{}: {constraints} over {variables}\n", loaded.name))?;
-    if let Some(why) = reach::plainly_nothing(&loaded.case) {
-        output.say(&format!("nothing is checked here, whatever a solver says: {why}\n"))?;
+    if let Some(words) = plainly_nothing_in_words(&loaded.case) {
+        output.say(&format!("{words}\n"))?;
     }
     let asking = wanted.settings.asking(false)?;
     if let Some(keep) = &wanted.keep {
@@ -31,14 +31,16 @@ pub fn one(source: &Source, wanted: &Wanted, output: &mut Output) -> Result<Stat
         keep.clear(&loaded.stem)?;
     }
     let names = asking.names();
+    let mut told = Ok(());
     let solved = solve(&loaded, &asking, &mut |verdict| {
-        if let Err(failure) = output.say(&answer(&loaded, &names, verdict)) {
+        told = output.say(&answer(&loaded, &names, verdict));
+        if let (Err(failure), None) = (&told, &wanted.keep) {
             // Nobody waits for the rest, which may take long. The guard ends what is still asked.
             failure.report();
             std::process::exit(failure.status());
         }
     })?;
-    output.say(&format!("{}{}", asserts(&loaded, &solved.reach), warning(&solved)))?;
+    let told = told.and_then(|()| output.say(&format!("{}{}", asserts(&loaded, &solved.reach), warning(&solved))));
     let summary = Summary::of_solved(&loaded, &asking, &solved, wanted.strict);
     let kept = wanted.keep.as_ref().map_or(Ok(()), |keep| keep.keep(&loaded, &asking, &solved, &summary));
     match (kept, &solved.verdict) {
@@ -46,6 +48,8 @@ pub fn one(source: &Source, wanted: &Wanted, output: &mut Output) -> Result<Stat
         (Err(failure), Verdict::Violated(_)) => failure.report(),
         (kept, _) => kept?,
     }
+    // What cannot be told is kept all the same.
+    told?;
     Status::of(solved.status(wanted.strict)).map_err(|_| Failure::Other(solved.verdict.message()))
 }
 
