@@ -1,6 +1,8 @@
 //! The fields of a case, as document 01 lays them out: what is needed to put a case into words. Whether a case is taken is for
 //! the library to say.
 
+use crate::names::{Name, Names};
+
 /// What a line does.
 #[derive(Clone, Copy, Debug, PartialEq, Eq)]
 pub enum Kind {
@@ -20,6 +22,8 @@ pub enum Kind {
 #[derive(Clone, Copy, Debug)]
 pub struct Record {
     pub number: u16,
+    /// A number that no thread has where it is in none: only in a case that the library refuses.
+    pub thread: usize,
     /// Next, kind, guard, target, op, a, b, c.
     pub fields: [u16; 8],
     pub kind: Kind,
@@ -49,7 +53,12 @@ impl Record {
             8 => Kind::Unlock,
             _ => Kind::Unknown,
         };
-        Record { number, fields, kind, next, guard, target, op, a, b, c }
+        Record { number, thread: usize::MAX, fields, kind, next, guard, target, op, a, b, c }
+    }
+
+    /// A local of its thread.
+    pub fn local(&self, local: u16) -> Name {
+        Name::Local(self.thread, local)
     }
 
     /// The local that the guard looks at.
@@ -104,6 +113,7 @@ pub struct Case {
     pub mutexes: usize,
     pub records: Vec<Record>,
     pub chains: Vec<Vec<u16>>,
+    pub names: Names,
 }
 
 impl Case {
@@ -126,9 +136,13 @@ impl Case {
             mutexes: usize::from(header[3]),
             records: records.collect(),
             chains: Vec::new(),
+            names: Names::default(),
         };
         let mut met = vec![false; case.records.len()];
         case.chains = (0..case.threads.min(4)).map(|thread| case.chain(thread, &mut met)).collect();
+        for (thread, chain) in case.chains.iter().enumerate() {
+            chain.iter().for_each(|&number| case.records[usize::from(number) - 1].thread = thread);
+        }
         Some(case)
     }
 

@@ -22,6 +22,7 @@ mod kept;
 mod manifest;
 mod meaning;
 mod name;
+mod names;
 mod needed;
 mod numbers;
 mod objects;

@@ -2,9 +2,10 @@
 //! compares the two.
 
 use crate::case::{Case, Kind, Record};
+use crate::names::Name;
 use crate::reads::{Read, Reads};
 use crate::table::{Row, Table};
-use crate::words::{enumeration, item_name, Name};
+use crate::words::{enumeration, item_name};
 use std::collections::BTreeMap;
 
 /// A constraint over an assignment, as this display sees it.
@@ -89,7 +90,7 @@ impl Rows<'_> {
         let (guard, why) = self.reads.guard(record, guard_copy);
         let mutex = self.reads.mutex(record, target_copy);
         let why = why.map(|why| format!(" ({why})")).unwrap_or_default();
-        let needed = format!("{} = 0{why}", Name::Mutex(record.target));
+        let needed = format!("{} = 0{why}", self.case.names.called(Name::Mutex(record.target)));
         Some(Seen { holds: !guard || mutex.value == 0, needed, found: mutex.words })
     }
 
@@ -163,7 +164,7 @@ impl Rows<'_> {
             Kind::Assume => return Read { value: 1, words: "an assume then has 1".to_string() },
             Kind::Store => self.reads.item(usize::from(record.target), line, target_copy),
             Kind::Lock | Kind::Unlock => self.reads.mutex(record, target_copy),
-            _ => self.reads.local(record.target, target_copy),
+            _ => self.reads.local(record.local(record.target), target_copy),
         };
         Read { value, words: format!("the target keeps its value, {words}") }
     }

@@ -61,7 +61,7 @@ fn layout(case: &Case, name: &str, run: &Run) -> Layout {
     let mut x = MARGIN + LANE_HEAD;
     let mut columns = Vec::new();
     for block in 0..=case.switches {
-        let width = steps_of(block).map(|step| characters(&head(case, step)).max(characters(&result(step)))).max();
+        let width = steps_of(block).map(|step| characters(&head(case, step)).max(characters(&result(case, step)))).max();
         let width = width.map_or(NARROW, |width| width.max(NARROW));
         columns.push((x, width));
         x += width + 2 * GAP;
@@ -98,13 +98,13 @@ fn lanes(svg: &mut Svg, layout: &Layout) {
 
 /// The line's record and what it does.
 fn head(case: &Case, step: &Step) -> String {
-    format!("{}: {}", step.record, case.record(step.record).words())
+    format!("{}: {}", step.record, case.record(step.record).words(&case.names))
 }
 
 /// What came of the line.
-fn result(step: &Step) -> String {
+fn result(case: &Case, step: &Step) -> String {
     match &step.event {
-        Event::Set(name, value) => format!("{name} = {value}"),
+        Event::Set(name, value) => format!("{} = {value}", case.names.called(*name)),
         Event::Holds(words) => format!("holds: {words}"),
         Event::Broken(words) => format!("BROKEN: {words}"),
         Event::Skipped(words) => format!("skipped: {words}"),
@@ -124,7 +124,7 @@ fn cell(svg: &mut Svg, case: &Case, step: &Step, place: [u32; 4]) {
     let [x, y, ..] = place;
     svg.rectangle(place, fill, more);
     svg.text(x + 6, y + 15, upper, &head(case, step));
-    svg.text(x + 6, y + 30, lower, &result(step));
+    svg.text(x + 6, y + 30, lower, &result(case, step));
 }
 
 const LEGEND: &str = "A cell is a line: its record, what it does, what came of it. Shaded: it reads or writes a shared item.";

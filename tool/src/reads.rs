@@ -1,7 +1,8 @@
 //! What a line reads of an assignment, for display: each number with where it comes from.
 
 use crate::case::{Case, Kind, Record, CONSTANT};
-use crate::words::{item_name, Name};
+use crate::names::Name;
+use crate::words::item_name;
 
 /// A number, and where it comes from.
 pub struct Read {
@@ -17,10 +18,10 @@ pub struct Reads<'a> {
 impl<'a> Reads<'a> {
     /// Whether the guard is true, and why; no reason where it always is.
     pub fn guard(&self, record: &Record, copy: u16) -> (bool, Option<String>) {
-        let (Some(local), Some(words)) = (record.guard_local(), record.guard_words()) else {
+        let (Some(local), Some(words)) = (record.guard_local(), record.guard_words(&self.case.names)) else {
             return (true, None);
         };
-        let local = self.local(local, copy);
+        let local = self.local(record.local(local), copy);
         let guard = record.guard_is_true(local.value);
         (guard, Some(format!("the guard {words} is {guard} with {}", local.words)))
     }
@@ -30,7 +31,7 @@ impl<'a> Reads<'a> {
         let mut operand = |operand: u16, copy: u16| match operand {
             CONSTANT => record.c,
             local => {
-                let Read { value, words } = self.local(local, copy);
+                let Read { value, words } = self.local(record.local(local), copy);
                 reads.push(words);
                 value
             }
@@ -39,9 +40,10 @@ impl<'a> Reads<'a> {
         let b = if record.has_b() { operand(record.b, b_copy) } else { 0 };
         reads.dedup();
         let value = record.expression(a, b);
+        let names = &self.case.names;
         let formula = match record.kind {
-            Kind::Assert | Kind::Assume => format!("{} is {value}", record.expression_words()),
-            _ => record.expression_words(),
+            Kind::Assert | Kind::Assume => format!("{} is {value}", record.expression_words(names)),
+            _ => record.expression_words(names),
         };
         let words = match (record.op, reads.as_slice()) {
             (0, []) => format!("the constant {value}"),
@@ -53,8 +55,8 @@ impl<'a> Reads<'a> {
     }
 
     /// A local by its copy.
-    pub fn local(&self, local: u16, copy: u16) -> Read {
-        let name = Name::Local(local);
+    pub fn local(&self, local: Name, copy: u16) -> Read {
+        let name = self.case.names.called(local);
         match copy {
             0 => Read { value: 0, words: format!("{name} = 0 at the start") },
             copy => Read { value: self.value(copy), words: format!("{name} = {} by record {copy}", self.value(copy)) },

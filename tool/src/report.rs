@@ -54,7 +54,7 @@ pub fn replayed(loaded: &Loaded, schedule: &[u16], run: &Run) -> Json {
 
 fn step(case: &Case, step: &Step) -> Json {
     let (event, words) = match &step.event {
-        Event::Set(name, value) => ("set", format!("{name} = {value}")),
+        Event::Set(name, value) => ("set", format!("{} = {value}", case.names.called(*name))),
         Event::Holds(words) => ("holds", words.clone()),
         Event::Broken(words) => ("broken", words.clone()),
         Event::Skipped(words) => ("skipped", words.clone()),
@@ -65,7 +65,7 @@ fn step(case: &Case, step: &Step) -> Json {
         ("thread", case.thread_of_block(step.block).into()),
         ("line", step.line.into()),
         ("record", step.record.into()),
-        ("does", case.record(step.record).words().into()),
+        ("does", case.record(step.record).words(&case.names).into()),
         ("event", event.into()),
         ("words", words.into()),
     ])
@@ -105,14 +105,14 @@ fn thread(loaded: &Loaded, thread: usize) -> Json {
 }
 
 fn line(loaded: &Loaded, number: u16, line: usize) -> Json {
-    let record = loaded.case.record(number);
+    let (record, names) = (loaded.case.record(number), &loaded.case.names);
     let copies = show::copies(loaded, number).into_iter();
-    let copies = copies.map(|(name, copy)| Json::Object(vec![("name", name.to_string().into()), ("copy", copy.into())]));
+    let copies = copies.map(|(name, copy)| Json::Object(vec![("name", names.called(name).into()), ("copy", copy.into())]));
     Json::Object(vec![
         ("line", line.into()),
         ("record", number.into()),
-        ("guard", record.guard_words().into()),
-        ("does", record.action().into()),
+        ("guard", record.guard_words(names).into()),
+        ("does", record.action(names).into()),
         ("copies", list(copies)),
     ])
 }
@@ -122,8 +122,7 @@ fn numbers(row: &Row) -> Json {
 }
 
 fn items(case: &Case, values: &[u16]) -> Json {
-    let item = |(item, &value): (usize, &u16)| {
-        Json::Object(vec![("name", item_name(case, item).to_string().into()), ("value", value.into())])
-    };
+    let item =
+        |(item, &value): (usize, &u16)| Json::Object(vec![("name", item_name(case, item).into()), ("value", value.into())]);
     list(values.iter().enumerate().map(item))
 }

@@ -62,7 +62,7 @@ impl Run {
     }
 
     pub fn text(&self, case: &Case, schedule: &[u16]) -> String {
-        let width = self.steps.iter().map(|step| case.record(step.record).words().len()).max().unwrap_or(0);
+        let width = self.steps.iter().map(|step| case.record(step.record).words(&case.names).len()).max().unwrap_or(0);
         let mut text = format!("start: {}\n", items_in_words(case, &case.items_at_start()));
         for (block, &length) in schedule[..=case.switches].iter().enumerate() {
             if self.ended_before(block) {
@@ -89,14 +89,14 @@ impl Run {
     }
 
     fn line(&self, case: &Case, step: &Step, width: usize) -> String {
-        let words = case.record(step.record).words();
+        let words = case.record(step.record).words(&case.names);
         let mark = match step.event {
             Event::Broken(_) => ">>",
             Event::CutOff(_) => "||",
             _ => "  ",
         };
         let event = match &step.event {
-            Event::Set(name, value) => format!("{name} = {value}"),
+            Event::Set(name, value) => format!("{} = {value}", case.names.called(*name)),
             Event::Holds(words) => format!("holds: {words}"),
             Event::Broken(words) => format!("BROKEN: {words}"),
             Event::Skipped(words) => format!("skipped: {words}"),

@@ -2,7 +2,8 @@
 
 use crate::calls::Loaded;
 use crate::case::Case;
-use crate::words::{count, enumeration, items_in_words, Name, LEGEND};
+use crate::names::Name;
+use crate::words::{count, enumeration, items_in_words, LEGEND};
 
 pub fn text(loaded: &Loaded) -> String {
     let case = &loaded.case;
@@ -46,13 +47,13 @@ fn blocks(case: &Case, thread: usize) -> String {
 }
 
 fn line_cells(loaded: &Loaded, number: u16, line: usize) -> [String; 5] {
-    let record = loaded.case.record(number);
+    let (record, names) = (loaded.case.record(number), &loaded.case.names);
     let copies = copies(loaded, number).into_iter().map(|(name, copy)| match copy {
-        0 => format!("{name}: none"),
-        copy => format!("{name}: {copy}"),
+        0 => format!("{}: none", names.called(name)),
+        copy => format!("{}: {copy}", names.called(name)),
     });
-    let guard = record.guard_words().unwrap_or_else(|| "always".to_string());
-    [line.to_string(), number.to_string(), guard, record.action(), copies.collect::<Vec<_>>().join(", ")]
+    let guard = record.guard_words(names).unwrap_or_else(|| "always".to_string());
+    [line.to_string(), number.to_string(), guard, record.action(names), copies.collect::<Vec<_>>().join(", ")]
 }
 
 /// The names of a line with their copies, as the table has them: each once, and 0 for no copy.
@@ -62,7 +63,7 @@ pub fn copies(loaded: &Loaded, number: u16) -> Vec<(Name, u16)> {
         return Vec::new();
     };
     let named = [
-        (record.guard_local().map(Name::Local), guard_copy),
+        (record.guard_local().map(|local| record.local(local)), guard_copy),
         (record.a_name(), a_copy),
         (record.b_name(), b_copy),
         (record.target_name(), target_copy),

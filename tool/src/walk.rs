@@ -3,7 +3,8 @@
 
 use crate::calls::Ending;
 use crate::case::{Case, Kind, Record, CONSTANT};
-use crate::words::{item_name, Name};
+use crate::names::Name;
+use crate::words::item_name;
 
 /// What came of a line.
 #[derive(Clone, Debug, PartialEq, Eq)]
@@ -83,7 +84,8 @@ impl Machine<'_> {
         let record = *self.case.record(number);
         let event = match record.guard_local() {
             Some(local) if !record.guard_is_true(self.local(thread, local)) => {
-                Event::Skipped(format!("{} is {}", Name::Local(local), self.local(thread, local)))
+                let name = self.case.names.called(record.local(local));
+                Event::Skipped(format!("{name} is {}", self.local(thread, local)))
             }
             _ => self.run(thread, &record),
         };
@@ -113,7 +115,7 @@ impl Machine<'_> {
         let (a, b) = self.operands(thread, record);
         let value = record.expression(a, b);
         let words = match (record.op, value) {
-            (0, _) => format!("{} is {value}", record.expression_words()),
+            (0, _) => format!("{} is {value}", record.expression_words(&self.case.names)),
             (5 | 6, 0) => format!("{} is false", record.expression_of(&a.to_string(), &b.to_string())),
             (5 | 6, _) => record.expression_of(&a.to_string(), &b.to_string()),
             _ => format!("{} is {value}", record.expression_of(&a.to_string(), &b.to_string())),
@@ -126,9 +128,9 @@ impl Machine<'_> {
     }
 
     fn set(&mut self, thread: usize, record: &Record, value: u16) -> Event {
-        let name = record.target_name().unwrap_or(Name::Local(0));
+        let name = record.target_name().unwrap_or(record.local(0));
         match name {
-            Name::Local(local) => self.locals[thread][usize::from(local)] = value,
+            Name::Local(_, local) => self.locals[thread][usize::from(local)] = value,
             Name::Global(global) => self.items[usize::from(global)] = value,
             Name::Mutex(mutex) => self.items[self.case.globals + usize::from(mutex)] = value,
         }

@@ -1,42 +1,25 @@
-//! Names, lines and counts in words.
+//! Lines and counts in words.
 
 use crate::case::{Case, Kind, Record, CONSTANT};
+use crate::names::{Name, Names};
 use std::fmt;
-
-/// A local of some thread, a global or a mutex.
-#[derive(Clone, Copy, Debug, PartialEq, Eq)]
-pub enum Name {
-    Local(u16),
-    Global(u16),
-    Mutex(u16),
-}
 
 /// What the letters stand for.
 pub const LEGEND: &str = "L: a thread's locals, G: globals, M: mutexes; numbers have 16 bits, sums and differences wrap";
 
-impl fmt::Display for Name {
-    fn fmt(&self, to: &mut fmt::Formatter) -> fmt::Result {
-        match self {
-            Name::Local(number) => write!(to, "L{number}"),
-            Name::Global(number) => write!(to, "G{number}"),
-            Name::Mutex(number) => write!(to, "M{number}"),
-        }
-    }
-}
-
 /// The name of an item: globals come first, then mutexes.
-pub fn item_name(case: &Case, item: usize) -> Name {
-    match item < case.globals {
+pub fn item_name(case: &Case, item: usize) -> String {
+    case.names.called(match item < case.globals {
         true => Name::Global(item as u16),
         false => Name::Mutex((item - case.globals) as u16),
-    }
+    })
 }
 
 impl Record {
     /// The name that the line has as target.
     pub fn target_name(&self) -> Option<Name> {
         match self.kind {
-            Kind::Compute | Kind::Load | Kind::Input => Some(Name::Local(self.target)),
+            Kind::Compute | Kind::Load | Kind::Input => Some(self.local(self.target)),
             Kind::Store => Some(Name::Global(self.target)),
             Kind::Lock | Kind::Unlock => Some(Name::Mutex(self.target)),
             Kind::Assert | Kind::Assume | Kind::Unknown => None,
@@ -47,31 +30,31 @@ impl Record {
     pub fn a_name(&self) -> Option<Name> {
         match self.kind {
             Kind::Load => Some(Name::Global(self.a)),
-            _ if self.has_expression() && self.a != CONSTANT => Some(Name::Local(self.a)),
+            _ if self.has_expression() && self.a != CONSTANT => Some(self.local(self.a)),
             _ => None,
         }
     }
 
     /// The name that operand b reads.
     pub fn b_name(&self) -> Option<Name> {
-        (self.has_b() && self.b != CONSTANT).then_some(Name::Local(self.b))
+        (self.has_b() && self.b != CONSTANT).then(|| self.local(self.b))
     }
 
     /// The guard in words; nothing where it is always true.
-    pub fn guard_words(&self) -> Option<String> {
+    pub fn guard_words(&self, names: &Names) -> Option<String> {
         let sign = if self.guard <= 16 { "!=" } else { "==" };
-        self.guard_local().map(|local| format!("{} {sign} 0", Name::Local(local)))
+        self.guard_local().map(|local| format!("{} {sign} 0", names.called(self.local(local))))
     }
 
     /// What the line does where its guard is true.
-    pub fn action(&self) -> String {
-        let target = self.target_name().map(|name| name.to_string()).unwrap_or_default();
+    pub fn action(&self, names: &Names) -> String {
+        let target = self.target_name().map(|name| names.called(name)).unwrap_or_default();
         match self.kind {
-            Kind::Compute | Kind::Store => format!("{target} = {}", self.expression_words()),
-            Kind::Load => format!("{target} = {}", Name::Global(self.a)),
+            Kind::Compute | Kind::Store => format!("{target} = {}", self.expression_words(names)),
+            Kind::Load => format!("{target} = {}", names.called(Name::Global(self.a))),
             Kind::Input => format!("{target} = input"),
-            Kind::Assert => format!("assert {}", self.expression_words()),
-            Kind::Assume => format!("assume {}", self.expression_words()),
+            Kind::Assert => format!("assert {}", self.expression_words(names)),
+            Kind::Assume => format!("assume {}", self.expression_words(names)),
             Kind::Lock => format!("lock {target}"),
             Kind::Unlock => format!("unlock {target}"),
             Kind::Unknown => format!("kind {}", self.fields[1]),
@@ -79,18 +62,18 @@ impl Record {
     }
 
     /// Guard and action.
-    pub fn words(&self) -> String {
-        match self.guard_words() {
-            Some(guard) => format!("if {guard}: {}", self.action()),
-            None => self.action(),
+    pub fn words(&self, names: &Names) -> String {
+        match self.guard_words(names) {
+            Some(guard) => format!("when {guard}: {}", self.action(names)),
+            None => self.action(names),
         }
     }
 
     /// The expression over names and constants.
-    pub fn expression_words(&self) -> String {
+    pub fn expression_words(&self, names: &Names) -> String {
         let operand = |operand: u16| match operand {
             CONSTANT => self.c.to_string(),
-            local => Name::Local(local).to_string(),
+            local => names.called(self.local(local)),
         };
         self.expression_of(&operand(self.a), &operand(self.b))
     }
@@ -133,7 +116,7 @@ pub fn record_in_words(case: &Case, number: u16) -> String {
     if number == 0 || usize::from(number) > case.records.len() {
         return format!("record {number}, which this case does not have");
     }
-    let words = case.record(number).words();
+    let words = case.record(number).words(&case.names);
     match case.position(number) {
         Some((thread, line)) => format!("record {number} (thread {thread}, line {line}: {words})"),
         None => format!("record {number} (in no thread: {words})"),
