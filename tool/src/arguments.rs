@@ -17,6 +17,8 @@ pub enum Call {
     Help(Option<&'static Page>),
     Version,
     Demo,
+    Make { source: Source, file: OsString, force: bool },
+    Source { case: Source },
     List { cases: Vec<Source>, json: bool },
     Show { cases: Vec<Source>, json: bool },
     Check { case: Source, assignment: Source, json: bool },
@@ -111,6 +113,8 @@ fn name_and_value(argument: &OsStr) -> (&OsStr, Option<&OsStr>) {
 fn call(parts: &mut Parts) -> Result<Call, Failure> {
     Ok(match parts.page.name {
         "demo" => Call::Demo,
+        "make" => Call::Make { source: parts.next("SOURCE")?, file: parts.output("CASE")?, force: parts.has("--force") },
+        "source" => Call::Source { case: parts.next("CASE")? },
         "list" => Call::List { cases: parts.cases()?, json: parts.has("--json") },
         "show" => Call::Show { cases: parts.cases()?, json: parts.has("--json") },
         "check" => Call::Check { case: parts.next("CASE")?, assignment: parts.next("ASSIGNMENT")?, json: parts.has("--json") },
@@ -120,7 +124,7 @@ fn call(parts: &mut Parts) -> Result<Call, Failure> {
         "picture" => Call::Picture {
             case: parts.next("CASE")?,
             schedule: parts.next("SCHEDULE")?,
-            file: parts.value("-o").filter(|file| !file.is_empty()).ok_or_else(|| parts.usage("-o FILE.svg is missing"))?,
+            file: parts.output("FILE.svg")?,
             force: parts.has("--force"),
         },
         "file" => Call::File(filing(parts)?),
@@ -183,6 +187,12 @@ impl Parts {
             true => Err(self.usage("DIR is a folder's name; of one that is named '-' it is ./-")),
             false => Ok(folder.path().to_os_string()),
         }
+    }
+
+    /// The file of -o.
+    fn output(&self, what: &str) -> Result<OsString, Failure> {
+        let file = self.value("-o").filter(|file| !file.is_empty());
+        file.ok_or_else(|| self.usage(&format!("-o {what} is missing")))
     }
 
     /// All operands, at least one.

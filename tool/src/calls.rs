@@ -7,7 +7,9 @@ use crate::input::Source;
 use crate::needed;
 use crate::numbers::{self, Given, Model};
 use crate::refusal::Refusal;
+use crate::source::Draft;
 use crate::table::{self, Table};
+use crate::token::pointed;
 use menduvo::{Checked, Decoded, Encoded, Listed, Replayed};
 use std::ffi::OsString;
 
@@ -19,6 +21,8 @@ pub struct Loaded {
     pub stem: OsString,
     pub case: Case,
     pub table: Table,
+    /// What the case was made from, if it was given as source.
+    pub source: Option<String>,
 }
 
 /// What a run comes to.
@@ -41,20 +45,29 @@ pub fn listing(case: &[u8]) -> Result<String, Failure> {
 
 impl Loaded {
     pub fn from(source: &Source) -> Result<Loaded, Failure> {
-        Loaded::of(source, source.case_bytes()?)
+        Loaded::of(source, source.case()?)
     }
 
-    pub fn of(source: &Source, bytes: Vec<u8>) -> Result<Loaded, Failure> {
-        Loaded::named(source.name(), source.stem(), bytes)
+    pub fn of(source: &Source, draft: Draft) -> Result<Loaded, Failure> {
+        Loaded::named(source.name(), source.stem(), draft)
     }
 
-    fn named(name: String, stem: OsString, bytes: Vec<u8>) -> Result<Loaded, Failure> {
+    fn named(name: String, stem: OsString, draft: Draft) -> Result<Loaded, Failure> {
+        let Draft { bytes, names, source } = draft;
         let mut room = [0; menduvo::MOST_TABLE_NUMBERS];
         let (constraints, variables) = match menduvo::encode(&bytes, &mut room) {
             Encoded::Table { constraints, variables } => (usize::from(constraints), usize::from(variables)),
             Encoded::Refused { number, place } => {
                 let refusal = Refusal { number, place };
-                return Err(refusal.failure(&name, &diagnosis::of_case(&bytes, refusal)));
+                let details = diagnosis::of_case(&bytes, refusal);
+                return Err(match source {
+                    None => refusal.failure(&name, &details),
+                    Some(source) => {
+                        let place = source.place_of(refusal);
+                        let pointed = pointed(&source.text, place).into_iter();
+                        refusal.failure(&format!("{name}: {place}"), &pointed.chain(details).collect::<Vec<_>>())
+                    }
+                });
             }
         };
         let rows = room[..6 * constraints].chunks_exact(6);
@@ -62,12 +75,14 @@ impl Loaded {
         let Some(case) = Case::of(bytes) else {
             return Err(Failure::Other(format!("{name}: the library accepted a case of a size that this command cannot read")));
         };
-        Ok(Loaded { name, stem, case, table: Table { rows, variables } })
+        let source = source.map(|source| source.text);
+        Ok(Loaded { name, stem, case: Case { names, ..case }, table: Table { rows, variables }, source })
     }
 
     /// Another case in the place of this one, under its name.
     pub fn changed(&self, bytes: Vec<u8>) -> Result<Loaded, Failure> {
-        Loaded::named(self.name.clone(), self.stem.clone(), bytes)
+        let draft = Draft { names: self.case.names.clone(), ..Draft::of_bytes(bytes) };
+        Loaded::named(self.name.clone(), self.stem.clone(), draft)
     }
 
     /// Numbers or a model, as an assignment.

@@ -7,15 +7,16 @@ use crate::input::Source;
 use crate::name::shown;
 use crate::output::Output;
 use crate::words::{all, numbers_in_lines};
-use crate::{demo, file, help, keep, picture, report, run, said::Said, several, show, told, verified};
+use crate::{demo, file, help, keep, make, picture, report, run, said::Said, several, show, told, verified};
 use std::ffi::OsStr;
-use std::path::Path;
 
 pub fn perform(call: Call, output: &mut Output) -> Result<Status, Failure> {
     match call {
         Call::Help(page) => output.say(&page.map_or_else(help::all, help::one)).map(|()| Status::Done),
         Call::Version => output.say(concat!("menduvo ", env!("CARGO_PKG_VERSION"), "\n")).map(|()| Status::Done),
         Call::Demo => demo::tell(output),
+        Call::Make { source, file, force } => make::make(&source, &file, force, output),
+        Call::Source { case } => make::source(&case, output),
         Call::List { cases, json } => each(&cases, json, output, list),
         Call::Show { cases, json } => each(&cases, json, output, show),
         Call::Check { case, assignment, json } => check(&case, &assignment, json).tell(output),
@@ -52,7 +53,7 @@ fn each(cases: &[Source], json: bool, output: &mut Output, one: fn(&Source, bool
 
 /// As the listing program: the counts and the constraints, or a refusal's number and place.
 fn list(case: &Source, json: bool) -> Said {
-    let loaded = case.case_bytes().and_then(|bytes| Ok((listing(&bytes)?, Loaded::of(case, bytes))));
+    let loaded = case.case().and_then(|draft| Ok((listing(&draft.bytes)?, Loaded::of(case, draft))));
     match (loaded, json) {
         // A refused case has a listing too; that it is refused is told besides.
         (Ok((text, loaded)), false) => Said { text, ended: loaded.map(|_| Status::Done) },
@@ -127,10 +128,7 @@ fn draw(case: &Source, schedule: &Source, file: &OsStr, force: bool, output: &mu
     if file == "-" {
         return output.say(&svg).map(|()| Status::Done);
     }
-    if [case, schedule].iter().any(|input| keep::is_same(Path::new(file), Path::new(input.path()))) {
-        return Err(Failure::Other(format!("{} is an input, and is not replaced", shown(file))));
-    }
-    keep::write_file(file, &svg, force)?;
+    keep::write_output(file, svg.as_bytes(), force, &[case, schedule])?;
     output.say(&format!("{}: {}\n", shown(file), run::verdict(&loaded.case, run.ending)))?;
     Ok(Status::Done)
 }

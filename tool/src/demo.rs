@@ -9,14 +9,17 @@ use crate::run;
 use crate::show;
 use crate::solve::{solve, Asking, Verdict};
 use crate::solver;
+use crate::source;
 use crate::words::{count, numbers_in_lines};
 use std::ffi::OsStr;
 
-const CASE: &[u8] = include_bytes!("../../cases/lost-update.case");
+const SOURCE: &str = include_str!("../../cases/lost-update.source");
 const ASSIGNMENT: &str = include_str!("../../cases/lost-update.assignment");
 
 pub fn tell(output: &mut Output) -> Result<Status, Failure> {
-    let loaded = Loaded::of(&Source::new(OsStr::new("cases/lost-update.case")), CASE.to_vec())?;
+    let name = "cases/lost-update.source";
+    let draft = source::read(SOURCE).map_err(|problem| problem.failure(name, SOURCE))?;
+    let loaded = Loaded::of(&Source::new(OsStr::new(name)), draft)?;
     output.say(&format!(
         "1. A CASE. Two threads move one gate: an operator by an amount that is entered, and automatic control by 5.\n\
          \x20  The operator's thread asserts that the gate, G0, moved by both where automatic control is done (G1).\n\n{}\n",

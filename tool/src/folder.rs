@@ -7,14 +7,22 @@ use crate::manifest::{Entry, Made, Manifest, Question};
 use crate::meaning;
 use crate::solve::{Solved, Verdict};
 use crate::solver::{Answer, Asked};
+use crate::source::{self, Draft};
 use crate::words::enumeration;
 use crate::{filed, picture, readme, sha256, show, solver, told};
 
 /// The names of the files that were given. The texts name the case by it, so that they do not depend on where it was read.
 pub const CASE: &str = "case.case";
+pub const CASE_SOURCE: &str = "case.source";
 pub const SOURCE: &str = "source.txt";
 /// The first question, as text for solvers.
 pub const CONSTRAINTS: &str = "constraints.smt2";
+
+/// A filed case, with its names where its filed source makes it.
+pub fn draft(case: &[u8], source: &[u8]) -> Draft {
+    let made = std::str::from_utf8(source).ok().and_then(|text| source::read(text).ok());
+    made.filter(|draft| draft.bytes == case).unwrap_or_else(|| Draft::of_bytes(case.to_vec()))
+}
 
 /// What a folder is made from.
 pub struct Check<'a> {
@@ -72,7 +80,13 @@ impl Folder {
     /// The case and its source, and what follows from the case alone.
     fn case(&mut self, check: &Check) -> Result<(), Failure> {
         let bytes = &check.loaded.case.bytes;
-        self.give(CASE, "the case: the bytes that were checked", bytes.clone());
+        match &check.loaded.source {
+            None => self.give(CASE, "the case: the bytes that were checked", bytes.clone()),
+            Some(source) => {
+                self.give(CASE_SOURCE, "the case as source: lines in words, with names", source.clone().into_bytes());
+                self.make(CASE, &format!("the case: the bytes that were checked, made from {CASE_SOURCE}"), bytes.clone());
+            }
+        }
         if let Some(source) = &check.source {
             self.give(SOURCE, "what the case was made from, by the word of who filed it", source.clone());
         }
@@ -111,7 +125,11 @@ impl Folder {
     }
 
     fn add(&mut self, name: &str, about: &str, text: String) {
-        self.files.push(File { name: name.to_string(), about: about.to_string(), given: false, bytes: text.into_bytes() });
+        self.make(name, about, text.into_bytes());
+    }
+
+    fn make(&mut self, name: &str, about: &str, bytes: Vec<u8>) {
+        self.files.push(File { name: name.to_string(), about: about.to_string(), given: false, bytes });
     }
 }
 

@@ -35,7 +35,7 @@ const TIMEOUT: Choice = Choice {
     does: "give a solver this many seconds for each question, 0 for no limit;\nwithout it no limit for one case, and 60 for several",
 };
 
-pub const PAGES: [Page; 11] = [
+pub const PAGES: [Page; 13] = [
     Page {
         name: "demo",
         usage: "demo",
@@ -44,6 +44,24 @@ pub const PAGES: [Page; 11] = [
         more: "Shows a case, checks a filed assignment, decodes it to a schedule and replays the schedule; and then,\n\
                where z3 or cvc5 is installed, lets a solver look for itself. It needs no file and writes none.\n\
                Exit status 0, although the demo's case has a violation to show.\n",
+    },
+    Page {
+        name: "make",
+        usage: "make SOURCE -o CASE",
+        summary: "make a case from its source",
+        options: &[Choice { name: "-o", value: "CASE", does: "the file; - is standard output" }, FORCE],
+        more: "The source is text: docs/SOURCE.md is its grammar on one page. The made case goes through the library's accept.\n\
+               What is wrong is told with its line and column, and what could stand there. Exit status 2 where the text is no\n\
+               source, or the case is refused; nothing is written then.\n\
+               Every other command takes a source in the place of a case too, and shows its names.\n",
+    },
+    Page {
+        name: "source",
+        usage: "source CASE",
+        summary: "print the source of a case",
+        options: &[],
+        more: "'menduvo make' of it gives the same bytes. Of a source it prints the same case in the one form that this command\n\
+               writes, with its names and without its comments.\n",
     },
     Page {
         name: "list",
@@ -184,7 +202,7 @@ pub const PAGES: [Page; 11] = [
 
 const FILES: &str = "\
 Files:
-  CASE         the bytes of a case file; '-' is standard input
+  CASE         the bytes of a case file, or its source (docs/SOURCE.md); '-' is standard input
   ASSIGNMENT   a number for each variable, or a solver's model (z3's or cvc5's) over v0, v1, ..
   SCHEDULE     block lengths, then input values
   Numbers are decimal, 0 to 65535, with white space or commas between them; '#' starts a comment to the

@@ -2,6 +2,7 @@
 
 use crate::failure::Failure;
 use crate::name::shown;
+use crate::source::{self, Draft};
 use std::ffi::{OsStr, OsString};
 use std::fs::File;
 use std::io::{self, Read};
@@ -47,9 +48,19 @@ impl Source {
         &self.0
     }
 
-    /// The bytes of a case. Of one that is too long, one byte more than the longest has: enough for the library to refuse it.
-    pub fn case_bytes(&self) -> Result<Vec<u8>, Failure> {
-        self.read(menduvo::MOST_CASE_BYTES + 1)
+    /// A case: its bytes, or the source that they are made from. Of bytes that are too many, one more than the longest case has:
+    /// enough for the library to refuse it.
+    pub fn case(&self) -> Result<Draft, Failure> {
+        let mut bytes = self.read(MOST_TEXT_BYTES + 1)?;
+        if !source::is_text(&bytes) {
+            bytes.truncate(menduvo::MOST_CASE_BYTES + 1);
+            return Ok(Draft::of_bytes(bytes));
+        }
+        let text = String::from_utf8(bytes).unwrap_or_default();
+        match text.len() > MOST_TEXT_BYTES {
+            true => Err(Failure::Refused(format!("{}: over {MOST_TEXT_BYTES} bytes of text, which is no case", self.name()))),
+            false => source::read(&text).map_err(|problem| problem.failure(&self.name(), &text)),
+        }
     }
 
     /// The text of an assignment or a schedule.

@@ -139,7 +139,7 @@ fn is_there(file: &Path) -> bool {
 }
 
 /// Whether two names lead to one file.
-pub fn is_same(one: &Path, other: &Path) -> bool {
+fn is_same(one: &Path, other: &Path) -> bool {
     matches!((one.canonicalize(), other.canonicalize()), (Ok(one), Ok(other)) if one == other)
 }
 
@@ -163,18 +163,29 @@ fn write(file: &Path, bytes: &[u8]) -> Result<(), Failure> {
     })
 }
 
-/// Replaces a file only where that is asked for.
-pub fn write_file(file: &OsStr, text: &str, force: bool) -> Result<(), Failure> {
+/// Writes the file that a command makes of these inputs. It replaces another only where that is asked for, and an input never.
+pub fn write_output(file: &OsStr, bytes: &[u8], force: bool, inputs: &[&Source]) -> Result<(), Failure> {
+    if inputs.iter().any(|input| is_same(Path::new(file), Path::new(input.path()))) {
+        return Err(Failure::Other(format!("{} is an input, and is not replaced", shown(file))));
+    }
+    let there = is_there(Path::new(file));
     let mut options = OpenOptions::new();
     match force {
         true => options.write(true).create(true).truncate(true),
         false => options.write(true).create_new(true),
     };
-    match options.open(file).and_then(|mut opened| opened.write_all(text.as_bytes())) {
-        Ok(()) => Ok(()),
+    let mut opened = match options.open(file) {
+        Ok(opened) => opened,
         Err(error) if error.kind() == ErrorKind::AlreadyExists => {
-            Err(Failure::Other(format!("{} is there already; --force replaces it", shown(file))))
+            return Err(Failure::Other(format!("{} is there already; --force replaces it", shown(file))));
         }
-        Err(error) => Err(Failure::of_file(file, &error)),
-    }
+        Err(error) => return Err(Failure::of_file(file, &error)),
+    };
+    opened.write_all(bytes).map_err(|error| {
+        // A part of a file is worse than none.
+        if !there {
+            let _ = fs::remove_file(file);
+        }
+        Failure::of_file(file, &error)
+    })
 }

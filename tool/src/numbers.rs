@@ -44,7 +44,7 @@ impl Model {
 }
 
 /// A line and its number, from 1.
-type Line<'a> = (usize, &'a str);
+pub type Line<'a> = (usize, &'a str);
 
 /// What is wrong with a model, and the line where it is one line's fault.
 #[derive(Debug)]
@@ -55,8 +55,7 @@ struct Problem {
 
 /// Reads a text. A model is about this many variables.
 pub fn read(text: &str, variables: usize) -> Result<Given, String> {
-    // Some editors put a byte-order mark before the text.
-    let lines = lines(text.strip_prefix('\u{feff}').unwrap_or(text));
+    let lines = lines(text);
     let is_blank = |line: &&Line| uncommented(line.1).trim().is_empty();
     let lines = &lines[lines.iter().take_while(is_blank).count()..];
     let first = lines.first().and_then(|(_, line)| uncommented(line).split_whitespace().next()).unwrap_or_default();
@@ -74,7 +73,9 @@ pub fn read(text: &str, variables: usize) -> Result<Given, String> {
 }
 
 /// The lines of a text, whichever system it comes from.
-fn lines(text: &str) -> Vec<Line<'_>> {
+pub fn lines(text: &str) -> Vec<Line<'_>> {
+    // Some editors put a byte-order mark before the text.
+    let text = text.strip_prefix('\u{feff}').unwrap_or(text);
     let lines = text.split('\n').flat_map(|line| line.strip_suffix('\r').unwrap_or(line).split('\r'));
     (1..).zip(lines).collect()
 }

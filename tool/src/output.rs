@@ -14,7 +14,12 @@ impl Output {
 
     /// Prints the text at once, so that it is seen before what takes time.
     pub fn say(&mut self, text: &str) -> Result<(), Failure> {
-        self.stream.write_all(text.as_bytes()).map_err(failure)?;
+        self.write(text.as_bytes())
+    }
+
+    /// The same of bytes.
+    pub fn write(&mut self, bytes: &[u8]) -> Result<(), Failure> {
+        self.stream.write_all(bytes).map_err(failure)?;
         self.finish()
     }
 

@@ -8,16 +8,13 @@ use crate::words::{count, enumeration, items_in_words, LEGEND};
 pub fn text(loaded: &Loaded) -> String {
     let case = &loaded.case;
     let mut text = format!(
-        "{}: {}, {}, {}, {}, {}\n{} over {}\n({LEGEND})\n\nstart: {}\n",
+        "{}: {}\n{} over {}\n({LEGEND})\n\nstart: {}\n{}",
         loaded.name,
-        count(case.threads, "thread", "threads"),
-        count(case.switches, "switch", "switches"),
-        count(case.globals, "global", "globals"),
-        count(case.mutexes, "mutex", "mutexes"),
-        count(case.records.len(), "record", "records"),
+        size(loaded),
         count(loaded.table.rows.len(), "constraint", "constraints"),
         count(loaded.table.variables, "variable", "variables"),
         items_in_words(case, &case.items_at_start()),
+        names(case, None),
     );
     for thread in 0..case.threads {
         text.push_str(&thread_text(loaded, thread));
@@ -26,10 +23,38 @@ pub fn text(loaded: &Loaded) -> String {
     text
 }
 
+/// How much there is of everything.
+pub fn size(loaded: &Loaded) -> String {
+    let case = &loaded.case;
+    let sizes = [
+        count(case.threads, "thread", "threads"),
+        count(case.switches, "switch", "switches"),
+        count(case.globals, "global", "globals"),
+        count(case.mutexes, "mutex", "mutexes"),
+        count(case.records.len(), "record", "records"),
+    ];
+    sizes.join(", ")
+}
+
+/// Which names stand for what, as constraints number it: a thread's locals, or the items. Nothing where no name was given.
+fn names(case: &Case, thread: Option<usize>) -> String {
+    let of_thread = |name: &Name| match name {
+        Name::Local(of, _) => Some(*of) == thread,
+        Name::Global(_) | Name::Mutex(_) => thread.is_none(),
+    };
+    let given = case.names.given().filter(|(name, _)| of_thread(name));
+    let given: Vec<String> = given.map(|(name, word)| format!("{word} is {}", name.plain())).collect();
+    match given.is_empty() {
+        true => String::new(),
+        false => format!("names: {}\n", given.join(", ")),
+    }
+}
+
 fn thread_text(loaded: &Loaded, thread: usize) -> String {
     let case = &loaded.case;
     let chain = &case.chains[thread];
-    let mut text = format!("\nthread {thread}: {}, {}\n", count(chain.len(), "line", "lines"), blocks(case, thread));
+    let lines = count(chain.len(), "line", "lines");
+    let mut text = format!("\nthread {thread}: {lines}, {}\n{}", blocks(case, thread), names(case, Some(thread)));
     let rows: Vec<[String; 5]> = chain.iter().zip(1..).map(|(&number, line)| line_cells(loaded, number, line)).collect();
     if !rows.is_empty() {
         let heads = ["line", "record", "guard", "does", "copies"].map(str::to_string);

@@ -3,7 +3,7 @@
 
 use crate::calls::Loaded;
 use crate::failure::Failure;
-use crate::folder::{answer_of, Check, Folder, CASE, CONSTRAINTS, SOURCE};
+use crate::folder::{answer_of, draft, Check, Folder, CASE, CASE_SOURCE, CONSTRAINTS, SOURCE};
 use crate::input::Source;
 use crate::kept::Kept;
 use crate::manifest::{Entry, Manifest, NAME};
@@ -44,7 +44,7 @@ pub struct Recomputed {
 /// Makes everything again that needs no solver.
 pub fn recompute(kept: &Kept) -> Result<Recomputed, Failure> {
     let case = kept.bytes(CASE).map_err(|problem| Failure::Other(format!("{CASE}: {problem}")))?;
-    let loaded = Loaded::of(&Source::new(OsStr::new(CASE)), case.to_vec())?;
+    let loaded = Loaded::of(&Source::new(OsStr::new(CASE)), draft(case, kept.bytes(CASE_SOURCE).unwrap_or_default()))?;
     let (first, others) = Replies::of(kept, loaded.table.variables);
     let solved = solve_by(&loaded, &first, &others, &mut |_| {})?;
     let source = kept.manifest.has(SOURCE).then(|| kept.bytes(SOURCE).unwrap_or_default().to_vec());
