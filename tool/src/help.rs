@@ -138,7 +138,8 @@ pub const PAGES: [Page; 13] = [
         more: "The constraints go to the solver as SMT-LIB text. Its assignment is checked, decoded and replayed by the\n\
                proved library; the run is printed as by 'replay'. For each assert it is told whether a complete legal run\n\
                within the bound reaches it with a true guard: of one that is never reached, nothing was checked.\n\
-               DIR: every file in it that ends in .case. Of several cases each one's line is printed when it is known,\n\
+               DIR: every file in it that ends in .source, and each that ends in .case and has no source of the same name.\n\
+               Of several cases each one's line is printed when it is known,\n\
                and at the end how many have each answer:\n\
                \x20 violated   a run that breaks an assertion was found, checked and replayed\n\
                \x20 unsat      nothing meets the constraints, by the solver's word; the note names asserts that are not reached\n\

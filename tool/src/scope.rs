@@ -86,7 +86,7 @@ impl Scope<'_> {
                 _ if KEYWORDS.contains(&word) => Err(Some(format!("'{quoted}' is a word of the language"))),
                 _ if is_plain(word) && plain.is_empty() => Err(Some(format!("'{quoted}' is no name of its own"))),
                 _ if is_plain(word) => Err(Some(format!("'{quoted}' is not what comes next, which is {plain}"))),
-                _ if !word.starts_with(|sign: char| sign.is_ascii_alphabetic()) => Err(None),
+                _ if !is_name(word) => Err(None),
                 _ if word.len() > MOST_OF_A_NAME => Err(Some(format!("'{quoted}' has {} characters", word.len()))),
                 _ => Ok(word.to_string()),
             }
@@ -285,7 +285,8 @@ impl Scope<'_> {
 
 /// Whether a word could be a name, and is no word of the language.
 fn is_name(word: &str) -> bool {
-    word.starts_with(|sign: char| sign.is_ascii_alphabetic()) && !KEYWORDS.contains(&word)
+    let is_of_name = |sign: char| sign.is_ascii_alphanumeric() || sign == '_';
+    word.starts_with(|sign: char| sign.is_ascii_alphabetic()) && word.chars().all(is_of_name) && !KEYWORDS.contains(&word)
 }
 
 fn listed(items: &[Item]) -> String {

@@ -110,7 +110,7 @@ fn plain_in_words(operand: &Source) -> String {
     words.collect()
 }
 
-/// The cases, with the files of a folder that end in .case in its place, by name.
+/// The cases, with those of a folder in its place, by name.
 fn expanded(operands: &[Source]) -> Result<Vec<Source>, Failure> {
     let mut cases = Vec::new();
     for operand in operands {
@@ -122,19 +122,25 @@ fn expanded(operands: &[Source]) -> Result<Vec<Source>, Failure> {
     Ok(cases)
 }
 
+/// The cases of a folder: sources, and cases that have no source of the same name. A source is what is edited; a case beside it
+/// may be of an earlier day.
 fn case_files(folder: &OsStr) -> Result<Vec<Source>, Failure> {
     let named = |error: std::io::Error| Failure::of_file(folder, &error);
     let mut files: Vec<PathBuf> = Vec::new();
     for entry in std::fs::read_dir(folder).map_err(named)? {
         let path = entry.map_err(named)?.path();
         // No folder, and no pipe, which may never end.
-        if path.as_os_str().as_bytes().ends_with(b".case") && path.is_file() {
+        let ending = path.as_os_str().as_bytes();
+        if (ending.ends_with(b".case") || ending.ends_with(b".source")) && path.is_file() {
             files.push(path);
         }
     }
     files.sort();
+    let all = files.clone();
+    files
+        .retain(|file| all.binary_search(&file.with_extension("source")).is_err() || file.extension() != Some("case".as_ref()));
     match files.is_empty() {
-        true => Err(Failure::Other(format!("{}: no file in it ends in .case", shown(folder)))),
+        true => Err(Failure::Other(format!("{}: no file in it ends in .source or .case", shown(folder)))),
         false => Ok(files.iter().map(|file| Source::new(file.as_os_str())).collect()),
     }
 }

@@ -217,10 +217,9 @@ impl Reader {
         let mut taken: Vec<Option<Place>> = vec![None; lines.len()];
         for Line { place, number, .. } in &lines {
             let wrong = match number.checked_sub(1).and_then(|index| taken.get_mut(index)) {
-                None => format!("this line would be record {number}, but the source has {} lines", lines.len()),
-                Some(Some(other)) => {
-                    format!("this line would be record {number}, which the line {} of the source is", other.line)
-                }
+                None => format!("this is record {number}, but R is {}", lines.len()),
+                Some(Some(other)) => format!("this is record {number}, which line {} is already", other.line),
+
                 Some(free) => {
                     *free = Some(*place);
                     continue;

@@ -57,7 +57,7 @@ pub fn pointed(text: &str, Place { line, column }: Place) -> [String; 2] {
 const SIGNS: [&str; 9] = ["==", "!=", "=", "<", "+", "-", "&", "|", ":"];
 
 fn is_of_word(sign: char) -> bool {
-    sign.is_ascii_alphanumeric() || sign == '_'
+    sign.is_alphanumeric() || sign == '_'
 }
 
 fn is_blank(sign: char) -> bool {
