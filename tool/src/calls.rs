@@ -64,8 +64,8 @@ impl Loaded {
                     None => refusal.failure(&name, &details),
                     Some(source) => {
                         let place = source.place_of(refusal);
-                        let pointed = pointed(&source.text, place).into_iter();
-                        refusal.failure(&format!("{name}: {place}"), &pointed.chain(details).collect::<Vec<_>>())
+                        let details = [pointed(&source.text, place), details].concat();
+                        refusal.failure(&format!("{name}: {place}"), &details)
                     }
                 });
             }

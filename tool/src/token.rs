@@ -32,8 +32,8 @@ impl Problem {
     /// The failure of a command that was given this text.
     pub fn failure(&self, input: &str, text: &str) -> Failure {
         let Problem { place, wrong, could } = self;
-        let [line, mark] = pointed(text, *place);
-        Failure::Refused(format!("{input}: {place}: {wrong}\n  {line}\n  {mark}\n  could stand here: {could}"))
+        let shown: String = pointed(text, *place).iter().map(|line| format!("\n  {line}")).collect();
+        Failure::Refused(format!("{input}: {place}: {wrong}{shown}\n  could stand here: {could}"))
     }
 }
 
@@ -43,14 +43,17 @@ impl fmt::Display for Place {
     }
 }
 
-/// A text with a place in it shown: its line, and a mark below the column.
-pub fn pointed(text: &str, Place { line, column }: Place) -> [String; 2] {
+/// A text with a place in it shown: its line, and a mark below the column; nothing where the line is empty.
+pub fn pointed(text: &str, Place { line, column }: Place) -> Vec<String> {
     let shown = |sign: char| if is_unseen(sign) { ' ' } else { sign };
     let line = lines(text).get(line.wrapping_sub(1)).map_or("", |(_, line)| line);
     // Of a long line, the part around the column.
     let from = column.saturating_sub(61);
     let part: String = line.chars().skip(from).take(100).map(shown).collect();
-    [part.trim_end().to_string(), format!("{}^", " ".repeat(column - 1 - from))]
+    match part.trim_end() {
+        "" => Vec::new(),
+        part => vec![part.to_string(), format!("{}^", " ".repeat(column - 1 - from))],
+    }
 }
 
 /// The signs, a longer one before its beginning.
