@@ -116,7 +116,7 @@ filing() {
         "$menduvo" file "$scratch/three.case" "$scratch/three" --solver both
     whole three unsat reply-z3.txt reply-cvc5.txt reached-{1,2,3}.smt2 reached-{1,2,3}-reply-{z3,cvc5}.txt
     has three reached.txt 'assert 1): reached, e.g. schedule 6 1 '
-    has three reached.txt 'record 6 (thread 0, line 6: if L3 != 0: assert 1): NEVER REACHED within n = 1'
+    has three reached.txt 'record 6 (thread 0, line 6: when L3 != 0: assert 1): NEVER REACHED within n = 1'
     has three README.txt 'whether an assert of record 4, 5 and 6 is reached'
 }
 

@@ -173,7 +173,7 @@ vacuous() {
         says "$solver: reached with an input" 0 'assert L0): reached, e.g. schedule' \
             "$menduvo" solve "$scratch/input.case" --solver "$solver" --strict
         result "$solver: and with that input alone" eval '[[ $out = *" 54321"* ]]'
-        says "$solver: asserts beside a broken one" 1 'line 3: if L5 != 0: assert 1): NEVER REACHED' \
+        says "$solver: asserts beside a broken one" 1 'line 3: when L5 != 0: assert 1): NEVER REACHED' \
             "$menduvo" solve "$scratch/broken.case" --solver "$solver"
         result "$solver: the broken one is reached" eval '[[ $out = *"line 2: assert L0 == 1): reached"*"line 4: assert 1): reached"* ]]'
     done

@@ -190,6 +190,7 @@ filing() {
     result 'a source is filed' eval '[ "$status" = 1 ] && cmp -s "$scratch/filed/case.source" cases/interlock-broken.source'
     result 'with its case' cmp -s "$scratch/filed/case.case" cases/interlock-broken.case
     result 'with its names' grep -q 'assert both == 0' "$scratch/filed/run.txt"
+    result 'the page says how a source reads' grep -q 'HOW THE SOURCE READS' "$scratch/filed/README.txt"
     says 'it is verified' 0 'case.case         same' "$menduvo" verify "$scratch/filed"
     sed -i 's/both/all/' "$scratch/filed/case.source"
     says 'another name' 1 'case.source       differs' "$menduvo" verify "$scratch/filed"

@@ -1,6 +1,6 @@
 //! The page of a filed folder, for a reader who has none of our programs.
 
-use crate::folder::{File, Folder};
+use crate::folder::{File, Folder, CASE_SOURCE};
 use crate::manifest::{self, Made, Program};
 
 pub const NAME: &str = "README.txt";
@@ -48,16 +48,31 @@ code; the texts and the picture; that the case says what its source, or the cont
 another order of threads, or with more switches, is outside of all this.
 ";
 
+/// How a source is laid out, where one is filed.
+const SOURCE: &str = "\
+HOW THE SOURCE READS (case.source)
+
+A statement stands on a line; # begins a comment. 'switches' has n. Each 'global' and 'mutex' is the next
+one, from 0, with its name, and with a global's initial value. Each 'thread' begins the next thread, from
+0; 'local X = L3' names its local 3, and a local without a name is L and its number. Every other statement
+is a line of that thread. Its record is the one before it in the text and 1, beginning with 1, unless
+'record 7:' before it says otherwise. 'when X != 0:' or 'when X == 0:' is its guard. 'X = input' is kind 4;
+'X = Y' with a local X and a global Y is kind 3; other lines with = are kind 1, or kind 2 where a global
+stands before it; 'assert', 'assume', 'lock' and 'unlock' are kinds 5 to 8. The signs + - & | == < are ops
+1 to 6; without one the op is 0. A number is the constant c.
+";
+
 /// The page, from the files that stand before it and the head of the list.
 pub fn text(folder: &Folder) -> String {
     let made = &folder.manifest.made;
+    let has_source = folder.files.iter().any(|file| file.name == CASE_SOURCE);
     let sections = [
         INTRODUCTION.to_string(),
         format!("The answer: {}. verdict.txt says what it means, and what it does not mean.\n", folder.manifest.answer),
         format!("THE FILES\n\n{}", files(folder)),
         CHECKING.to_string(),
         PROVED.to_string(),
-        LAYOUT.to_string(),
+        if has_source { format!("{SOURCE}\n{LAYOUT}") } else { LAYOUT.to_string() },
         format!("WHAT IT WAS MADE WITH\n\n{}", made_with(made)),
         format!("WHAT WAS GIVEN, AND DOES NOT FOLLOW FROM THE OTHER FILES (SHA-256)\n\n{}", given(folder)),
     ];
