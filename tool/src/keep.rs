@@ -172,9 +172,15 @@ pub fn write_file(file: &OsStr, text: &str, force: bool) -> Result<(), Failure> 
     };
     match options.open(file).and_then(|mut opened| opened.write_all(text.as_bytes())) {
         Ok(()) => Ok(()),
-        Err(error) if error.kind() == ErrorKind::AlreadyExists => {
-            Err(Failure::Other(format!("{} is there already; --force replaces it", shown(file))))
-        }
+        Err(error) if error.kind() == ErrorKind::AlreadyExists => may_write(file, force),
         Err(error) => Err(Failure::of_file(file, &error)),
+    }
+}
+
+/// Fails where a file is there, and is not to be replaced.
+pub fn may_write(file: &OsStr, force: bool) -> Result<(), Failure> {
+    match is_there(Path::new(file)) && !force {
+        true => Err(Failure::Other(format!("{} is there already; --force replaces it", shown(file)))),
+        false => Ok(()),
     }
 }

@@ -4,6 +4,7 @@
 
 mod answer_file;
 mod arguments;
+mod by_hand;
 mod calls;
 mod case;
 mod commands;
@@ -26,6 +27,7 @@ mod names;
 mod needed;
 mod numbers;
 mod objects;
+mod orders;
 mod output;
 mod picture;
 mod process;
@@ -44,10 +46,12 @@ mod show;
 mod smt;
 mod solve;
 mod solver;
+mod step;
 mod summary;
 mod svg;
 mod table;
 mod told;
+mod values;
 mod verified;
 mod verify;
 mod walk;
