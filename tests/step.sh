@@ -34,6 +34,7 @@ steps() {
     same "step-$name" "$wanted" bash -c "cat '$scratch/typed' | '$menduvo' step '$case'"
 }
 
+# shellcheck disable=SC2034 # eval reads them
 # replays NAME CASE: the schedule that was printed last, by itself, ends as it did there, with the same status.
 replays() {
     local ended=$status verdict
@@ -60,8 +61,8 @@ values() {
 picking() {
     steps violated 1 cases/case-a.case 0 0 1 0 0 quit
     replays violated cases/case-a.case
-    steps every-command 1 cases/case-a.case help values schedule 0 switch undo switch 0 values undo undo undo 'rest 0' schedule undo \
-        0 0 1 schedule 'rest 0' undo 'rest 0' '# a comment' '' ' values  # another' schedule quit 'nobody reads this'
+    steps every-command 1 cases/case-a.case help values schedule 0 switch undo switch 0 values undo undo undo \
+        'rest 0' schedule undo 0 0 1 schedule 'rest 0' undo 'rest 0' '# a comment' '' ' values  # another' schedule quit 'nobody reads this'
     replays 'every command' cases/case-a.case
     steps clean 0 cases/interlock.case 'rest 0' 'rest 1'
     replays clean cases/interlock.case
@@ -105,6 +106,8 @@ cutting() {
     steps cut-off-undone 0 cases/lock-order.case 0 1 1 undo undo 'rest 0' 'rest 1'
     replays 'cut off, undone' cases/lock-order.case
     result 'it is no longer cut off' grep -q '^clean: ' "$scratch/end"
+    steps cut-off-in-rest 0 cases/lock-order.case 0 'rest 1'
+    replays 'cut off in the rest' cases/lock-order.case
     steps cut-off-goes-on 3 cases/lock-order.case 0 1 1 0
     steps cut-off-switch 3 cases/lock-order.case 0 1 1 switch
     steps in-vain 0 "$scratch/vain.case" 'rest 0'
@@ -121,8 +124,9 @@ refusing() {
     steps too-many-switches 3 cases/case-a.case switch switch switch
     steps unfinished 3 cases/case-a.case 0 0 1 0
     steps broken-unfinished 3 "$scratch/vain.case" 0
-    local text
-    for text in step 0x 'rest' 'rest x' 'rest 0 1' '0 1' -1 65536 99999999999999999999 Quit $'\x1b[2J' $'\xff' "$(printf 'x%.0s' {1..9000})"; do
+    local text long
+    long=$(printf 'x%.0s' {1..9000})
+    for text in step 0x rest 'rest x' 'rest 0 1' '0 1' -1 65536 99999999999999999999 Quit $'\x1b[2J' $'\xff' "$long"; do
         typed 0 "$text" 0
         run bash -c "'$menduvo' step cases/case-a.case <'$scratch/typed'"
         result "the command '${text:0:20}'" eval '[ "$status" = 3 ] && [[ $out = *"line 2: "* ]] && [[ $out != *$'"'\\x1b'"'* ]]'

@@ -1,5 +1,5 @@
-//! A run by hand: each next line is of the thread that is picked. It goes from block to block as a schedule does, round robin, and
-//! gives the schedule at its end. What it shows is the display's own walk; what it comes to is the library's word.
+//! A run by hand: each next line is of the thread that is picked. It goes from block to block as a schedule does, round robin,
+//! and gives the schedule at its end. What it shows is the display's own walk; what it comes to is the library's word.
 
 use crate::case::{Case, Kind, Record};
 use crate::walk::{is_cut_off, Machine, Step, Walk};
@@ -39,7 +39,7 @@ impl<'a> ByHand<'a> {
         match self.turn(thread) {
             Some(block) => Ok((self.case.record(record), block)),
             None => Err(format!(
-                "thread {thread} has no block left: {} allow blocks 0 to {}, and it is block {}; 'undo' goes back",
+                "thread {thread} has no block left: with {} the last is block {}, and this is block {}; 'undo' goes back",
                 count(self.case.switches, "switch", "switches"),
                 self.case.switches,
                 self.block
@@ -80,29 +80,42 @@ impl<'a> ByHand<'a> {
 
     /// Whether every line has run.
     pub fn is_complete(&self) -> bool {
-        !is_cut_off(&self.steps) && (0..self.case.threads).all(|thread| self.machine.left(thread).is_empty())
+        !is_cut_off(&self.steps) && self.unfinished().is_empty()
     }
 
-    /// The schedule of a run that is over. Where it is cut off the lines that never run stand in the next blocks of their threads:
-    /// a schedule has a place for every line. There is none where such a thread has no block left.
+    /// The schedule of a run that is over. Where it is cut off the lines that never run stand in the next blocks of their
+    /// threads: a schedule has a place for every line. There is none where such a thread has no block left.
     pub fn schedule(&self) -> Option<Vec<u16>> {
         let mut numbers = self.lengths.clone();
-        for thread in (0..self.case.threads).filter(|&thread| !self.machine.left(thread).is_empty()) {
+        for thread in self.unfinished() {
             let block = self.turn(thread).filter(|_| is_cut_off(&self.steps))?;
             numbers[block] += self.machine.left(thread).len() as u16;
         }
         Some([numbers, self.machine.inputs.clone()].concat())
     }
 
-    /// The lines that have not run, a text for each thread that has some.
+    /// The threads that have lines left, in the order in which they can run on; those that have no block left come last.
+    fn unfinished(&self) -> Vec<usize> {
+        let mut threads: Vec<usize> = (0..self.case.threads).filter(|&thread| !self.machine.left(thread).is_empty()).collect();
+        threads.sort_by_key(|&thread| self.turn(thread).unwrap_or(usize::MAX));
+        threads
+    }
+
+    /// The lines that are left, in lines, and how they can run.
     pub fn left_in_words(&self) -> Vec<String> {
-        let threads = (0..self.case.threads).map(|thread| (thread, self.machine.left(thread)));
-        let words = threads.filter_map(|(thread, left)| {
+        let threads = self.unfinished();
+        let words = threads.iter().filter_map(|&thread| {
+            let left = self.machine.left(thread);
             let lines = count(left.len(), "line", "lines");
             let block = if self.turn(thread).is_none() { "; it has no block left" } else { "" };
             Some(format!("thread {thread} has {lines} left, from {} on{block}", record_in_words(self.case, *left.first()?)))
         });
-        words.collect()
+        let mut words: Vec<String> = words.collect();
+        if !is_cut_off(&self.steps) && threads.iter().all(|&thread| self.turn(thread).is_some()) {
+            let commands: Vec<String> = threads.iter().map(|thread| format!("'rest {thread}'")).collect();
+            words.push(format!("to run them: {}", commands.join(", then ")));
+        }
+        words
     }
 
     /// The steps so far as a walk, to be compared with the library.

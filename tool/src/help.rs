@@ -96,7 +96,7 @@ pub const PAGES: [Page; 12] = [
         usage: "step CASE [-o FILE]",
         summary: "run a case by hand, thread by thread, and get the schedule",
         options: &[Choice { name: "-o", value: "FILE", does: "write the schedule to this file, at the end" }, FORCE],
-        more: "Commands are read from standard input, one a line; '#' starts a comment:\n\
+        more: "Commands are read from standard input, one a line, so CASE is a file; '#' starts a comment:\n\
                \x20 1          run the next line of thread 1; so for each thread\n\
                \x20 rest 1     run all lines that thread 1 has left\n\
                \x20 switch     end the block, so that a later one of the same thread can be used\n\

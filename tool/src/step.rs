@@ -1,5 +1,5 @@
-//! `menduvo step`: a run by hand. The user picks the thread of each next line, sees the line and the values, can go back, and gets
-//! the schedule at the end, replayed by the library.
+//! `menduvo step`: a run by hand. The user picks the thread of each next line, sees the line and the values, can go back, and
+//! gets the schedule at the end, replayed by the library.
 
 use crate::by_hand::ByHand;
 use crate::calls::Loaded;
@@ -233,7 +233,7 @@ impl Talk<'_> {
     fn notes(&self, thread: usize, record: &Record) -> String {
         let guard = record.guard_local().map(|_| format!("guard {}", self.run.machine.guard_is_true(record)));
         let turn = match self.run.turn(thread) {
-            None => Some("no block left".to_string()),
+            None => Some("no block left, so no schedule will come of it".to_string()),
             Some(block) if block == self.run.block => None,
             Some(block) => Some(format!("in block {block}, after {}", count(block - self.run.block, "switch", "switches"))),
         };
