@@ -10,7 +10,7 @@ calling() {
     same help 0 "$menduvo" help
     same help-solve 0 "$menduvo" solve --help
     local command
-    for command in demo list show check decode replay solve picture file verify help; do
+    for command in demo list show check decode replay step solve picture file verify help; do
         says "help $command" 0 "usage: menduvo $command" "$menduvo" help "$command"
         says "$command --help" 0 "usage: menduvo $command" "$menduvo" "$command" --help
     done

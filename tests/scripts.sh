@@ -92,6 +92,11 @@ replays() {
     step=
     for field in block thread line record event words; do step+="$(get steps 4 "$field"), "; done
     result 'the broken one' test "$step" = '2, 0, 4, 4, broken, 5 == 1 is false, '
+    is 'replay without values' 'line 1: has no steps/1/items' steps 1 items
+    object 'replay, with values' 1 violated replay cases/case-a.case cases/case-a.schedule --values
+    is 'replay, with values' 5 steps
+    is 'replay, with values' 1 steps 1 items 0 value
+    is 'replay, with values' 5 steps 2 items 0 value
     object 'replay, clean' 0 clean replay cases/interlock.case cases/interlock.schedule
     is 'replay, clean' null record
     object 'replay, cut off' 0 'cut off' replay cases/lock-order.case cases/lock-order.schedule

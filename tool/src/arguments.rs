@@ -8,6 +8,7 @@ use crate::keep::Keep;
 use crate::name::shown;
 use crate::solve::{Settings, Wanted};
 use crate::solver::Solver;
+use crate::step::Stepping;
 use crate::verified::Verifying;
 use std::ffi::{OsStr, OsString};
 use std::os::unix::ffi::OsStrExt;
@@ -23,7 +24,8 @@ pub enum Call {
     Show { cases: Vec<Source>, json: bool },
     Check { case: Source, assignment: Source, json: bool },
     Decode { case: Source, assignment: Source },
-    Replay { case: Source, schedule: Source, json: bool },
+    Replay { case: Source, schedule: Source, values: bool, json: bool },
+    Step(Stepping),
     Solve(Wanted),
     Picture { case: Source, schedule: Source, file: OsString, force: bool },
     File(Filing),
@@ -119,7 +121,13 @@ fn call(parts: &mut Parts) -> Result<Call, Failure> {
         "show" => Call::Show { cases: parts.cases()?, json: parts.has("--json") },
         "check" => Call::Check { case: parts.next("CASE")?, assignment: parts.next("ASSIGNMENT")?, json: parts.has("--json") },
         "decode" => Call::Decode { case: parts.next("CASE")?, assignment: parts.next("ASSIGNMENT")? },
-        "replay" => Call::Replay { case: parts.next("CASE")?, schedule: parts.next("SCHEDULE")?, json: parts.has("--json") },
+        "replay" => Call::Replay {
+            case: parts.next("CASE")?,
+            schedule: parts.next("SCHEDULE")?,
+            values: parts.has("--values"),
+            json: parts.has("--json"),
+        },
+        "step" => Call::Step(stepping(parts)?),
         "solve" => Call::Solve(wanted(parts)?),
         "picture" => Call::Picture {
             case: parts.next("CASE")?,
@@ -146,6 +154,20 @@ fn wanted(parts: &mut Parts) -> Result<Wanted, Failure> {
         strict: parts.has("--strict"),
         json: parts.has("--json"),
     })
+}
+
+fn stepping(parts: &mut Parts) -> Result<Stepping, Failure> {
+    let (case, file) = (parts.next("CASE")?, parts.value("-o"));
+    if case.is_standard_input() {
+        return Err(parts.usage("CASE cannot be standard input: the commands are read from there"));
+    }
+    if file.as_ref().is_some_and(|file| file.is_empty() || file == "-") {
+        return Err(parts.usage("-o needs a file's name; of one that is named '-' it is ./-"));
+    }
+    if parts.has("--force") && file.is_none() {
+        return Err(parts.usage("--force needs -o"));
+    }
+    Ok(Stepping { case, file, force: parts.has("--force") })
 }
 
 fn filing(parts: &mut Parts) -> Result<Filing, Failure> {

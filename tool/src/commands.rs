@@ -6,8 +6,9 @@ use crate::failure::{Failure, Status};
 use crate::input::Source;
 use crate::name::shown;
 use crate::output::Output;
+use crate::run::Run;
 use crate::words::{all, numbers_in_lines};
-use crate::{demo, file, help, keep, make, picture, report, run, said::Said, several, show, told, verified};
+use crate::{demo, file, help, keep, make, picture, report, run, said::Said, several, show, step, told, verified};
 use std::ffi::OsStr;
 
 pub fn perform(call: Call, output: &mut Output) -> Result<Status, Failure> {
@@ -21,7 +22,8 @@ pub fn perform(call: Call, output: &mut Output) -> Result<Status, Failure> {
         Call::Show { cases, json } => each(&cases, json, output, show),
         Call::Check { case, assignment, json } => check(&case, &assignment, json).tell(output),
         Call::Decode { case, assignment } => decode(&case, &assignment, output),
-        Call::Replay { case, schedule, json } => replay(&case, &schedule, json).tell(output),
+        Call::Replay { case, schedule, values, json } => replay(&case, &schedule, values, json).tell(output),
+        Call::Step(stepping) => step::step(&stepping, output),
         Call::Solve(wanted) => match wanted.cases.as_slice() {
             [case] if !several::is_several(&wanted.cases) && wanted.json => several::one_object(case, &wanted, output),
             [case] if !several::is_several(&wanted.cases) => told::one(case, &wanted, output),
@@ -106,7 +108,7 @@ fn decode(case: &Source, assignment: &Source, output: &mut Output) -> Result<Sta
     output.say(&numbers_in_lines(&schedule)).map(|()| Status::Done)
 }
 
-fn replay(case: &Source, schedule: &Source, json: bool) -> Said {
+fn replay(case: &Source, schedule: &Source, values: bool, json: bool) -> Said {
     let loaded = match Loaded::from(case) {
         Ok(loaded) => loaded,
         Err(failure) => return Said::failed("replay", case, case, failure, json),
@@ -114,8 +116,11 @@ fn replay(case: &Source, schedule: &Source, json: bool) -> Said {
     let numbers = loaded.schedule(schedule);
     let run = numbers.and_then(|numbers| Ok((run::replay(&loaded, &schedule.name(), &numbers)?, numbers)));
     match (run, json) {
-        (Ok((run, numbers)), true) => Said::object(&report::replayed(&loaded, &numbers, &run), run.status()),
-        (Ok((run, numbers)), false) => Said { text: run.text(&loaded.case, &numbers), ended: Ok(run.status()) },
+        (Ok((run, numbers)), true) => Said::object(&report::replayed(&loaded, &numbers, &run, values), run.status()),
+        (Ok((run, numbers)), false) => {
+            let text = if values { Run::text_with_values } else { Run::text };
+            Said { text: text(&run, &loaded.case, &numbers), ended: Ok(run.status()) }
+        }
         (Err(failure), _) => Said::failed("replay", case, schedule, failure, json),
     }
 }

@@ -35,7 +35,7 @@ const TIMEOUT: Choice = Choice {
     does: "give a solver this many seconds for each question, 0 for no limit;\nwithout it no limit for one case, and 60 for several",
 };
 
-pub const PAGES: [Page; 13] = [
+pub const PAGES: &[Page] = &[
     Page {
         name: "demo",
         usage: "demo",
@@ -102,9 +102,33 @@ pub const PAGES: [Page; 13] = [
         name: "replay",
         usage: "replay CASE SCHEDULE",
         summary: "run a schedule, and print the run line by line",
-        options: &[JSON],
+        options: &[
+            Choice { name: "--values", value: "", does: "print all items after each line; what changed says what it was" },
+            JSON,
+        ],
         more: "A solver's model in the place of the schedule is decoded first.\n\
                Exit status 1 where the run breaks an assertion; 0 where it is clean or cut off.\n",
+    },
+    Page {
+        name: "step",
+        usage: "step CASE [-o FILE]",
+        summary: "run a case by hand, thread by thread, and get the schedule",
+        options: &[Choice { name: "-o", value: "FILE", does: "write the schedule to this file, at the end" }, FORCE],
+        more: "Commands are read from standard input, one a line, so CASE is a file; '#' starts a comment:\n\
+               \x20 1          run the next line of thread 1; so for each thread\n\
+               \x20 rest 1     run all lines that thread 1 has left\n\
+               \x20 switch     end the block, so that a later one of the same thread can be used\n\
+               \x20 undo       take the last of these commands back, as often as wanted\n\
+               \x20 values     print all items and locals\n\
+               \x20 schedule   print the schedule so far\n\
+               \x20 help       print this\n\
+               \x20 quit       end, as the end of the input does\n\
+               Block 0 is thread 0's, block 1 thread 1's, and so on, round robin; from one to the next is a switch. A line\n\
+               runs in the open block where that is its thread's, or else in its thread's next one. An input line asks for\n\
+               its value, which is the next line that is read.\n\
+               At the end the schedule is printed, and replayed by the proved library. There is one only where every line\n\
+               ran, or the run is cut off. Over a pipe a command that cannot be done is the end; at a terminal it is not.\n\
+               Exit status 1 where the run breaks an assertion; 0 where it is clean or cut off; 3 without a schedule.\n",
     },
     Page {
         name: "solve",
@@ -222,7 +246,7 @@ Exit status:
 pub fn all() -> String {
     let mut text = String::from("menduvo: bounded checking of threaded cases, over a proved library\n\nCommands:\n");
     let width = PAGES.iter().map(|page| page.usage.len()).max().unwrap_or(0);
-    for page in &PAGES {
+    for page in PAGES {
         text.push_str(&format!("  {:width$}  {}\n", page.usage, page.summary));
     }
     text.push_str("  --version\n\n'menduvo COMMAND --help' says more about one. 'menduvo demo' shows the whole job.\n\n");

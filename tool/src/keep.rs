@@ -163,29 +163,34 @@ fn write(file: &Path, bytes: &[u8]) -> Result<(), Failure> {
     })
 }
 
-/// Writes the file that a command makes of these inputs. It replaces another only where that is asked for, and an input never.
+/// Writes the file that a command makes of these inputs.
 pub fn write_output(file: &OsStr, bytes: &[u8], force: bool, inputs: &[&Source]) -> Result<(), Failure> {
-    if inputs.iter().any(|input| is_same(Path::new(file), Path::new(input.path()))) {
-        return Err(Failure::Other(format!("{} is an input, and is not replaced", shown(file))));
-    }
+    may_write(file, force, inputs)?;
     let there = is_there(Path::new(file));
     let mut options = OpenOptions::new();
     match force {
         true => options.write(true).create(true).truncate(true),
         false => options.write(true).create_new(true),
     };
-    let mut opened = match options.open(file) {
-        Ok(opened) => opened,
-        Err(error) if error.kind() == ErrorKind::AlreadyExists => {
-            return Err(Failure::Other(format!("{} is there already; --force replaces it", shown(file))));
+    let written = options.open(file).and_then(|mut opened| {
+        opened.write_all(bytes).inspect_err(|_| {
+            // A part of a file is worse than none.
+            if !there {
+                let _ = fs::remove_file(file);
+            }
+        })
+    });
+    written.map_err(|error| Failure::of_file(file, &error))
+}
+
+/// Fails where a file is there, and is not to be replaced: an input never is, and another only where that is asked for.
+pub fn may_write(file: &OsStr, force: bool, inputs: &[&Source]) -> Result<(), Failure> {
+    let path = Path::new(file);
+    match inputs.iter().any(|input| is_same(path, Path::new(input.path()))) {
+        true => Err(Failure::Other(format!("{} is an input, and is not replaced", shown(file)))),
+        false if is_there(path) && !force => {
+            Err(Failure::Other(format!("{} is there already; --force replaces it", shown(file))))
         }
-        Err(error) => return Err(Failure::of_file(file, &error)),
-    };
-    opened.write_all(bytes).map_err(|error| {
-        // A part of a file is worse than none.
-        if !there {
-            let _ = fs::remove_file(file);
-        }
-        Failure::of_file(file, &error)
-    })
+        false => Ok(()),
+    }
 }

@@ -81,7 +81,7 @@ pub fn lines(text: &str) -> Vec<Line<'_>> {
 }
 
 /// A line of numbers up to its comment.
-fn uncommented(line: &str) -> &str {
+pub fn uncommented(line: &str) -> &str {
     line.split('#').next().unwrap_or_default()
 }
 
@@ -100,7 +100,7 @@ fn decimals(lines: &[Line]) -> Result<Vec<u16>, String> {
     Ok(numbers)
 }
 
-fn decimal(word: &str) -> Result<u16, String> {
+pub fn decimal(word: &str) -> Result<u16, String> {
     let digits = word.bytes().all(|byte| byte.is_ascii_digit());
     let number = if digits { word.parse().ok() } else { None };
     number.ok_or_else(|| format!("'{}' is not a number from 0 to 65535", shortened(word)))

@@ -103,13 +103,7 @@ fn head(case: &Case, step: &Step) -> String {
 
 /// What came of the line.
 fn result(case: &Case, step: &Step) -> String {
-    match &step.event {
-        Event::Set(name, value) => format!("{} = {value}", case.names.called(*name)),
-        Event::Holds(words) => format!("holds: {words}"),
-        Event::Broken(words) => format!("BROKEN: {words}"),
-        Event::Skipped(words) => format!("skipped: {words}"),
-        Event::CutOff(words) => format!("CUT OFF: {words}"),
-    }
+    step.event.words(&case.names)
 }
 
 fn cell(svg: &mut Svg, case: &Case, step: &Step, place: [u32; 4]) {

@@ -7,7 +7,7 @@ use crate::json::{list, Json};
 use crate::run::Run;
 use crate::show;
 use crate::table::Row;
-use crate::walk::{Event, Step};
+use crate::walk::Step;
 use crate::words::item_name;
 
 /// An object: the fields that all have, and then its own.
@@ -36,7 +36,8 @@ pub fn fails(loaded: &Loaded, assignment: &str, constraint: u16, words: &[String
     object("check", &loaded.name, Status::Found, "fails", own)
 }
 
-pub fn replayed(loaded: &Loaded, schedule: &[u16], run: &Run) -> Json {
+/// A run; with `values` each of its steps has all items after the line.
+pub fn replayed(loaded: &Loaded, schedule: &[u16], run: &Run, values: bool) -> Json {
     let case = &loaded.case;
     let (answer, record) = match run.ending {
         Ending::Violated(record) => ("violated", Some(record)),
@@ -47,28 +48,25 @@ pub fn replayed(loaded: &Loaded, schedule: &[u16], run: &Run) -> Json {
         ("schedule", list(schedule.iter().copied())),
         ("record", record.into()),
         ("items", items(case, &run.items)),
-        ("steps", list(run.steps.iter().map(|step| self::step(case, step)))),
+        ("steps", list(run.steps.iter().map(|step| self::step(case, step, values)))),
     ];
     object("replay", &loaded.name, run.status(), answer, own)
 }
 
-fn step(case: &Case, step: &Step) -> Json {
-    let (event, words) = match &step.event {
-        Event::Set(name, value) => ("set", format!("{} = {value}", case.names.called(*name))),
-        Event::Holds(words) => ("holds", words.clone()),
-        Event::Broken(words) => ("broken", words.clone()),
-        Event::Skipped(words) => ("skipped", words.clone()),
-        Event::CutOff(words) => ("cut off", words.clone()),
-    };
-    Json::Object(vec![
+fn step(case: &Case, step: &Step, values: bool) -> Json {
+    let mut fields = vec![
         ("block", step.block.into()),
         ("thread", case.thread_of_block(step.block).into()),
         ("line", step.line.into()),
         ("record", step.record.into()),
         ("does", case.record(step.record).words(&case.names).into()),
-        ("event", event.into()),
-        ("words", words.into()),
-    ])
+        ("event", step.event.word().into()),
+        ("words", step.event.values(&case.names).into()),
+    ];
+    if values {
+        fields.push(("items", items(case, &step.items)));
+    }
+    Json::Object(fields)
 }
 
 pub fn listed(loaded: &Loaded) -> Json {

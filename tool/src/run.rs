@@ -3,7 +3,8 @@
 use crate::calls::{Ending, Loaded};
 use crate::case::Case;
 use crate::failure::{Failure, Status};
-use crate::walk::{walk, Event, Step};
+use crate::values;
+use crate::walk::{first_broken, walk, Event, Step, Walk};
 use crate::words::{count, items_in_words, record_in_words};
 
 /// A run: what the library says of it, and the lines for display.
@@ -13,10 +14,15 @@ pub struct Run {
     pub steps: Vec<Step>,
 }
 
-/// Replays a schedule by the library, and walks through it. Where the two disagree nothing is shown.
+/// Replays a schedule by the library, and walks through it.
 pub fn replay(loaded: &Loaded, name: &str, schedule: &[u16]) -> Result<Run, Failure> {
+    confirmed(loaded, name, schedule, || walk(&loaded.case, schedule))
+}
+
+/// Replays a schedule by the library, and then takes a walk through it. Where the two disagree nothing is shown.
+pub fn confirmed(loaded: &Loaded, name: &str, schedule: &[u16], walk: impl FnOnce() -> Walk) -> Result<Run, Failure> {
     let (ending, items) = loaded.replay(name, schedule)?;
-    let seen = walk(&loaded.case, schedule);
+    let seen = walk();
     if (seen.ending, &seen.items) != (ending, &items) {
         return Err(Failure::Other(format!(
             "THIS COMMAND IS WRONG: its display of the run disagrees with the proved library\n  \
@@ -57,11 +63,26 @@ impl Run {
 
     /// An assertion that is broken in a run that is cut off later.
     fn broken_in_vain(&self) -> Option<u16> {
-        let broken = self.steps.iter().find(|step| matches!(step.event, Event::Broken(_)));
-        broken.filter(|_| matches!(self.ending, Ending::CutOff(_))).map(|step| step.record)
+        first_broken(&self.steps).filter(|_| matches!(self.ending, Ending::CutOff(_)))
     }
 
     pub fn text(&self, case: &Case, schedule: &[u16]) -> String {
+        self.told(case, schedule, |_| String::new())
+    }
+
+    /// The same with all items after each line.
+    pub fn text_with_values(&self, case: &Case, schedule: &[u16]) -> String {
+        self.told(case, schedule, |place| {
+            let before = match place {
+                0 => case.items_at_start(),
+                _ => self.steps[place - 1].items.clone(),
+            };
+            values::lines(12, "items", &values::items(case, &before, &self.steps[place].items))
+        })
+    }
+
+    /// The run, with something more after each line.
+    fn told(&self, case: &Case, schedule: &[u16], more: impl Fn(usize) -> String) -> String {
         let width = self.steps.iter().map(|step| case.record(step.record).words(&case.names).len()).max().unwrap_or(0);
         let mut text = format!("start: {}\n", items_in_words(case, &case.items_at_start()));
         for (block, &length) in schedule[..=case.switches].iter().enumerate() {
@@ -71,15 +92,19 @@ impl Run {
             let thread = case.thread_of_block(block);
             let lines = count(usize::from(length), "line", "lines");
             text.push_str(&format!("block {block}: thread {thread}, {lines}\n"));
-            for step in self.steps.iter().filter(|step| step.block == block) {
-                text.push_str(&self.line(case, step, width));
+            for (place, step) in self.steps.iter().enumerate().filter(|(_, step)| step.block == block) {
+                text.push_str(&(line(case, step, width) + &more(place)));
             }
         }
-        text.push_str(&format!("end: {}\n{}\n", items_in_words(case, &self.items), verdict(case, self.ending)));
-        if let Some(record) = self.broken_in_vain() {
-            text.push_str(&format!("record {record} is broken too, but a run that is cut off is not legal: no violation\n"));
-        }
-        text
+        text + &format!("end: {}\n{}", items_in_words(case, &self.items), self.conclusion(case))
+    }
+
+    /// What the run comes to, in lines.
+    pub fn conclusion(&self, case: &Case) -> String {
+        let vain = self
+            .broken_in_vain()
+            .map(|record| format!("record {record} is broken too, but a run that is cut off is not legal: no violation\n"));
+        format!("{}\n{}", verdict(case, self.ending), vain.unwrap_or_default())
     }
 
     /// Whether the run was cut off in an earlier block.
@@ -87,21 +112,16 @@ impl Run {
         let last = self.steps.last().map_or(0, |step| step.block);
         matches!(self.ending, Ending::CutOff(_)) && last < block
     }
+}
 
-    fn line(&self, case: &Case, step: &Step, width: usize) -> String {
-        let words = case.record(step.record).words(&case.names);
-        let mark = match step.event {
-            Event::Broken(_) => ">>",
-            Event::CutOff(_) => "||",
-            _ => "  ",
-        };
-        let event = match &step.event {
-            Event::Set(name, value) => format!("{} = {value}", case.names.called(*name)),
-            Event::Holds(words) => format!("holds: {words}"),
-            Event::Broken(words) => format!("BROKEN: {words}"),
-            Event::Skipped(words) => format!("skipped: {words}"),
-            Event::CutOff(words) => format!("CUT OFF: {words}"),
-        };
-        format!("{mark} line {:>2}  record {:>3}  {words:width$}  {event}\n", step.line, step.record)
-    }
+/// A line that ran, and what came of it.
+pub fn line(case: &Case, step: &Step, width: usize) -> String {
+    let words = case.record(step.record).words(&case.names);
+    let mark = match step.event {
+        Event::Broken(_) => ">>",
+        Event::CutOff(_) => "||",
+        _ => "  ",
+    };
+    let event = step.event.words(&case.names);
+    format!("{mark} line {:>2}  record {:>3}  {words:width$}  {event}\n", step.line, step.record)
 }

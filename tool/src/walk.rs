@@ -3,7 +3,7 @@
 
 use crate::calls::Ending;
 use crate::case::{Case, Kind, Record, CONSTANT};
-use crate::names::Name;
+use crate::names::{Name, Names};
 use crate::words::item_name;
 
 /// What came of a line.
@@ -21,6 +21,37 @@ pub enum Event {
     CutOff(String),
 }
 
+impl Event {
+    /// What came of the line, in a word.
+    pub fn word(&self) -> &'static str {
+        match self {
+            Event::Set(..) => "set",
+            Event::Holds(_) => "holds",
+            Event::Broken(_) => "broken",
+            Event::Skipped(_) => "skipped",
+            Event::CutOff(_) => "cut off",
+        }
+    }
+
+    /// The values that show it.
+    pub fn values(&self, names: &Names) -> String {
+        match self {
+            Event::Set(name, value) => format!("{} = {value}", names.called(*name)),
+            Event::Holds(words) | Event::Broken(words) | Event::Skipped(words) | Event::CutOff(words) => words.clone(),
+        }
+    }
+
+    /// Both, as a run shows them; what is wrong is in capitals.
+    pub fn words(&self, names: &Names) -> String {
+        let (word, values) = (self.word(), self.values(names));
+        match self {
+            Event::Set(..) => values,
+            Event::Holds(_) | Event::Skipped(_) => format!("{word}: {values}"),
+            Event::Broken(_) | Event::CutOff(_) => format!("{}: {values}", word.to_uppercase()),
+        }
+    }
+}
+
 /// A line that ran.
 #[derive(Clone, Debug)]
 pub struct Step {
@@ -29,6 +60,8 @@ pub struct Step {
     pub line: usize,
     pub record: u16,
     pub event: Event,
+    /// All items after the line.
+    pub items: Vec<u16>,
 }
 
 /// A run as this walk sees it.
@@ -40,56 +73,86 @@ pub struct Walk {
 
 /// Walks through a schedule that the library took.
 pub fn walk(case: &Case, schedule: &[u16]) -> Walk {
-    let mut machine = Machine {
-        case,
-        inputs: schedule[case.switches + 1..].to_vec(),
-        lines: vec![0; case.threads],
-        locals: vec![[0; 16]; case.threads],
-        items: case.items_at_start(),
-    };
+    let mut machine = Machine::new(case, schedule[case.switches + 1..].to_vec());
     let mut steps: Vec<Step> = Vec::new();
-    let mut broken = None;
     for (block, &length) in schedule[..=case.switches].iter().enumerate() {
         for _ in 0..length {
             let Some(step) = machine.step(block) else {
                 break;
             };
-            let (record, event) = (step.record, step.event.clone());
             steps.push(step);
-            match event {
-                Event::CutOff(_) => return Walk { steps, ending: Ending::CutOff(record), items: machine.items },
-                Event::Broken(_) => broken = broken.or(Some(record)),
-                _ => {}
+            if is_cut_off(&steps) {
+                return Walk::of(case, steps);
             }
         }
     }
-    let ending = broken.map_or(Ending::Clean, Ending::Violated);
-    Walk { steps, ending, items: machine.items }
+    Walk::of(case, steps)
 }
 
-struct Machine<'a> {
+/// Whether the run ends with the last of these lines.
+pub fn is_cut_off(steps: &[Step]) -> bool {
+    steps.last().is_some_and(|step| matches!(step.event, Event::CutOff(_)))
+}
+
+/// The first line of a run that breaks an assertion.
+pub fn first_broken(steps: &[Step]) -> Option<u16> {
+    steps.iter().find(|step| matches!(step.event, Event::Broken(_))).map(|step| step.record)
+}
+
+impl Walk {
+    /// The walk that made these steps, and no more.
+    pub fn of(case: &Case, steps: Vec<Step>) -> Walk {
+        let ending = match steps.last() {
+            Some(last) if is_cut_off(&steps) => Ending::CutOff(last.record),
+            _ => first_broken(&steps).map_or(Ending::Clean, Ending::Violated),
+        };
+        let items = steps.last().map_or_else(|| case.items_at_start(), |last| last.items.clone());
+        Walk { steps, ending, items }
+    }
+}
+
+/// Threads and items between two lines.
+#[derive(Clone)]
+pub struct Machine<'a> {
     case: &'a Case,
-    inputs: Vec<u16>,
+    /// A value for each input line, by thread and then by chain.
+    pub inputs: Vec<u16>,
     /// How many lines each thread has run.
     lines: Vec<usize>,
-    locals: Vec<[u16; 16]>,
-    items: Vec<u16>,
+    pub locals: Vec<[u16; 16]>,
+    pub items: Vec<u16>,
 }
 
-impl Machine<'_> {
-    fn step(&mut self, block: usize) -> Option<Step> {
+impl<'a> Machine<'a> {
+    pub fn new(case: &'a Case, inputs: Vec<u16>) -> Machine<'a> {
+        let (lines, locals) = (vec![0; case.threads], vec![[0; 16]; case.threads]);
+        Machine { case, inputs, lines, locals, items: case.items_at_start() }
+    }
+
+    /// The records that a thread has not run yet.
+    pub fn left(&self, thread: usize) -> &'a [u16] {
+        &self.case.chains[thread][self.lines[thread]..]
+    }
+
+    /// Whether a record of this thread would run now, and would not be skipped.
+    pub fn guard_is_true(&self, record: &Record) -> bool {
+        record.guard_local().is_none_or(|local| record.guard_is_true(self.local(record.thread, local)))
+    }
+
+    /// Runs the next line of the block's thread.
+    pub fn step(&mut self, block: usize) -> Option<Step> {
         let thread = self.case.thread_of_block(block);
-        let number = *self.case.chains[thread].get(self.lines[thread])?;
+        let number = *self.left(thread).first()?;
         self.lines[thread] += 1;
         let record = *self.case.record(number);
         let event = match record.guard_local() {
-            Some(local) if !record.guard_is_true(self.local(thread, local)) => {
+            Some(local) if !self.guard_is_true(&record) => {
                 let name = self.case.names.called(record.local(local));
                 Event::Skipped(format!("{name} is {}", self.local(thread, local)))
             }
             _ => self.run(thread, &record),
         };
-        Some(Step { block, line: self.lines[thread], record: number, event })
+        Some(Step { block, line: self.lines[thread], record: number, event, items: self.items.clone() })
     }
 
     /// Runs a line whose guard is true.

@@ -35,7 +35,7 @@ pub fn run(_: &dyn Calls, report: &mut Report) {
 }
 
 /// A folder that goes when it is dropped.
-struct Folder(PathBuf);
+pub struct Folder(pub PathBuf);
 
 impl Drop for Folder {
     fn drop(&mut self) {

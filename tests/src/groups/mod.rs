@@ -2,7 +2,7 @@
 //! with the feature `proved`, else the second implementation itself. `mutants`
 //! leaves it aside and takes the second implementation with mistakes; `listing`
 //! holds it and the second implementation to what a program prints, and
-//! `answers` the command to the second implementation.
+//! `answers` and `step` the command to the second implementation.
 
 pub mod answers;
 mod case_a;
@@ -20,6 +20,7 @@ mod refusals_of_calls;
 mod runs;
 mod slices;
 mod solvers;
+mod step;
 mod tables;
 
 use crate::calls::Calls;
@@ -64,6 +65,10 @@ pub fn all() -> Vec<Group> {
     groups.push(Group {
         by_default: std::env::var_os(answers::PROGRAM).is_some(),
         ..group("answers", "the command in MENDUVO_COMMAND", answers::run)
+    });
+    groups.push(Group {
+        by_default: std::env::var_os(answers::PROGRAM).is_some(),
+        ..group("step", "runs by hand in MENDUVO_COMMAND", step::run)
     });
     groups
 }
