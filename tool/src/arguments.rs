@@ -1,12 +1,14 @@
 //! From the command's arguments to what is to be done.
 
+use crate::case::MOST_SWITCHES;
 use crate::failure::Failure;
 use crate::file::Filing;
 use crate::help::{named, Page};
 use crate::input::Source;
 use crate::keep::Keep;
 use crate::name::shown;
-use crate::solve::{Settings, Wanted};
+use crate::several::is_several;
+use crate::solve::{Asserts, Settings, Wanted};
 use crate::solver::Solver;
 use crate::verified::Verifying;
 use std::ffi::{OsStr, OsString};
@@ -113,12 +115,12 @@ fn call(parts: &mut Parts) -> Result<Call, Failure> {
         "demo" => Call::Demo,
         "list" => Call::List { cases: parts.cases()?, json: parts.has("--json") },
         "show" => Call::Show { cases: parts.cases()?, json: parts.has("--json") },
-        "check" => Call::Check { case: parts.next("CASE")?, assignment: parts.next("ASSIGNMENT")?, json: parts.has("--json") },
-        "decode" => Call::Decode { case: parts.next("CASE")?, assignment: parts.next("ASSIGNMENT")? },
-        "replay" => Call::Replay { case: parts.next("CASE")?, schedule: parts.next("SCHEDULE")?, json: parts.has("--json") },
+        "check" => Call::Check { case: parts.case()?, assignment: parts.next("ASSIGNMENT")?, json: parts.has("--json") },
+        "decode" => Call::Decode { case: parts.case()?, assignment: parts.next("ASSIGNMENT")? },
+        "replay" => Call::Replay { case: parts.case()?, schedule: parts.next("SCHEDULE")?, json: parts.has("--json") },
         "solve" => Call::Solve(wanted(parts)?),
         "picture" => Call::Picture {
-            case: parts.next("CASE")?,
+            case: parts.case()?,
             schedule: parts.next("SCHEDULE")?,
             file: parts.value("-o").filter(|file| !file.is_empty()).ok_or_else(|| parts.usage("-o FILE.svg is missing"))?,
             force: parts.has("--force"),
@@ -134,13 +136,31 @@ fn call(parts: &mut Parts) -> Result<Call, Failure> {
 }
 
 fn wanted(parts: &mut Parts) -> Result<Wanted, Failure> {
+    let cases = parts.cases()?;
+    let asserts = parts.asserts()?;
+    if asserts != Asserts::All {
+        let option = if asserts == Asserts::Each { "--each" } else { "--assert" };
+        if is_several(&cases) {
+            return Err(parts.usage(&format!("{option} takes one case")));
+        }
+        if let Some(keep) = ["--keep", "--resume"].into_iter().find(|keep| parts.has(keep)) {
+            let why = "an assignment of the case with one assert alone is none of the case";
+            return Err(parts.usage(&format!("{option} and {keep} exclude each other: {why}")));
+        }
+    }
+    if parts.has("--short") && parts.has("--resume") {
+        return Err(parts.usage("--short and --resume exclude each other: a run that is filed stays as it is"));
+    }
     Ok(Wanted {
-        cases: parts.cases()?,
+        cases,
         settings: settings(parts)?,
         jobs: parts.jobs()?,
         keep: parts.keep()?,
         strict: parts.has("--strict"),
         json: parts.has("--json"),
+        least: parts.least()?,
+        asserts,
+        short: parts.has("--short"),
     })
 }
 
@@ -185,11 +205,27 @@ impl Parts {
         }
     }
 
-    /// All operands, at least one.
+    /// The operand that is a case, with the n that was chosen.
+    fn case(&mut self) -> Result<Source, Failure> {
+        Ok(self.next("CASE")?.with_switches(self.number("--switches")?))
+    }
+
+    /// All operands, at least one, with the n that was chosen.
     fn cases(&mut self) -> Result<Vec<Source>, Failure> {
-        let mut cases = vec![self.next("CASE")?];
-        cases.extend(self.operands.by_ref());
-        Ok(cases)
+        let (first, switches) = (self.case()?, self.number("--switches")?);
+        let others = self.operands.by_ref().map(|case| case.with_switches(switches));
+        Ok(std::iter::once(first).chain(others).collect())
+    }
+
+    /// The value of an option that takes a number of 16 bits.
+    fn number(&self, name: &str) -> Result<Option<u16>, Failure> {
+        let Some(text) = self.text(name) else {
+            return Ok(None);
+        };
+        match text.parse() {
+            Ok(number) if text.bytes().all(|byte| byte.is_ascii_digit()) => Ok(Some(number)),
+            _ => Err(self.usage(&format!("{name} needs a number from 0 to 65535, and not '{text}'"))),
+        }
     }
 
     fn has(&self, name: &str) -> bool {
@@ -229,6 +265,26 @@ impl Parts {
         match text.parse::<f64>() {
             Ok(seconds) if plain && seconds <= 1e9 => Ok(Some((seconds > 0.0).then(|| Duration::from_secs_f64(seconds)))),
             _ => Err(self.usage(&format!("--timeout needs seconds, 0 for none, and not '{text}'"))),
+        }
+    }
+
+    /// The n up to which --least looks: that of --switches, or the largest.
+    fn least(&self) -> Result<Option<u16>, Failure> {
+        let most = self.number("--switches")?.unwrap_or(MOST_SWITCHES);
+        match self.has("--least") {
+            true if most > MOST_SWITCHES => {
+                Err(self.usage(&format!("--least looks up to n = {MOST_SWITCHES}, the largest of a case, and not to {most}")))
+            }
+            least => Ok(least.then_some(most)),
+        }
+    }
+
+    fn asserts(&self) -> Result<Asserts, Failure> {
+        match (self.number("--assert")?, self.has("--each")) {
+            (Some(_), true) => Err(self.usage("--assert and --each exclude each other")),
+            (Some(record), false) => Ok(Asserts::One(record)),
+            (None, true) => Ok(Asserts::Each),
+            (None, false) => Ok(Asserts::All),
         }
     }
 

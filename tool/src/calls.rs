@@ -19,6 +19,8 @@ pub struct Loaded {
     pub stem: OsString,
     pub case: Case,
     pub table: Table,
+    /// The one assert that is asked about, and the case before the others were made 1.
+    pub alone: Option<(u16, Box<Loaded>)>,
 }
 
 /// What a run comes to.
@@ -62,7 +64,7 @@ impl Loaded {
         let Some(case) = Case::of(bytes) else {
             return Err(Failure::Other(format!("{name}: the library accepted a case of a size that this command cannot read")));
         };
-        Ok(Loaded { name, stem, case, table: Table { rows, variables } })
+        Ok(Loaded { name, stem, case, table: Table { rows, variables }, alone: None })
     }
 
     /// Another case in the place of this one, under its name.

@@ -1,5 +1,6 @@
 //! Reading files. `-` is standard input. Nothing is read beyond what could be of use, so that an endless input ends too.
 
+use crate::case::set_switches;
 use crate::failure::Failure;
 use crate::name::shown;
 use std::ffi::{OsStr, OsString};
@@ -12,13 +13,31 @@ const MOST_TEXT_BYTES: usize = 1 << 20;
 /// The most bytes of a file that is kept as it is.
 const MOST_FILE_BYTES: usize = 1 << 26;
 
-/// Where an input comes from.
+/// Where an input comes from; and of a case the n that it gets in the place of its own, where one was chosen.
 #[derive(Clone, Debug, PartialEq, Eq)]
-pub struct Source(OsString);
+pub struct Source(OsString, Option<u16>);
 
 impl Source {
     pub fn new(argument: &OsStr) -> Source {
-        Source(argument.to_os_string())
+        Source(argument.to_os_string(), None)
+    }
+
+    /// The same input, as a case with this n.
+    pub fn with_switches(self, switches: Option<u16>) -> Source {
+        Source(self.0, switches)
+    }
+
+    /// The n that was chosen.
+    pub fn switches(&self) -> Option<u16> {
+        self.1
+    }
+
+    /// The name for messages, and the n that was chosen.
+    pub fn name_and_bound(&self) -> String {
+        match self.1 {
+            None => self.name(),
+            Some(switches) => format!("{} with n = {switches}", self.name()),
+        }
     }
 
     pub fn is_standard_input(&self) -> bool {
@@ -33,10 +52,15 @@ impl Source {
         }
     }
 
-    /// What files that are made from this one are named after: its own name, byte by byte, without folder and ending.
+    /// What files that are made from this one are named after: its own name, byte by byte, without folder and ending, and with
+    /// the n that was chosen, so that the answers at several n stand beside each other.
     pub fn stem(&self) -> OsString {
         let stem = Path::new(&self.0).file_stem().filter(|_| !self.is_standard_input());
-        stem.unwrap_or_else(|| OsStr::new("case")).to_os_string()
+        let mut stem = stem.unwrap_or_else(|| OsStr::new("case")).to_os_string();
+        if let Some(switches) = self.1 {
+            stem.push(format!("-n{switches}"));
+        }
+        stem
     }
 
     pub fn is_folder(&self) -> bool {
@@ -49,7 +73,11 @@ impl Source {
 
     /// The bytes of a case. Of one that is too long, one byte more than the longest has: enough for the library to refuse it.
     pub fn case_bytes(&self) -> Result<Vec<u8>, Failure> {
-        self.read(menduvo::MOST_CASE_BYTES + 1)
+        let mut bytes = self.read(menduvo::MOST_CASE_BYTES + 1)?;
+        if let Some(switches) = self.1 {
+            set_switches(&mut bytes, switches);
+        }
+        Ok(bytes)
     }
 
     /// The text of an assignment or a schedule.

@@ -2,6 +2,7 @@
 //! starts a solver.
 #![forbid(unsafe_code)]
 
+mod alone;
 mod answer_file;
 mod arguments;
 mod calls;
@@ -9,6 +10,7 @@ mod case;
 mod commands;
 mod demo;
 mod diagnosis;
+mod each;
 mod failure;
 mod file;
 mod filed;
@@ -19,6 +21,7 @@ mod input;
 mod json;
 mod keep;
 mod kept;
+mod least;
 mod manifest;
 mod meaning;
 mod name;
@@ -39,6 +42,7 @@ mod run;
 mod said;
 mod several;
 mod sha256;
+mod short;
 mod show;
 mod smt;
 mod solve;

@@ -1,0 +1,252 @@
+//! `solve --least`: the smallest n with a violation. The case with another n is a case as any other, and is asked, checked and kept
+//! as one. A schedule that violates does so at every larger n, with empty blocks behind it: so n goes up from 0, and ends at the
+//! first violation.
+
+use crate::calls::Loaded;
+use crate::case::set_switches;
+use crate::case::MOST_SWITCHES;
+use crate::failure::{note, Failure, Status};
+use crate::input::Source;
+use crate::json::{list, Json};
+use crate::output::Output;
+use crate::said::Said;
+use crate::several::{self, Columns};
+use crate::solve::{Asking, Solved, Wanted};
+use crate::summary::{answer, load, Summary};
+use crate::told;
+
+/// What came of the case with this n.
+pub struct Step {
+    pub switches: u16,
+    pub summary: Summary,
+    /// Whether there is a run that breaks an assertion: also where a solver denies it.
+    found: bool,
+}
+
+/// What came of the search.
+pub struct Least {
+    most: u16,
+    /// With n from 0.
+    steps: Vec<Step>,
+    /// The case with the last n, and all that came of it where it was not filed before.
+    pub loaded: Loaded,
+    pub solved: Option<Solved>,
+}
+
+const COLUMNS: Columns = Columns { first: "n", width: 2 };
+
+/// `solve CASE --least`.
+pub fn one(source: &Source, wanted: &Wanted, output: &mut Output) -> Result<Status, Failure> {
+    let first = match begin(source, wanted).and_then(|first| first.with_assert_alone(wanted.assert())) {
+        Ok(first) => first,
+        Err(failure) => return Said::failed("solve", source, source, failure, wanted.json).tell(output),
+    };
+    let (asking, _) = several::prepared(wanted, true, output)?;
+    if !wanted.json {
+        output.say(&format!("{}\n{}", question(source, &first, wanted), COLUMNS.head()))?;
+    }
+    let least = search(first.whole(), source, wanted.assert(), wanted, &asking, &mut |step| {
+        output.say(&match wanted.json {
+            true => format!("{}\n", step.summary.json),
+            false => COLUMNS.line(&step.switches.to_string(), &step.summary),
+        })
+    })?;
+    let status = least.status(wanted.strict);
+    output.say(&match wanted.json {
+        true => format!("{}\n", least.object(wanted.strict)),
+        false => format!("{}{}\n", least.shown(&asking), least.sentence()),
+    })?;
+    if let Some(message) = least.message() {
+        note(&message);
+    }
+    Status::of(status)
+}
+
+/// The case with n = 0: whether a case is taken depends on n only where n is too large.
+pub fn begin(source: &Source, wanted: &Wanted) -> Result<Loaded, Failure> {
+    load(&source.clone().with_switches(Some(0)), wanted)
+}
+
+/// `solve --least` on one case among several.
+pub fn answered(source: &Source, wanted: &Wanted, asking: &Asking) -> Result<Summary, Failure> {
+    let first = begin(source, wanted)?;
+    let least = search(&first, source, wanted.assert(), wanted, asking, &mut |_| Ok(()))?;
+    Ok(least.summary(wanted.strict))
+}
+
+fn question(source: &Source, first: &Loaded, wanted: &Wanted) -> String {
+    let most = wanted.least.unwrap_or(MOST_SWITCHES);
+    let alone = first.alone.as_ref().map(|(record, _)| format!(", of record {record} alone")).unwrap_or_default();
+    format!("{}: the smallest n with a violation{alone}, up to {most}", source.name())
+}
+
+/// Asks at n = 0, 1, 2, .., and tells each answer as it is known. An n without an answer ends nothing.
+pub fn search(
+    first: &Loaded,
+    source: &Source,
+    assert: Option<u16>,
+    wanted: &Wanted,
+    asking: &Asking,
+    tell: &mut dyn FnMut(&Step) -> Result<(), Failure>,
+) -> Result<Least, Failure> {
+    let most = wanted.least.unwrap_or(MOST_SWITCHES);
+    let mut steps: Vec<Step> = Vec::new();
+    let mut switches = 0;
+    loop {
+        let source = source.clone().with_switches(Some(switches));
+        let mut bytes = first.case.bytes.clone();
+        set_switches(&mut bytes, switches);
+        let loaded = Loaded::of(&source, bytes)?.with_assert_alone(assert)?;
+        let answered = answer(&loaded, wanted, asking);
+        let (summary, solved) = answered.unwrap_or_else(|failure| (Summary::of_failure(&source, &failure), None));
+        let found = summary.word == "violated" || solved.as_ref().is_some_and(|solved| solved.verdict.found().is_some());
+        let step = Step { switches, summary, found };
+        tell(&step)?;
+        steps.push(step);
+        if found || switches == most {
+            return Ok(Least { most, steps, loaded, solved });
+        }
+        switches += 1;
+    }
+}
+
+impl Step {
+    /// Whether the solvers deny a violation at this n.
+    fn is_unsat(&self) -> bool {
+        matches!(self.summary.word.as_str(), "unsat" | "vacuous")
+    }
+
+    fn is_open(&self) -> bool {
+        !self.found && !self.is_unsat()
+    }
+}
+
+impl Least {
+    /// The step that has a run.
+    fn found(&self) -> Option<&Step> {
+        self.steps.iter().find(|step| step.found)
+    }
+
+    /// The step that says what comes of the whole: a run, or why there is no answer, or the largest n.
+    fn deciding(&self) -> Option<&Step> {
+        let open = || self.steps.iter().find(|step| step.is_open());
+        self.found().or_else(open).or(self.steps.last())
+    }
+
+    /// The smallest n with a violation, where every smaller one is known to have none.
+    fn first(&self) -> Option<u16> {
+        let known = self.steps.iter().all(|step| !step.is_open());
+        self.found().filter(|step| known && step.summary.word == "violated").map(|step| step.switches)
+    }
+
+    fn those(&self, wanted: impl Fn(&Step) -> bool) -> Vec<u16> {
+        self.steps.iter().filter(|step| wanted(step)).map(|step| step.switches).collect()
+    }
+
+    /// The exit status. A strict one goes by the largest n: at a small one nothing may be reached.
+    pub fn status(&self, strict: bool) -> i32 {
+        self.deciding().map_or(Failure::STATUS_OTHER, |step| step.summary.status(strict))
+    }
+
+    /// `first at n = 3; unsat at 0, 1, 2`. It is the first only where every smaller n has an answer.
+    pub fn sentence(&self) -> String {
+        let (unsat, vacuous) = (self.those(Step::is_unsat), self.those(|step| step.summary.word == "vacuous"));
+        let open: Vec<String> = self.steps.iter().filter(|step| step.is_open()).map(Step::open_in_words).collect();
+        let found = match (self.found(), self.first()) {
+            (_, Some(first)) => Some(format!("first at n = {first}")),
+            (Some(step), None) if step.summary.word == "disagree" => {
+                Some(format!("a violation at n = {}, which a solver denies", step.switches))
+            }
+            (Some(step), None) => Some(format!("a violation at n = {}", step.switches)),
+            (None, _) if !open.is_empty() => Some("no violation found".to_string()),
+            (None, _) => None,
+        };
+        let nothing = (!vacuous.is_empty()).then(|| format!(" ({}: nothing was checked)", in_words(&vacuous)));
+        let denied = format!("unsat at {}{}", in_words(&unsat), nothing.unwrap_or_default());
+        let denied = match found {
+            None if vacuous == unsat => format!("nothing was checked at {}: every unsat is vacuous", in_words(&unsat)),
+            None if self.most == MOST_SWITCHES => format!("{denied}: no violation up to the largest n"),
+            None => format!("{denied}: no violation up to n = {}", self.most),
+            Some(_) => denied,
+        };
+        let open = (!open.is_empty()).then(|| format!("not known at {}", open.join(", ")));
+        let parts = [found, (!unsat.is_empty()).then_some(denied), open];
+        parts.into_iter().flatten().collect::<Vec<_>>().join("; ")
+    }
+
+    /// The run, or what the unsat at the largest n means; nothing where that was filed before, or has no answer.
+    fn shown(&self, asking: &Asking) -> String {
+        let Least { loaded, solved, .. } = self;
+        match (solved, self.steps.last()) {
+            (Some(solved), Some(step)) if !step.is_open() => format!(
+                "with n = {}:\n{}{}{}",
+                step.switches,
+                told::answer(loaded, &asking.names(), &solved.verdict),
+                told::asserts(loaded, &solved.reach),
+                told::warning(solved)
+            ),
+            _ => String::new(),
+        }
+    }
+
+    /// What failed, in full: that of the first n that has no answer.
+    fn message(&self) -> Option<String> {
+        let step = self.steps.iter().find(|step| step.summary.message.is_some())?;
+        step.summary.message.as_ref().map(|message| format!("at n = {}: {message}", step.switches))
+    }
+
+    /// The case's line among several.
+    pub fn summary(&self, strict: bool) -> Summary {
+        let deciding = self.deciding().map(|step| step.summary.clone());
+        let mut summary = deciding.unwrap_or_else(|| unreachable!("n = 0 is always asked"));
+        summary.note = match self.found() {
+            Some(_) => format!("{}; {}", self.sentence(), summary.note),
+            None => self.sentence(),
+        };
+        summary.seconds = self.steps.iter().map(|step| step.summary.seconds).sum();
+        summary.message = self.message();
+        let objects = self.steps.iter().map(|step| step.summary.json.clone());
+        summary.json = objects.chain([self.object(strict).to_string()]).collect::<Vec<_>>().join("\n");
+        summary
+    }
+
+    /// The object that follows those of each n.
+    fn object(&self, strict: bool) -> Json {
+        let open =
+            self.steps.iter().filter(|step| step.is_open()).map(|step| {
+                Json::Object(vec![("switches", step.switches.into()), ("answer", step.summary.word.as_str().into())])
+            });
+        let mut fields = vec![
+            ("command", "solve".into()),
+            ("case", self.loaded.name.as_str().into()),
+            ("status", self.status(strict).into()),
+            ("answer", self.deciding().map(|step| step.summary.word.as_str()).into()),
+            ("least", true.into()),
+            ("most", self.most.into()),
+            ("first", self.first().into()),
+            ("violated", self.found().map(|step| step.switches).into()),
+            ("unsat", list(self.those(Step::is_unsat))),
+            ("vacuous", list(self.those(|step| step.summary.word == "vacuous"))),
+            ("notKnown", Json::List(open.collect())),
+            ("note", self.sentence().into()),
+        ];
+        fields.extend(self.loaded.alone.as_ref().map(|(record, _)| ("assert", (*record).into())));
+        Json::Object(fields)
+    }
+}
+
+impl Step {
+    fn open_in_words(&self) -> String {
+        format!("{} ({})", self.switches, self.summary.word)
+    }
+}
+
+/// `0, 1, 2`; `0 to 15`; `0 to 3, 5`: four or more in a row by their ends.
+fn in_words(numbers: &[u16]) -> String {
+    let rows = numbers.chunk_by(|one, next| one + 1 == *next);
+    let words = rows.flat_map(|row| match row {
+        [first, _, _, .., last] if row.len() > 3 => vec![format!("{first} to {last}")],
+        _ => row.iter().map(u16::to_string).collect(),
+    });
+    words.collect::<Vec<_>>().join(", ")
+}
