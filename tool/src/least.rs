@@ -3,8 +3,7 @@
 //! first violation.
 
 use crate::calls::Loaded;
-use crate::case::set_switches;
-use crate::case::MOST_SWITCHES;
+use crate::case::{set_switches, MOST_SWITCHES};
 use crate::failure::{note, Failure, Status};
 use crate::input::Source;
 use crate::json::{list, Json};
@@ -26,8 +25,9 @@ pub struct Step {
 /// What came of the search.
 pub struct Least {
     most: u16,
-    /// With n from 0.
-    steps: Vec<Step>,
+    /// The steps before the last, with n from 0. None of them has a run.
+    earlier: Vec<Step>,
+    last: Step,
     /// The case with the last n, and all that came of it where it was not filed before.
     pub loaded: Loaded,
     pub solved: Option<Solved>,
@@ -90,7 +90,7 @@ pub fn search(
     tell: &mut dyn FnMut(&Step) -> Result<(), Failure>,
 ) -> Result<Least, Failure> {
     let most = wanted.least.unwrap_or(MOST_SWITCHES);
-    let mut steps: Vec<Step> = Vec::new();
+    let mut earlier: Vec<Step> = Vec::new();
     let mut switches = 0;
     loop {
         let source = source.clone().with_switches(Some(switches));
@@ -102,10 +102,10 @@ pub fn search(
         let found = summary.word == "violated" || solved.as_ref().is_some_and(|solved| solved.verdict.found().is_some());
         let step = Step { switches, summary, found };
         tell(&step)?;
-        steps.push(step);
         if found || switches == most {
-            return Ok(Least { most, steps, loaded, solved });
+            return Ok(Least { most, earlier, last: step, loaded, solved });
         }
+        earlier.push(step);
         switches += 1;
     }
 }
@@ -116,128 +116,136 @@ impl Step {
         matches!(self.summary.word.as_str(), "unsat" | "vacuous")
     }
 
+    fn is_vacuous(&self) -> bool {
+        self.summary.word == "vacuous"
+    }
+
+    /// Whether there is no answer at this n.
     fn is_open(&self) -> bool {
         !self.found && !self.is_unsat()
     }
 }
 
 impl Least {
-    /// The step that has a run.
-    fn found(&self) -> Option<&Step> {
-        self.steps.iter().find(|step| step.found)
+    fn steps(&self) -> impl Iterator<Item = &Step> {
+        self.earlier.iter().chain([&self.last])
+    }
+
+    fn those(&self, wanted: fn(&Step) -> bool) -> Vec<u16> {
+        self.steps().filter(|step| wanted(step)).map(|step| step.switches).collect()
     }
 
     /// The step that says what comes of the whole: a run, or why there is no answer, or the largest n.
-    fn deciding(&self) -> Option<&Step> {
-        let open = || self.steps.iter().find(|step| step.is_open());
-        self.found().or_else(open).or(self.steps.last())
+    fn deciding(&self) -> &Step {
+        let open = self.earlier.iter().find(|step| step.is_open());
+        open.filter(|_| !self.last.found).unwrap_or(&self.last)
+    }
+
+    /// The n of a run.
+    fn violated(&self) -> Option<u16> {
+        self.last.found.then_some(self.last.switches)
     }
 
     /// The smallest n with a violation, where every smaller one is known to have none.
     fn first(&self) -> Option<u16> {
-        let known = self.steps.iter().all(|step| !step.is_open());
-        self.found().filter(|step| known && step.summary.word == "violated").map(|step| step.switches)
-    }
-
-    fn those(&self, wanted: impl Fn(&Step) -> bool) -> Vec<u16> {
-        self.steps.iter().filter(|step| wanted(step)).map(|step| step.switches).collect()
+        let known = self.last.summary.word == "violated" && !self.steps().any(Step::is_open);
+        self.violated().filter(|_| known)
     }
 
     /// The exit status. A strict one goes by the largest n: at a small one nothing may be reached.
-    pub fn status(&self, strict: bool) -> i32 {
-        self.deciding().map_or(Failure::STATUS_OTHER, |step| step.summary.status(strict))
+    fn status(&self, strict: bool) -> i32 {
+        self.deciding().summary.status(strict)
     }
 
     /// `first at n = 3; unsat at 0, 1, 2`. It is the first only where every smaller n has an answer.
     pub fn sentence(&self) -> String {
-        let (unsat, vacuous) = (self.those(Step::is_unsat), self.those(|step| step.summary.word == "vacuous"));
-        let open: Vec<String> = self.steps.iter().filter(|step| step.is_open()).map(Step::open_in_words).collect();
-        let found = match (self.found(), self.first()) {
-            (_, Some(first)) => Some(format!("first at n = {first}")),
-            (Some(step), None) if step.summary.word == "disagree" => {
-                Some(format!("a violation at n = {}, which a solver denies", step.switches))
-            }
-            (Some(step), None) => Some(format!("a violation at n = {}", step.switches)),
-            (None, _) if !open.is_empty() => Some("no violation found".to_string()),
-            (None, _) => None,
+        let open = self.steps().filter(|step| step.is_open());
+        let open: Vec<String> = open.map(|step| format!("{} ({})", step.switches, step.summary.word)).collect();
+        let found = match (self.violated(), self.first()) {
+            (_, Some(first)) => format!("first at n = {first}"),
+            (Some(n), None) if open.is_empty() => format!("a violation at n = {n}, which a solver denies"),
+            (Some(n), None) => format!("a violation at n = {n}"),
+            (None, None) if open.is_empty() => return self.nothing(),
+            (None, None) => "no violation found".to_string(),
         };
-        let nothing = (!vacuous.is_empty()).then(|| format!(" ({}: nothing was checked)", in_words(&vacuous)));
-        let denied = format!("unsat at {}{}", in_words(&unsat), nothing.unwrap_or_default());
-        let denied = match found {
-            None if vacuous == unsat => format!("nothing was checked at {}: every unsat is vacuous", in_words(&unsat)),
-            None if self.most == MOST_SWITCHES => format!("{denied}: no violation up to the largest n"),
-            None => format!("{denied}: no violation up to n = {}", self.most),
-            Some(_) => denied,
-        };
+        let unsat = self.those(Step::is_unsat);
+        let unsat = (!unsat.is_empty()).then(|| self.unsat_in_words());
         let open = (!open.is_empty()).then(|| format!("not known at {}", open.join(", ")));
-        let parts = [found, (!unsat.is_empty()).then_some(denied), open];
-        parts.into_iter().flatten().collect::<Vec<_>>().join("; ")
+        [Some(found), unsat, open].into_iter().flatten().collect::<Vec<_>>().join("; ")
+    }
+
+    /// The same where every n is unsat.
+    fn nothing(&self) -> String {
+        let (unsat, most) = (self.those(Step::is_unsat), self.most);
+        match most == MOST_SWITCHES {
+            _ if self.those(Step::is_vacuous) == unsat => {
+                format!("nothing was checked at {}: every unsat is vacuous", in_words(&unsat))
+            }
+            true => format!("{}: no violation up to the largest n", self.unsat_in_words()),
+            false => format!("{}: no violation up to n = {most}", self.unsat_in_words()),
+        }
+    }
+
+    fn unsat_in_words(&self) -> String {
+        let (unsat, vacuous) = (in_words(&self.those(Step::is_unsat)), in_words(&self.those(Step::is_vacuous)));
+        match vacuous.is_empty() {
+            true => format!("unsat at {unsat}"),
+            false => format!("unsat at {unsat} ({vacuous}: nothing was checked)"),
+        }
     }
 
     /// The run, or what the unsat at the largest n means; nothing where that was filed before, or has no answer.
     fn shown(&self, asking: &Asking) -> String {
-        let Least { loaded, solved, .. } = self;
-        match (solved, self.steps.last()) {
-            (Some(solved), Some(step)) if !step.is_open() => format!(
-                "with n = {}:\n{}{}{}",
-                step.switches,
-                told::answer(loaded, &asking.names(), &solved.verdict),
-                told::asserts(loaded, &solved.reach),
-                told::warning(solved)
-            ),
-            _ => String::new(),
-        }
+        let Least { loaded, last, .. } = self;
+        let Some(solved) = self.solved.as_ref().filter(|_| !last.is_open()) else {
+            return String::new();
+        };
+        let answer = told::answer(loaded, &asking.names(), &solved.verdict);
+        let asserts = told::asserts(loaded, &solved.reach);
+        format!("with n = {}:\n{answer}{asserts}{}", last.switches, told::warning(solved))
     }
 
-    /// What failed, in full: that of the first n that has no answer.
+    /// What failed, in full: at the first n that has no answer.
     fn message(&self) -> Option<String> {
-        let step = self.steps.iter().find(|step| step.summary.message.is_some())?;
-        step.summary.message.as_ref().map(|message| format!("at n = {}: {message}", step.switches))
+        let mut messages = self.steps().filter_map(|step| Some((step.switches, step.summary.message.as_ref()?)));
+        messages.next().map(|(switches, message)| format!("at n = {switches}: {message}"))
     }
 
     /// The case's line among several.
     pub fn summary(&self, strict: bool) -> Summary {
-        let deciding = self.deciding().map(|step| step.summary.clone());
-        let mut summary = deciding.unwrap_or_else(|| unreachable!("n = 0 is always asked"));
-        summary.note = match self.found() {
-            Some(_) => format!("{}; {}", self.sentence(), summary.note),
-            None => self.sentence(),
+        let deciding = self.deciding().summary.clone();
+        let note = match self.last.found {
+            true => format!("{}; {}", self.sentence(), deciding.note),
+            false => self.sentence(),
         };
-        summary.seconds = self.steps.iter().map(|step| step.summary.seconds).sum();
-        summary.message = self.message();
-        let objects = self.steps.iter().map(|step| step.summary.json.clone());
-        summary.json = objects.chain([self.object(strict).to_string()]).collect::<Vec<_>>().join("\n");
-        summary
+        let seconds = self.steps().map(|step| step.summary.seconds).sum();
+        let objects = self.steps().map(|step| step.summary.json.clone()).chain([self.object(strict).to_string()]);
+        let json = objects.collect::<Vec<_>>().join("\n");
+        Summary { note, seconds, json, message: self.message(), ..deciding }
     }
 
     /// The object that follows those of each n.
     fn object(&self, strict: bool) -> Json {
-        let open =
-            self.steps.iter().filter(|step| step.is_open()).map(|step| {
-                Json::Object(vec![("switches", step.switches.into()), ("answer", step.summary.word.as_str().into())])
-            });
+        let open = self
+            .steps()
+            .filter(|step| step.is_open())
+            .map(|step| Json::Object(vec![("switches", step.switches.into()), ("answer", step.summary.word.as_str().into())]));
         let mut fields = vec![
             ("command", "solve".into()),
             ("case", self.loaded.name.as_str().into()),
-            ("status", self.status(strict).into()),
-            ("answer", self.deciding().map(|step| step.summary.word.as_str()).into()),
             ("least", true.into()),
+            ("status", self.status(strict).into()),
+            ("answer", self.deciding().summary.word.as_str().into()),
             ("most", self.most.into()),
             ("first", self.first().into()),
-            ("violated", self.found().map(|step| step.switches).into()),
+            ("violated", self.violated().into()),
             ("unsat", list(self.those(Step::is_unsat))),
-            ("vacuous", list(self.those(|step| step.summary.word == "vacuous"))),
+            ("vacuous", list(self.those(Step::is_vacuous))),
             ("notKnown", Json::List(open.collect())),
             ("note", self.sentence().into()),
         ];
         fields.extend(self.loaded.alone.as_ref().map(|(record, _)| ("assert", (*record).into())));
         Json::Object(fields)
-    }
-}
-
-impl Step {
-    fn open_in_words(&self) -> String {
-        format!("{} ({})", self.switches, self.summary.word)
     }
 }
 

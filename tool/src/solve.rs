@@ -148,7 +148,7 @@ impl Wanted {
         // These are many questions, whatever the limit of the first.
         let limit = self.settings.limit.unwrap_or(Some(LIMIT_OF_MANY));
         let many = Asking { limit, ..asking.clone() };
-        solve_and(loaded, asking, asking, &|verdict| short::shortened(loaded, &many, verdict), tell)
+        solve_and(loaded, asking, asking, Some(&|verdict| short::shortened(loaded, &many, verdict)), tell)
     }
 }
 
@@ -159,15 +159,15 @@ pub fn solve(loaded: &Loaded, asking: &Asking, tell: &mut dyn FnMut(&Verdict)) -
 
 /// The same, where one answers the case's own question, and another whether its asserts are reached.
 pub fn solve_by(loaded: &Loaded, first: &dyn Ask, others: &dyn Ask, tell: &mut dyn FnMut(&Verdict)) -> Result<Solved, Failure> {
-    solve_and(loaded, first, others, &|verdict| verdict, tell)
+    solve_and(loaded, first, others, None, tell)
 }
 
-/// The same, where something else is made of the answer before it is told.
+/// The same, where something else is made of a violation: it is told as it is, and then what was made of it.
 fn solve_and(
     loaded: &Loaded,
     first: &dyn Ask,
     others: &dyn Ask,
-    made: &dyn Fn(Verdict) -> Verdict,
+    made: Option<&dyn Fn(Verdict) -> Verdict>,
     tell: &mut dyn FnMut(&Verdict),
 ) -> Result<Solved, Failure> {
     let begin = Instant::now();
@@ -175,8 +175,12 @@ fn solve_and(
     let (asked, verdict, reach) = thread::scope(|scope| {
         let aside = scope.spawn(|| Reach::of(loaded, others));
         let asked = first.ask(&text, loaded.table.variables);
-        let verdict = made(verdict(loaded, &asked));
+        let mut verdict = verdict(loaded, &asked);
         tell(&verdict);
+        if let (Some(made), Verdict::Violated(_)) = (made, &verdict) {
+            verdict = made(verdict);
+            tell(&verdict);
+        }
         let reach = aside.join().unwrap_or_else(|_| Err(Failure::Other("the search for reached asserts failed".to_string())));
         (asked, verdict, reach)
     });

@@ -31,7 +31,13 @@ pub fn one(source: &Source, wanted: &Wanted, output: &mut Output) -> Result<Stat
     let names = asking.names();
     let mut told = Ok(());
     let solved = wanted.solve(&loaded, &asking, &mut |verdict| {
-        told = output.say(&answer(&loaded, &names, verdict));
+        let text = match verdict {
+            Verdict::Violated(found) if wanted.short && found.short.is_none() => not_yet_short(&loaded, found),
+            _ => answer(&loaded, &names, verdict),
+        };
+        if told.is_ok() {
+            told = output.say(&text);
+        }
         if let (Err(failure), None) = (&told, &wanted.keep) {
             // Nobody waits for the rest, which may take long. The guard ends what is still asked.
             failure.report();
@@ -94,6 +100,16 @@ fn violated(loaded: &Loaded, solvers: &[&str], found: &Found) -> String {
         numbers_in_lines(schedule),
         run.text(&loaded.whole().case, schedule),
         short.as_ref().map(|short| short.text(&loaded.case, solvers)).unwrap_or_default()
+    )
+}
+
+/// The run that was found first, in short: making it short may take long, or be ended.
+fn not_yet_short(loaded: &Loaded, found: &Found) -> String {
+    let Found { solver, schedule, run, .. } = found;
+    let broken = loaded.broken_in_words(run);
+    format!(
+        "{solver} says sat, and a run is found: {broken}; schedule {}a shorter one is asked for\n",
+        numbers_in_lines(schedule)
     )
 }
 
