@@ -148,7 +148,7 @@ CASES
 open() {
     local words='a violation at n = 4; unsat at 0, 1, 2 (0: nothing was checked); not known at 3'
     asked_z3 '; 66 constraints over 45' 'exec sleep 60'
-    says 'no time at n = 3' 1 "$words (timeout)" "$menduvo" solve "$broken" --least --timeout 1
+    says 'no time at n = 3' 1 "$words (timeout)" "$menduvo" solve "$broken" --least --timeout 3
     shows 'the message has the n' '[[ $out = *"menduvo: at n = 3: cases/interlock-broken.case: timeout"* && $out != *"first at"* ]]'
     asked_z3 '; 66 constraints over 45' 'echo unknown'
     says 'z3 gives up at n = 3' 1 "$words (unknown)" "$menduvo" solve "$broken" --least
@@ -227,8 +227,8 @@ asserts() {
     says 'both options' 3 '--assert and --each exclude each other' "$menduvo" solve "$broken" --each --assert 8
     says 'kept' 3 '--each and --keep exclude each other' "$menduvo" solve "$broken" --each --keep "$scratch/no"
     says 'resumed' 3 '--assert and --resume exclude each other' "$menduvo" solve "$broken" --assert 8 --resume "$scratch/no"
-    says 'several cases' 3 '--each takes one case' "$menduvo" solve "$broken" cases/case-a.case --each
-    says 'a folder' 3 '--assert takes one case' "$menduvo" solve cases --assert 8
+    says 'several cases' 3 '--assert and --each take one case' "$menduvo" solve "$broken" cases/case-a.case --each
+    says 'a folder' 3 '--assert and --each take one case' "$menduvo" solve cases --assert 8
     damaged 0 5
     says 'a refused case' 2 'refusal 2' "$menduvo" solve "$scratch/damaged.case" --each
     objects 1 solve "$scratch/damaged.case" --each
@@ -239,7 +239,7 @@ asserts() {
     result 'the object names the assert' test "$(last assert), $(last answer)" = '8, violated'
     # The question about record 17 alone has record 8 made 1.
     asked_z3 'record 8 (thread 0, line 8: assert 1)' 'exec sleep 60'
-    says 'no time for one assert' 1 '2 asserts: 1 violated, 0 unsat, 0 vacuous, 1 timeout' "$menduvo" solve "$broken" --each --timeout 1
+    says 'no time for one assert' 1 '2 asserts: 1 violated, 0 unsat, 0 vacuous, 1 timeout' "$menduvo" solve "$broken" --each --timeout 3
     shows 'it is told' '[[ $out = *"menduvo: 1 assert was not done"* ]]'
     rm "$scratch/fakes/z3"
 }
@@ -276,6 +276,15 @@ short() {
     says 'resumed' 3 '--short and --resume exclude each other' "$menduvo" solve "$broken" --short --resume "$scratch/no"
     objects 1 solve "$scratch/inputs.case" --short
     shows 'the object' '[ "$(last short switches) $(last short blocks) $(last short inputs 0) $(last short inputs 1) $(last short shortest)" = "0 1 1234 0 true" ]'
+    # Five times: L0 = input; L1 = L0 < 40000; assume L1 == 0. Then assert 0.
+    local input lines=()
+    for input in 1 4 7 10 13; do
+        lines+=($((input + 1)) 4 0 0 0 0 0 0  $((input + 2)) 1 0 1 6 0 16 40000  $((input + 3)) 6 0 0 5 1 16 0)
+    done
+    fields 2 0 0 0 1 0 0 0 0 0 0 0 0 0 0 0 "${lines[@]}" 0 5 0 0 0 16 0 0 >"$scratch/many.case"
+    says 'the questions have an end' 1 '64 more questions; a shorter one may be there: 64 questions are the most that are asked' \
+        "$menduvo" solve "$scratch/many.case" --short
+    shows 'what came so far' '[[ $out = *"inputs 40000 40000 "* ]]'
     # What a solver makes of a wish is measured, and what it does not answer is told.
     local word
     fake z3 "sed '/^; a wish/,+1d' | $z3 \"\$@\""
@@ -283,9 +292,9 @@ short() {
         "$menduvo" solve "$scratch/inputs.case" --short
     asked_z3 '; a wish' 'exec sleep 60'
     says 'no time for a wish' 1 'a shorter one may be there: timeout: z3 gave no answer in time' \
-        "$menduvo" solve "$broken" --switches 9 --short --timeout 1
+        "$menduvo" solve "$broken" --switches 9 --short --timeout 3
     shows 'the run is there' '[[ $out = *"violated: record"*"short: "*" of 9 switches used"* ]]'
-    objects 1 solve "$broken" --switches 9 --short --timeout 1
+    objects 1 solve "$broken" --switches 9 --short --timeout 3
     result 'the object says so' test "$status, $(last short shortest)" = '1, false'
     asked_z3 '; a wish' 'echo sat; echo "((v0 #x0001))"'
     says 'a wrong model for a wish' 1 'a shorter one may be there: the assignment of z3 fails' "$menduvo" solve "$broken" --switches 9 --short
@@ -295,7 +304,7 @@ short() {
     says 'a solver that gives up' 1 'a shorter one may be there: unknown: z3 gave up' "$menduvo" solve "$broken" --switches 9 --short
     # The run that is found first is told at once.
     asked_z3 '; a wish' 'exec sleep 60'
-    run bash -c "timeout 3 '$menduvo' solve $broken --switches 9 --short; true"
+    run bash -c "timeout 6 '$menduvo' solve $broken --switches 9 --short; true"
     shows 'the first run is told before a shorter one is asked for' '[[ $out = *"a run is found: record"*" is broken; schedule "* ]]'
     rm "$scratch/fakes/z3"
 }

@@ -135,21 +135,26 @@ fn call(parts: &mut Parts) -> Result<Call, Failure> {
     })
 }
 
+/// Why nothing is kept where one assert is asked about.
+const OF_ANOTHER: &str = "an assignment of the case with one assert alone may be none of the case";
+
+/// Options of `solve` that exclude each other, and why.
+const EXCLUDED: [(&str, &str, &str); 6] = [
+    ("--assert", "--each", "the one is about a record, the other about all"),
+    ("--assert", "--keep", OF_ANOTHER),
+    ("--assert", "--resume", OF_ANOTHER),
+    ("--each", "--keep", OF_ANOTHER),
+    ("--each", "--resume", OF_ANOTHER),
+    ("--short", "--resume", "a run that is filed stays as it is"),
+];
+
 fn wanted(parts: &mut Parts) -> Result<Wanted, Failure> {
-    let cases = parts.cases()?;
-    let asserts = parts.asserts()?;
-    if asserts != Asserts::All {
-        let option = if asserts == Asserts::Each { "--each" } else { "--assert" };
-        if is_several(&cases) {
-            return Err(parts.usage(&format!("{option} takes one case")));
-        }
-        if let Some(keep) = ["--keep", "--resume"].into_iter().find(|keep| parts.has(keep)) {
-            let why = "an assignment of the case with one assert alone is none of the case";
-            return Err(parts.usage(&format!("{option} and {keep} exclude each other: {why}")));
-        }
+    let (cases, asserts) = (parts.cases()?, parts.asserts()?);
+    if asserts != Asserts::All && is_several(&cases) {
+        return Err(parts.usage("--assert and --each take one case"));
     }
-    if parts.has("--short") && parts.has("--resume") {
-        return Err(parts.usage("--short and --resume exclude each other: a run that is filed stays as it is"));
+    if let Some((one, other, why)) = EXCLUDED.iter().find(|(one, other, _)| parts.has(one) && parts.has(other)) {
+        return Err(parts.usage(&format!("{one} and {other} exclude each other: {why}")));
     }
     Ok(Wanted {
         cases,
@@ -280,12 +285,8 @@ impl Parts {
     }
 
     fn asserts(&self) -> Result<Asserts, Failure> {
-        match (self.number("--assert")?, self.has("--each")) {
-            (Some(_), true) => Err(self.usage("--assert and --each exclude each other")),
-            (Some(record), false) => Ok(Asserts::One(record)),
-            (None, true) => Ok(Asserts::Each),
-            (None, false) => Ok(Asserts::All),
-        }
+        let all = if self.has("--each") { Asserts::Each } else { Asserts::All };
+        Ok(self.number("--assert")?.map_or(all, Asserts::One))
     }
 
     fn jobs(&self) -> Result<usize, Failure> {

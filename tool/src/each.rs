@@ -24,15 +24,9 @@ pub fn one(source: &Source, wanted: &Wanted, output: &mut Output) -> Result<Stat
         Err(failure) => return Said::failed("solve", source, source, failure, wanted.json).tell(output),
     };
     let (asking, _) = several::prepared(wanted, true, output)?;
-    let columns = Columns::of(&whole);
-    let records = whole.case.asserts();
+    let (columns, records) = (Columns::of(&whole), whole.case.asserts());
     if !wanted.json {
-        let asserts = count(records.len(), "assert", "asserts");
-        let bound = match wanted.least {
-            None => format!("within n = {}", whole.case.switches),
-            Some(most) => format!("with the smallest n up to {most}"),
-        };
-        output.say(&format!("{}: {asserts}, each by itself, {bound}\n{}", source.name(), columns.head()))?;
+        output.say(&format!("{}{}", question(&whole, wanted), columns.head()))?;
     }
     let mut summaries = Vec::new();
     for &record in &records {
@@ -54,6 +48,15 @@ pub fn one(source: &Source, wanted: &Wanted, output: &mut Output) -> Result<Stat
     })?;
     several::tell_failures(&summaries, "assert", "asserts");
     Status::of(status)
+}
+
+fn question(whole: &Loaded, wanted: &Wanted) -> String {
+    let asserts = count(whole.case.asserts().len(), "assert", "asserts");
+    let bound = match wanted.least {
+        None => format!("within n = {}", whole.case.switches),
+        Some(most) => format!("with the smallest n up to {most}"),
+    };
+    format!("{}: {asserts}, each by itself, {bound}\n", whole.name)
 }
 
 /// What came of one assert. The note has a schedule that breaks it.

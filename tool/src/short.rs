@@ -8,10 +8,13 @@ use crate::case::Case;
 use crate::json::{list, Json};
 use crate::smt;
 use crate::solve::{verdict, Ask, Found, Verdict};
-use crate::words::count;
+use crate::words::{count, enumeration};
 
-/// The most questions that are asked for a shorter run: a few for switches and blocks, and at most about 30 for an input.
+/// The most questions that are asked for a shorter run: a few for switches and blocks, and at most about 20 for an input.
 const MOST_QUESTIONS: usize = 64;
+
+/// How many times larger than what is too small the next number may be that is asked about.
+const STRIDE: u16 = 16;
 
 /// How long a run is: the switches that are used, which is the number of the last block with lines; the blocks with lines; and then
 /// each input's value. The first number counts most.
@@ -102,8 +105,8 @@ impl Search<'_> {
             if low >= high {
                 break;
             }
-            // The middle; but first among small numbers, where the least ones mostly are.
-            let most = (low + (high - 1 - low) / 2).min(low.saturating_mul(2));
+            // The middle; but small numbers first, among which the least ones mostly are.
+            let most = (low + (high - 1 - low) / 2).min(low.saturating_mul(STRIDE));
             match self.ask(place, most) {
                 Asked::Shorter => {}
                 Asked::None => low = most + 1,
@@ -148,7 +151,7 @@ impl Short {
         let rests = match &self.stopped {
             Some(why) => format!("a shorter one may be there: {why}"),
             None if self.questions == 0 => "no run can be shorter".to_string(),
-            None => format!("that none is shorter is the word of {}", crate::words::enumeration(solvers)),
+            None => format!("that none is shorter is the word of {}", enumeration(solvers)),
         };
         let before = match self.before == self.length {
             true => "as it was found".to_string(),
