@@ -163,7 +163,7 @@ impl Least {
         let open: Vec<String> = open.map(|step| format!("{} ({})", step.switches, step.summary.word)).collect();
         let found = match (self.violated(), self.first()) {
             (_, Some(first)) => format!("first at n = {first}"),
-            (Some(n), None) if open.is_empty() => format!("a violation at n = {n}, which a solver denies"),
+            (Some(n), None) if self.last.summary.word == "disagree" => format!("a violation at n = {n}, which a solver denies"),
             (Some(n), None) => format!("a violation at n = {n}"),
             (None, None) if open.is_empty() => return self.nothing(),
             (None, None) => "no violation found".to_string(),
