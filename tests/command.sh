@@ -42,7 +42,7 @@ reading() {
     for name in cases/*.case; do
         name=$(basename "$name" .case)
         same "show-$name" 0 "$menduvo" show "cases/$name.case"
-        result "cases/$name.md" test -s "cases/${name%-n2}.md"
+        result "cases/$name.md" test -s "cases/$name.md"
     done
     same check-case-a 0 "$menduvo" check cases/case-a.case cases/case-a.assignment
     same decode-case-a 0 "$menduvo" decode cases/case-a.case cases/case-a.assignment

@@ -1,12 +1,14 @@
 //! From the command's arguments to what is to be done.
 
+use crate::case::MOST_SWITCHES;
 use crate::failure::Failure;
 use crate::file::Filing;
 use crate::help::{named, Page};
 use crate::input::Source;
 use crate::keep::Keep;
 use crate::name::shown;
-use crate::solve::{Settings, Wanted};
+use crate::several::is_several;
+use crate::solve::{Asserts, Settings, Wanted};
 use crate::solver::Solver;
 use crate::step::Stepping;
 use crate::verified::Verifying;
@@ -119,10 +121,10 @@ fn call(parts: &mut Parts) -> Result<Call, Failure> {
         "source" => Call::Source { case: parts.next("CASE")? },
         "list" => Call::List { cases: parts.cases()?, json: parts.has("--json") },
         "show" => Call::Show { cases: parts.cases()?, json: parts.has("--json") },
-        "check" => Call::Check { case: parts.next("CASE")?, assignment: parts.next("ASSIGNMENT")?, json: parts.has("--json") },
-        "decode" => Call::Decode { case: parts.next("CASE")?, assignment: parts.next("ASSIGNMENT")? },
+        "check" => Call::Check { case: parts.case()?, assignment: parts.next("ASSIGNMENT")?, json: parts.has("--json") },
+        "decode" => Call::Decode { case: parts.case()?, assignment: parts.next("ASSIGNMENT")? },
         "replay" => Call::Replay {
-            case: parts.next("CASE")?,
+            case: parts.case()?,
             schedule: parts.next("SCHEDULE")?,
             values: parts.has("--values"),
             json: parts.has("--json"),
@@ -130,7 +132,7 @@ fn call(parts: &mut Parts) -> Result<Call, Failure> {
         "step" => Call::Step(stepping(parts)?),
         "solve" => Call::Solve(wanted(parts)?),
         "picture" => Call::Picture {
-            case: parts.next("CASE")?,
+            case: parts.case()?,
             schedule: parts.next("SCHEDULE")?,
             file: parts.output("FILE.svg")?,
             force: parts.has("--force"),
@@ -145,19 +147,42 @@ fn call(parts: &mut Parts) -> Result<Call, Failure> {
     })
 }
 
+/// Why nothing is kept where one assert is asked about.
+const OF_ANOTHER: &str = "an assignment of the case with one assert alone may be none of the case";
+
+/// Options of `solve` that exclude each other, and why.
+const EXCLUDED: [(&str, &str, &str); 6] = [
+    ("--assert", "--each", "the one is about a record, the other about all"),
+    ("--assert", "--keep", OF_ANOTHER),
+    ("--assert", "--resume", OF_ANOTHER),
+    ("--each", "--keep", OF_ANOTHER),
+    ("--each", "--resume", OF_ANOTHER),
+    ("--short", "--resume", "a run that is filed stays as it is"),
+];
+
 fn wanted(parts: &mut Parts) -> Result<Wanted, Failure> {
+    let (cases, asserts) = (parts.cases()?, parts.asserts()?);
+    if asserts != Asserts::All && is_several(&cases) {
+        return Err(parts.usage("--assert and --each take one case"));
+    }
+    if let Some((one, other, why)) = EXCLUDED.iter().find(|(one, other, _)| parts.has(one) && parts.has(other)) {
+        return Err(parts.usage(&format!("{one} and {other} exclude each other: {why}")));
+    }
     Ok(Wanted {
-        cases: parts.cases()?,
+        cases,
         settings: settings(parts)?,
         jobs: parts.jobs()?,
         keep: parts.keep()?,
         strict: parts.has("--strict"),
         json: parts.has("--json"),
+        least: parts.least()?,
+        asserts,
+        short: parts.has("--short"),
     })
 }
 
 fn stepping(parts: &mut Parts) -> Result<Stepping, Failure> {
-    let (case, file) = (parts.next("CASE")?, parts.value("-o"));
+    let (case, file) = (parts.case()?, parts.value("-o"));
     if case.is_standard_input() {
         return Err(parts.usage("CASE cannot be standard input: the commands are read from there"));
     }
@@ -217,11 +242,27 @@ impl Parts {
         file.ok_or_else(|| self.usage(&format!("-o {what} is missing")))
     }
 
-    /// All operands, at least one.
+    /// The operand that is a case, with the n that was chosen.
+    fn case(&mut self) -> Result<Source, Failure> {
+        Ok(self.next("CASE")?.with_switches(self.number("--switches")?))
+    }
+
+    /// All operands, at least one, with the n that was chosen.
     fn cases(&mut self) -> Result<Vec<Source>, Failure> {
-        let mut cases = vec![self.next("CASE")?];
-        cases.extend(self.operands.by_ref());
-        Ok(cases)
+        let (first, switches) = (self.case()?, self.number("--switches")?);
+        let others = self.operands.by_ref().map(|case| case.with_switches(switches));
+        Ok(std::iter::once(first).chain(others).collect())
+    }
+
+    /// The value of an option that takes a number of 16 bits.
+    fn number(&self, name: &str) -> Result<Option<u16>, Failure> {
+        let Some(text) = self.text(name) else {
+            return Ok(None);
+        };
+        match text.parse() {
+            Ok(number) if text.bytes().all(|byte| byte.is_ascii_digit()) => Ok(Some(number)),
+            _ => Err(self.usage(&format!("{name} needs a number from 0 to 65535, and not '{text}'"))),
+        }
     }
 
     fn has(&self, name: &str) -> bool {
@@ -262,6 +303,22 @@ impl Parts {
             Ok(seconds) if plain && seconds <= 1e9 => Ok(Some((seconds > 0.0).then(|| Duration::from_secs_f64(seconds)))),
             _ => Err(self.usage(&format!("--timeout needs seconds, 0 for none, and not '{text}'"))),
         }
+    }
+
+    /// The n up to which --least looks: that of --switches, or the largest.
+    fn least(&self) -> Result<Option<u16>, Failure> {
+        let most = self.number("--switches")?.unwrap_or(MOST_SWITCHES);
+        match self.has("--least") {
+            true if most > MOST_SWITCHES => {
+                Err(self.usage(&format!("--least looks up to n = {MOST_SWITCHES}, the largest of a case, and not to {most}")))
+            }
+            least => Ok(least.then_some(most)),
+        }
+    }
+
+    fn asserts(&self) -> Result<Asserts, Failure> {
+        let all = if self.has("--each") { Asserts::Each } else { Asserts::All };
+        Ok(self.number("--assert")?.map_or(all, Asserts::One))
     }
 
     fn jobs(&self) -> Result<usize, Failure> {

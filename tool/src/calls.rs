@@ -23,6 +23,8 @@ pub struct Loaded {
     pub table: Table,
     /// What the case was made from, if it was given as source.
     pub source: Option<String>,
+    /// The one assert that is asked about, and the case before the others were made 1.
+    pub alone: Option<(u16, Box<Loaded>)>,
 }
 
 /// What a run comes to.
@@ -76,13 +78,17 @@ impl Loaded {
             return Err(Failure::Other(format!("{name}: the library accepted a case of a size that this command cannot read")));
         };
         let source = source.map(|source| source.text);
-        Ok(Loaded { name, stem, case: Case { names, ..case }, table: Table { rows, variables }, source })
+        Ok(Loaded { name, stem, case: Case { names, ..case }, table: Table { rows, variables }, source, alone: None })
     }
 
     /// Another case in the place of this one, under its name.
     pub fn changed(&self, bytes: Vec<u8>) -> Result<Loaded, Failure> {
-        let draft = Draft { names: self.case.names.clone(), ..Draft::of_bytes(bytes) };
-        Loaded::named(self.name.clone(), self.stem.clone(), draft)
+        Loaded::named(self.name.clone(), self.stem.clone(), self.draft(bytes))
+    }
+
+    /// Other bytes, with the names of this case.
+    pub fn draft(&self, bytes: Vec<u8>) -> Draft {
+        Draft { names: self.case.names.clone(), ..Draft::of_bytes(bytes) }
     }
 
     /// Numbers or a model, as an assignment.

@@ -102,6 +102,16 @@ impl Record {
     }
 }
 
+/// The largest n of a case.
+pub const MOST_SWITCHES: u16 = 15;
+
+/// Puts this n into the bytes of a case: the header's second field. Bytes that are too few to have it stay as they are.
+pub fn set_switches(bytes: &mut [u8], switches: u16) {
+    if let Some(field) = bytes.get_mut(2..4) {
+        field.copy_from_slice(&switches.to_le_bytes());
+    }
+}
+
 /// A case: T, n, G, M, the header's other fields, the records, and each thread's record numbers in chain order.
 #[derive(Clone, Debug)]
 pub struct Case {
@@ -198,6 +208,12 @@ impl Case {
     pub fn inputs(&self) -> Vec<u16> {
         let lines = self.chains.iter().flatten().copied();
         lines.filter(|&line| self.record(line).kind == Kind::Input).collect()
+    }
+
+    /// The asserts, by thread and then by chain.
+    pub fn asserts(&self) -> Vec<u16> {
+        let lines = self.chains.iter().flatten().copied();
+        lines.filter(|&line| self.record(line).kind == Kind::Assert).collect()
     }
 
     /// The thread of a record, and its line there, from 1.

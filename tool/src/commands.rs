@@ -7,8 +7,9 @@ use crate::input::Source;
 use crate::name::shown;
 use crate::output::Output;
 use crate::run::Run;
+use crate::solve::Asserts;
 use crate::words::{all, numbers_in_lines};
-use crate::{demo, file, help, keep, make, picture, report, run, said::Said, several, show, step, told, verified};
+use crate::{demo, each, file, help, keep, least, make, picture, report, run, said::Said, several, show, step, told, verified};
 use std::ffi::OsStr;
 
 pub fn perform(call: Call, output: &mut Output) -> Result<Status, Failure> {
@@ -25,6 +26,8 @@ pub fn perform(call: Call, output: &mut Output) -> Result<Status, Failure> {
         Call::Replay { case, schedule, values, json } => replay(&case, &schedule, values, json).tell(output),
         Call::Step(stepping) => step::step(&stepping, output),
         Call::Solve(wanted) => match wanted.cases.as_slice() {
+            [case] if wanted.asserts == Asserts::Each => each::one(case, &wanted, output),
+            [case] if !several::is_several(&wanted.cases) && wanted.least.is_some() => least::one(case, &wanted, output),
             [case] if !several::is_several(&wanted.cases) && wanted.json => several::one_object(case, &wanted, output),
             [case] if !several::is_several(&wanted.cases) => told::one(case, &wanted, output),
             _ => several::all(wanted, output),
@@ -40,7 +43,7 @@ fn each(cases: &[Source], json: bool, output: &mut Output, one: fn(&Source, bool
     let mut worst = Ok(Status::Done);
     for case in cases {
         if cases.len() > 1 && !json {
-            output.say(&format!("== {}\n", case.name()))?;
+            output.say(&format!("== {}\n", case.name_and_bound()))?;
         }
         let Said { text, ended } = one(case, json);
         output.say(&text)?;
@@ -77,25 +80,26 @@ fn check(case: &Source, assignment: &Source, json: bool) -> Said {
         Ok(loaded) => loaded,
         Err(failure) => return Said::failed("check", case, case, failure, json),
     };
-    let checked = checked(&loaded, assignment, json);
+    let checked = checked(case, &loaded, assignment, json);
     checked.unwrap_or_else(|failure| Said::failed("check", case, assignment, failure, json))
 }
 
-fn checked(loaded: &Loaded, assignment: &Source, json: bool) -> Result<Said, Failure> {
+fn checked(case: &Source, loaded: &Loaded, assignment: &Source, json: bool) -> Result<Said, Failure> {
     let name = assignment.name();
+    let bound = case.switches().map(|switches| format!(" with n = {switches}")).unwrap_or_default();
     let numbers = loaded.assignment(assignment)?;
     let Some(constraint) = loaded.check(&name, &numbers)? else {
         let constraints = all(loaded.table.rows.len(), "constraint", "constraints");
         return Ok(match json {
             true => Said::object(&report::meets(loaded, &name), Status::Done),
-            false => Said { text: format!("meets: the assignment meets {constraints}\n"), ended: Ok(Status::Done) },
+            false => Said { text: format!("meets: the assignment meets {constraints}{bound}\n"), ended: Ok(Status::Done) },
         });
     };
     let details = loaded.constraint_in_words(constraint, &numbers)?;
     Ok(match json {
         true => Said::object(&report::fails(loaded, &name, constraint, &details), Status::Found),
         false => {
-            let text = format!("fails: the assignment fails constraint {constraint}\n  {}\n", details.join("\n  "));
+            let text = format!("fails: the assignment fails constraint {constraint}{bound}\n  {}\n", details.join("\n  "));
             Said { text, ended: Ok(Status::Found) }
         }
     })

@@ -18,6 +18,7 @@ pub struct Choice {
 
 const JSON: Choice =
     Choice { name: "--json", value: "", does: "print one JSON object a line, as docs/output.schema.json describes them" };
+const SWITCHES: Choice = Choice { name: "--switches", value: "N", does: "take the case with this n in the place of its own" };
 const FORCE: Choice = Choice { name: "--force", value: "", does: "replace files that are there" };
 const SOLVER: Choice = Choice {
     name: "--solver",
@@ -67,7 +68,7 @@ pub const PAGES: &[Page] = &[
         name: "list",
         usage: "list CASE..",
         summary: "print the constraints, six numbers a line",
-        options: &[JSON],
+        options: &[SWITCHES, JSON],
         more: "The first line has the count of constraints and of variables. File it with the case: constants and\n\
                operations stand in the case alone.\n\
                For a refused case it prints the refusal's number and its place on one line, with exit status 2.\n\
@@ -78,7 +79,7 @@ pub const PAGES: &[Page] = &[
         name: "show",
         usage: "show CASE..",
         summary: "print the threads as readable text",
-        options: &[JSON],
+        options: &[SWITCHES, JSON],
         more: "For each line: its record, its guard, what it does, and the copies of its names.\n\
                Of several cases each one's text comes after a line '== NAME'. All are done, though one is refused or\n\
                is not there; the exit status is then 3 where something failed, else 2.\n",
@@ -87,14 +88,14 @@ pub const PAGES: &[Page] = &[
         name: "check",
         usage: "check CASE ASSIGNMENT",
         summary: "say whether an assignment meets the constraints",
-        options: &[JSON],
+        options: &[SWITCHES, JSON],
         more: "Exit status 0 where it meets them all; 1 where it fails, with the first constraint that it fails.\n",
     },
     Page {
         name: "decode",
         usage: "decode CASE ASSIGNMENT",
         summary: "print the schedule of an assignment, as numbers",
-        options: &[],
+        options: &[SWITCHES],
         more: "The numbers are n + 1 block lengths, and then a value for each input line.\n\
                Exit status 1 where the assignment fails (refusal 15).\n",
     },
@@ -103,6 +104,7 @@ pub const PAGES: &[Page] = &[
         usage: "replay CASE SCHEDULE",
         summary: "run a schedule, and print the run line by line",
         options: &[
+            SWITCHES,
             Choice { name: "--values", value: "", does: "print all items after each line; what changed says what it was" },
             JSON,
         ],
@@ -113,7 +115,11 @@ pub const PAGES: &[Page] = &[
         name: "step",
         usage: "step CASE [-o FILE]",
         summary: "run a case by hand, thread by thread, and get the schedule",
-        options: &[Choice { name: "-o", value: "FILE", does: "write the schedule to this file, at the end" }, FORCE],
+        options: &[
+            SWITCHES,
+            Choice { name: "-o", value: "FILE", does: "write the schedule to this file, at the end" },
+            FORCE,
+        ],
         more: "Commands are read from standard input, one a line, so CASE is a file; '#' starts a comment:\n\
                \x20 1          run the next line of thread 1; so for each thread\n\
                \x20 rest 1     run all lines that thread 1 has left\n\
@@ -135,6 +141,24 @@ pub const PAGES: &[Page] = &[
         usage: "solve CASE|DIR.. [OPTIONS]",
         summary: "let a solver look for a violation, and replay what it finds",
         options: &[
+            SWITCHES,
+            Choice {
+                name: "--least",
+                value: "",
+                does: "look for the smallest n with a violation: 0, 1, 2, .. up to the N of\n--switches, or to 15, the largest",
+            },
+            Choice {
+                name: "--assert",
+                value: "RECORD",
+                does: "ask about the assert of this record alone: every other one is made 1",
+            },
+            Choice { name: "--each", value: "", does: "ask about each assert by itself, and print a table of the answers" },
+            Choice {
+                name: "--short",
+                value: "",
+                does: "ask on for a run worth showing: the fewest switches that are used, then\nthe fewest blocks with lines, \
+                       then the first input as small as it can\nbe, then the next",
+            },
             SOLVER,
             SOLVER_COMMAND,
             TIMEOUT,
@@ -173,14 +197,16 @@ pub const PAGES: &[Page] = &[
                \x20 disagree   one solver says sat, and another unsat\n\
                \x20 refused    the case is refused\n\
                \x20 failed     something else: a file, or a solver that talks nonsense, fails or is killed\n\
+               --least, --each and --short ask many questions, so each has 60 seconds where --timeout is not given. They go\n\
+               together: --each --least says by assert the first n. What is kept at a chosen n is named NAME-nN.\n\
                Exit status 1 where a violation is found; 0 for unsat and vacuous; 2 refused; 3 for the others. Of several\n\
-               cases: 1 where one of them has it, else 3, else 2.\n",
+               cases, n or asserts: 1 where one of them has it, else 3, else 2.\n",
     },
     Page {
         name: "picture",
         usage: "picture CASE SCHEDULE -o FILE.svg",
         summary: "draw the run of a schedule",
-        options: &[Choice { name: "-o", value: "FILE.svg", does: "the file; - is standard output" }, FORCE],
+        options: &[Choice { name: "-o", value: "FILE.svg", does: "the file; - is standard output" }, SWITCHES, FORCE],
         more: "Threads are lanes, blocks are columns, lines are cells; a broken assertion is red.\n\
                A solver's model in the place of the schedule is decoded first.\n\
                Exit status 0 where the picture is written, whatever the run comes to.\n",

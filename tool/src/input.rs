@@ -1,5 +1,6 @@
 //! Reading files. `-` is standard input. Nothing is read beyond what could be of use, so that an endless input ends too.
 
+use crate::case::set_switches;
 use crate::failure::Failure;
 use crate::name::shown;
 use crate::source::{self, Draft};
@@ -13,13 +14,31 @@ const MOST_TEXT_BYTES: usize = 1 << 20;
 /// The most bytes of a file that is kept as it is.
 const MOST_FILE_BYTES: usize = 1 << 26;
 
-/// Where an input comes from.
+/// Where an input comes from; and of a case the n that it gets in the place of its own, where one was chosen.
 #[derive(Clone, Debug, PartialEq, Eq)]
-pub struct Source(OsString);
+pub struct Source(OsString, Option<u16>);
 
 impl Source {
     pub fn new(argument: &OsStr) -> Source {
-        Source(argument.to_os_string())
+        Source(argument.to_os_string(), None)
+    }
+
+    /// The same input, as a case with this n.
+    pub fn with_switches(self, switches: Option<u16>) -> Source {
+        Source(self.0, switches)
+    }
+
+    /// The n that was chosen.
+    pub fn switches(&self) -> Option<u16> {
+        self.1
+    }
+
+    /// The name for messages, and the n that was chosen.
+    pub fn name_and_bound(&self) -> String {
+        match self.1 {
+            None => self.name(),
+            Some(switches) => format!("{} with n = {switches}", self.name()),
+        }
     }
 
     pub fn is_standard_input(&self) -> bool {
@@ -34,10 +53,15 @@ impl Source {
         }
     }
 
-    /// What files that are made from this one are named after: its own name, byte by byte, without folder and ending.
+    /// What files that are made from this one are named after: its own name, byte by byte, without folder and ending, and with
+    /// the n that was chosen, so that the answers at several n stand beside each other.
     pub fn stem(&self) -> OsString {
         let stem = Path::new(&self.0).file_stem().filter(|_| !self.is_standard_input());
-        stem.unwrap_or_else(|| OsStr::new("case")).to_os_string()
+        let mut stem = stem.unwrap_or_else(|| OsStr::new("case")).to_os_string();
+        if let Some(switches) = self.1 {
+            stem.push(format!("-n{switches}"));
+        }
+        stem
     }
 
     pub fn is_folder(&self) -> bool {
@@ -49,8 +73,17 @@ impl Source {
     }
 
     /// A case: its bytes, or the source that they are made from. Of bytes that are too many, one more than the longest case has:
-    /// enough for the library to refuse it.
+    /// enough for the library to refuse it. Where an n was chosen, the case is no longer what the source says.
     pub fn case(&self) -> Result<Draft, Failure> {
+        let mut draft = self.draft()?;
+        if let Some(switches) = self.1 {
+            set_switches(&mut draft.bytes, switches);
+            draft.source = None;
+        }
+        Ok(draft)
+    }
+
+    fn draft(&self) -> Result<Draft, Failure> {
         let mut bytes = self.read(MOST_TEXT_BYTES + 1)?;
         if !source::is_text(&bytes) {
             bytes.truncate(menduvo::MOST_CASE_BYTES + 1);

@@ -2,6 +2,7 @@
 //! starts a solver.
 #![forbid(unsafe_code)]
 
+mod alone;
 mod answer_file;
 mod arguments;
 mod by_hand;
@@ -10,6 +11,7 @@ mod case;
 mod commands;
 mod demo;
 mod diagnosis;
+mod each;
 mod failure;
 mod file;
 mod filed;
@@ -20,6 +22,7 @@ mod input;
 mod json;
 mod keep;
 mod kept;
+mod least;
 mod make;
 mod manifest;
 mod meaning;
@@ -44,6 +47,7 @@ mod said;
 mod scope;
 mod several;
 mod sha256;
+mod short;
 mod show;
 mod smt;
 mod solve;

@@ -42,7 +42,7 @@ pub fn solved(loaded: &Loaded, asking: &Asking, solved: &Solved, strict: bool, n
         };
         Json::Object(vec![("record", (*record).into()), ("reached", reached), ("schedule", schedule)])
     });
-    Json::Object(vec![
+    let mut fields: Vec<(&'static str, Json)> = vec![
         ("command", "solve".into()),
         ("case", loaded.name.as_str().into()),
         ("status", solved.status(strict).into()),
@@ -57,8 +57,12 @@ pub fn solved(loaded: &Loaded, asking: &Asking, solved: &Solved, strict: bool, n
         ("schedule", found.map(|found| list(found.schedule.iter().copied())).into()),
         ("asserts", Json::List(asserts.collect())),
         ("note", note.into()),
-        ("resumed", false.into()),
-    ])
+    ];
+    // What only some calls ask for.
+    fields.extend(loaded.alone.as_ref().map(|(record, _)| ("assert", (*record).into())));
+    fields.extend(found.and_then(|found| found.short.as_ref()).map(|short| ("short", short.object())));
+    fields.push(("resumed", false.into()));
+    Json::Object(fields)
 }
 
 /// The object of an answer that was filed before: its case may have another name by now, and its status goes by this call's
@@ -72,10 +76,6 @@ pub fn resumed(filed: &str, case: &str, status: i32) -> Option<String> {
 
 /// What came of several cases: how many have each answer, and each one's answer, in the order of the cases.
 pub fn summary(summaries: &[Summary], status: i32) -> Json {
-    let counts = ANSWERS.iter().map(|word| {
-        let of_word = summaries.iter().filter(|summary| summary.word == *word);
-        (*word, Json::Number(of_word.count()))
-    });
     let answers = summaries
         .iter()
         .map(|summary| Json::Object(vec![("case", summary.name.as_str().into()), ("answer", summary.word.as_str().into())]));
@@ -84,7 +84,16 @@ pub fn summary(summaries: &[Summary], status: i32) -> Json {
         ("summary", true.into()),
         ("status", status.into()),
         ("cases", summaries.len().into()),
-        ("counts", Json::Object(counts.collect())),
+        ("counts", counts(summaries)),
         ("answers", Json::List(answers.collect())),
     ])
+}
+
+/// How many have each answer.
+pub fn counts(summaries: &[Summary]) -> Json {
+    let counts = ANSWERS.iter().map(|word| {
+        let of_word = summaries.iter().filter(|summary| summary.word == *word);
+        (*word, Json::Number(of_word.count()))
+    });
+    Json::Object(counts.collect())
 }

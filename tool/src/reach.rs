@@ -6,8 +6,9 @@
 //! that another line reads. So a solver is asked about that case, and the library checks, decodes and replays its answer. Simple
 //! schedules are tried first, by the library's replay of that case alone.
 
+use crate::alone::with_constants;
 use crate::calls::{Ending, Loaded};
-use crate::case::{Case, Kind, CONSTANT};
+use crate::case::{Case, Kind};
 use crate::failure::Failure;
 use crate::smt;
 use crate::solve::{verdict, Ask, Verdict};
@@ -45,16 +46,8 @@ pub struct Reach {
 }
 
 /// The case with these asserts' expressions made 0, and every other assert's made 1.
-pub fn changed(case: &Case, zeros: &[u16]) -> Vec<u8> {
-    let mut bytes = case.bytes.clone();
-    for record in case.records.iter().filter(|record| record.kind == Kind::Assert) {
-        let constant = u16::from(!zeros.contains(&record.number));
-        // Op, a, b and c are a record's last four fields.
-        let end = 32 + 16 * usize::from(record.number);
-        let fields = [0, CONSTANT, 0, constant].map(u16::to_le_bytes);
-        bytes[end - 8..end].copy_from_slice(fields.as_flattened());
-    }
-    bytes
+fn changed(case: &Case, zeros: &[u16]) -> Vec<u8> {
+    with_constants(case, |record| Some(u16::from(!zeros.contains(&record))))
 }
 
 /// Why no run is complete, or there is nothing to reach, where no solver is needed to see it.
@@ -77,11 +70,9 @@ pub fn plainly_nothing_in_words(case: &Case) -> Option<String> {
 impl Reach {
     pub fn of(loaded: &Loaded, asking: &dyn Ask) -> Result<Reach, Failure> {
         let case = &loaded.case;
-        let lines = case.chains.iter().flatten().copied();
-        let asserts: Vec<u16> = lines.filter(|&line| case.record(line).kind == Kind::Assert).collect();
         let plain = plainly_nothing(case);
         let first = if plain.is_some() { Reached::Never } else { Reached::NotKnown(String::new()) };
-        let asserts = asserts.into_iter().map(|record| (record, first.clone())).collect();
+        let asserts = loaded.asserts().into_iter().map(|record| (record, first.clone())).collect();
         let mut reach = Reach { asserts, plain, questions: Vec::new(), disagreement: None };
         if reach.plain.is_none() {
             for schedule in simple_schedules(case) {

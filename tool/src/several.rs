@@ -41,9 +41,9 @@ pub fn all(wanted: Wanted, output: &mut Output) -> Result<Status, Failure> {
     let (asking, cases) = prepared(&wanted, true, output)?;
     let (wanted, cases) = (Arc::new(wanted), Arc::new(cases));
     let names: Vec<String> = cases.iter().map(Source::name).collect();
-    let columns = Columns { name: names.iter().map(|name| name.chars().count()).max().unwrap_or(0).max(4) };
+    let columns = Columns { first: "case", width: names.iter().map(|name| name.chars().count()).max().unwrap_or(0).max(4) };
     if !wanted.json {
-        output.say(&columns.head())?;
+        output.say(&format!("{}{}", bound_in_words(&wanted), columns.head()))?;
     }
     let mut progress = Progress::new(cases.len());
     let mut summaries: Vec<Option<Summary>> = vec![None; cases.len()];
@@ -57,7 +57,7 @@ pub fn all(wanted: Wanted, output: &mut Output) -> Result<Status, Failure> {
         progress.clear();
         output.say(&match wanted.json {
             true => format!("{}\n", summary.json),
-            false => columns.line(&summary),
+            false => columns.line(&summary.name, &summary),
         })?;
         in_order = in_order && summaries[..index].iter().all(Option::is_some);
         summaries[index] = Some(summary);
@@ -71,15 +71,18 @@ pub fn all(wanted: Wanted, output: &mut Output) -> Result<Status, Failure> {
     let status = status(&summaries, wanted.strict);
     output.say(&match (wanted.json, in_order) {
         (true, _) => format!("{}\n", objects::summary(&summaries, status)),
-        (false, true) => counts(&summaries),
-        (false, false) => format!("\nin the order of the cases:\n{}{}", columns.table(&summaries), counts(&summaries)),
+        (false, true) => counts(&summaries, "case", "cases"),
+        (false, false) => {
+            let counts = counts(&summaries, "case", "cases");
+            format!("\nin the order of the cases:\n{}{counts}", columns.table(&summaries))
+        }
     })?;
-    tell_failures(&summaries);
+    tell_failures(&summaries, "case", "cases");
     Status::of(status)
 }
 
 /// Whom to ask, and the cases. Where nothing can begin, there is an object for each operand that says so.
-fn prepared(wanted: &Wanted, many: bool, output: &mut Output) -> Result<(Asking, Vec<Source>), Failure> {
+pub fn prepared(wanted: &Wanted, many: bool, output: &mut Output) -> Result<(Asking, Vec<Source>), Failure> {
     let asking = wanted.settings.asking(many);
     // What needs no solver is said where there is none.
     let plain = |operand: &Source| if asking.is_err() { plain_in_words(operand) } else { String::new() };
@@ -115,7 +118,10 @@ fn expanded(operands: &[Source]) -> Result<Vec<Source>, Failure> {
     let mut cases = Vec::new();
     for operand in operands {
         match operand.is_folder() {
-            true => cases.extend(case_files(operand.path())?),
+            true => {
+                let files = case_files(operand.path())?.into_iter();
+                cases.extend(files.map(|file| file.with_switches(operand.switches())));
+            }
             false => cases.push(operand.clone()),
         }
     }
@@ -151,7 +157,8 @@ fn ready(wanted: &Wanted, cases: &[Source]) -> Result<(), Failure> {
         return Ok(());
     };
     let mut stems: HashMap<OsString, &Source> = HashMap::new();
-    for case in cases {
+    let cases: Vec<Source> = cases.iter().flat_map(|case| wanted.bounds(case)).collect();
+    for case in &cases {
         if let Some(other) = stems.insert(case.stem(), case) {
             let (one, other) = (other.name(), case.name());
             return Err(Failure::Other(format!("{one} and {other} would be kept under the same name; keep them apart")));
@@ -159,6 +166,15 @@ fn ready(wanted: &Wanted, cases: &[Source]) -> Result<(), Failure> {
         keep.prepare(case)?;
     }
     Ok(())
+}
+
+/// Which n the cases have, where it is not their own.
+fn bound_in_words(wanted: &Wanted) -> String {
+    match (wanted.least, wanted.cases.first().and_then(Source::switches)) {
+        (Some(most), _) => format!("the smallest n with a violation, up to {most}\n"),
+        (None, Some(switches)) => format!("every case with n = {switches}\n"),
+        (None, None) => String::new(),
+    }
 }
 
 /// Solves the cases, so many at a time. What comes is a case's number, first alone, where its turn begins, and then with what
@@ -182,7 +198,7 @@ fn begin(wanted: &Arc<Wanted>, cases: &Arc<Vec<Source>>, asking: &Asking) -> Rec
 }
 
 /// A violation is not hidden behind anything; then what failed; then what was refused.
-fn status(summaries: &[Summary], strict: bool) -> i32 {
+pub fn status(summaries: &[Summary], strict: bool) -> i32 {
     let has = |status: i32| summaries.iter().any(|summary| summary.status(strict) == status);
     [Status::Found.number(), Failure::STATUS_OTHER, Failure::STATUS_REFUSED]
         .into_iter()
@@ -190,39 +206,42 @@ fn status(summaries: &[Summary], strict: bool) -> i32 {
         .unwrap_or(0)
 }
 
-fn counts(summaries: &[Summary]) -> String {
+/// How many have each answer.
+pub fn counts(summaries: &[Summary], one: &str, many: &str) -> String {
     let of = |word: &str| summaries.iter().filter(|summary| summary.word == word).count();
     let counts: Vec<String> = ANSWERS.iter().map(|word| format!("{} {word}", of(word))).collect();
-    format!("{}: {}\n", count(summaries.len(), "case", "cases"), counts.join(", "))
+    format!("{}: {}\n", count(summaries.len(), one, many), counts.join(", "))
 }
 
 /// The table has said what failed; the message says how many, and all of the first.
-fn tell_failures(summaries: &[Summary]) {
+pub fn tell_failures(summaries: &[Summary], one: &str, many: &str) {
     let mut failures = summaries.iter().filter_map(|summary| summary.message.as_ref());
     if let Some(first) = failures.next() {
-        let counted = count(1 + failures.count(), "case was not done", "cases were not done");
+        let counted = count(1 + failures.count(), &format!("{one} was not done"), &format!("{many} were not done"));
         note(&format!("{counted}; as: {first}"));
     }
 }
 
-/// The columns of the table.
-struct Columns {
-    name: usize,
+/// The columns of a table of answers. The first one says what they are the answers of.
+pub struct Columns {
+    pub first: &'static str,
+    pub width: usize,
 }
 
 impl Columns {
-    fn head(&self) -> String {
-        format!("{:width$}  {:<8}  {:>12}  {:>8}  note\n", "case", "answer", "constraints", "seconds", width = self.name)
+    pub fn head(&self) -> String {
+        let Columns { first, width } = self;
+        format!("{first:width$}  {:<8}  {:>12}  {:>8}  note\n", "answer", "constraints", "seconds")
     }
 
-    fn line(&self, summary: &Summary) -> String {
-        let Summary { name, word, size, seconds, note, filed_by, .. } = summary;
+    pub fn line(&self, first: &str, summary: &Summary) -> String {
+        let Summary { word, size, seconds, note, filed_by, .. } = summary;
         let filed = filed_by.as_ref().map(|by| format!("filed already, by {by}; ")).unwrap_or_default();
-        format!("{name:width$}  {word:<8}  {size:>12}  {seconds:>8.2}  {filed}{note}\n", width = self.name)
+        format!("{first:width$}  {word:<8}  {size:>12}  {seconds:>8.2}  {filed}{note}\n", width = self.width)
     }
 
     fn table(&self, summaries: &[Summary]) -> String {
-        let lines = summaries.iter().map(|summary| self.line(summary));
+        let lines = summaries.iter().map(|summary| self.line(&summary.name, summary));
         self.head() + &lines.collect::<String>()
     }
 }

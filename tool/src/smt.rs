@@ -8,6 +8,11 @@ use crate::words::count;
 
 /// The whole text: declarations, constraints, and the question. It asks for no model, so that the reply to an unsat has no error.
 pub fn text(loaded: &Loaded) -> String {
+    text_with(loaded, &[])
+}
+
+/// The same, with wishes that narrow the question: conditions beside the constraints.
+pub fn text_with(loaded: &Loaded, wishes: &[String]) -> String {
     let Loaded { case, table, .. } = loaded;
     let mut text = format!(
         "; {} over {}\n(set-option :produce-models true)\n(set-logic QF_BV)\n",
@@ -21,8 +26,38 @@ pub fn text(loaded: &Loaded) -> String {
     for &row in &table.rows {
         text.push_str(&format!("; {}: {}\n(assert {})\n", table::numbers(row), table::in_words(case, row), terms.row(row)));
     }
+    for wish in wishes {
+        text.push_str(&format!("; a wish\n(assert {wish})\n"));
+    }
     text.push_str("(check-sat)\n");
     text
+}
+
+/// The wish that every line runs in a block up to this one. Block numbers do not fall within a thread.
+pub fn blocks_up_to(case: &Case, last: u16) -> String {
+    let ends = case.chains.iter().filter_map(|chain| chain.last());
+    all_hold(ends.map(|&record| format!("(bvule {} {})", block(record), constant(last))))
+}
+
+/// The wish that at most so many blocks have lines. A thread's first line begins a block with lines, and so does each line that is
+/// in another block than the line before it.
+pub fn blocks_with_lines_at_most(case: &Case, most: u16) -> String {
+    let first = case.chains.iter().filter(|chain| !chain.is_empty()).map(|_| constant(1));
+    let changes = case.chains.iter().flat_map(|chain| chain.windows(2));
+    let changes = changes.map(|pair| choose(&equal(&block(pair[0]), &block(pair[1])), &constant(0), &constant(1)));
+    let blocks = first.chain(changes).fold(constant(0), |sum, one| format!("(bvadd {sum} {one})"));
+    format!("(bvule {blocks} {})", constant(most))
+}
+
+/// The wish that the value of an input line is at most this, as a schedule has it: 0 where the guard is false.
+pub fn input_at_most(loaded: &Loaded, record: u16, most: u16) -> String {
+    let guard_copy = loaded.table.value_row(record).map_or(0, |row| row[2]);
+    let guard = guard(loaded.case.record(record), guard_copy);
+    format!("(bvule {} {})", choose(&guard, &value(record), &constant(0)), constant(most))
+}
+
+fn all_hold(conditions: impl Iterator<Item = String>) -> String {
+    format!("(and true{})", conditions.map(|condition| format!(" {condition}")).collect::<String>())
 }
 
 /// What asks for a model, after sat.

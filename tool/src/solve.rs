@@ -8,6 +8,7 @@ use crate::keep::Keep;
 use crate::numbers::Model;
 use crate::reach::Reach;
 use crate::run::{self, Run};
+use crate::short::{self, Short};
 use crate::smt;
 use crate::solver::{self, Answer, Asked, Solver};
 use crate::words::enumeration;
@@ -25,6 +26,22 @@ pub struct Wanted {
     pub keep: Option<Keep>,
     pub strict: bool,
     pub json: bool,
+    /// The n up to which the smallest one with a violation is looked for, where it is.
+    pub least: Option<u16>,
+    pub asserts: Asserts,
+    /// Whether a run that is found is made short.
+    pub short: bool,
+}
+
+/// Which asserts are asked about.
+#[derive(Clone, Copy, Debug, PartialEq, Eq)]
+pub enum Asserts {
+    /// All together.
+    All,
+    /// The one of this record.
+    One(u16),
+    /// One after the other.
+    Each,
 }
 
 /// Whom to ask and how long, as far as it was said: no solver is the first that is installed.
@@ -48,6 +65,8 @@ pub struct Found {
     pub run: Run,
     /// That the solver's model left variables out.
     pub left_out: Option<String>,
+    /// How short it was made.
+    pub short: Option<Short>,
 }
 
 /// What came of a question. The words say who did not answer, or what is wrong.
@@ -104,6 +123,35 @@ impl Asking {
     }
 }
 
+impl Wanted {
+    /// The one assert that is asked about.
+    pub fn assert(&self) -> Option<u16> {
+        match self.asserts {
+            Asserts::One(record) => Some(record),
+            Asserts::All | Asserts::Each => None,
+        }
+    }
+
+    /// The case of a source at each n that is looked at.
+    pub fn bounds(&self, source: &Source) -> Vec<Source> {
+        match self.least {
+            None => vec![source.clone()],
+            Some(most) => (0..=most).map(|switches| source.clone().with_switches(Some(switches))).collect(),
+        }
+    }
+
+    /// Solves a case as `solve` does, and makes the run short where that is wanted.
+    pub fn solve(&self, loaded: &Loaded, asking: &Asking, tell: &mut dyn FnMut(&Verdict)) -> Result<Solved, Failure> {
+        if !self.short {
+            return solve(loaded, asking, tell);
+        }
+        // These are many questions, whatever the limit of the first.
+        let limit = self.settings.limit.unwrap_or(Some(LIMIT_OF_MANY));
+        let many = Asking { limit, ..asking.clone() };
+        solve_and(loaded, asking, asking, Some(&|verdict| short::shortened(loaded, &many, verdict)), tell)
+    }
+}
+
 /// Solves a case. What came of its question is told as soon as it is known; whether its asserts are reached may take longer.
 pub fn solve(loaded: &Loaded, asking: &Asking, tell: &mut dyn FnMut(&Verdict)) -> Result<Solved, Failure> {
     solve_by(loaded, asking, asking, tell)
@@ -111,13 +159,28 @@ pub fn solve(loaded: &Loaded, asking: &Asking, tell: &mut dyn FnMut(&Verdict)) -
 
 /// The same, where one answers the case's own question, and another whether its asserts are reached.
 pub fn solve_by(loaded: &Loaded, first: &dyn Ask, others: &dyn Ask, tell: &mut dyn FnMut(&Verdict)) -> Result<Solved, Failure> {
+    solve_and(loaded, first, others, None, tell)
+}
+
+/// The same, where something else is made of a violation: it is told as it is, and then what was made of it.
+fn solve_and(
+    loaded: &Loaded,
+    first: &dyn Ask,
+    others: &dyn Ask,
+    made: Option<&dyn Fn(Verdict) -> Verdict>,
+    tell: &mut dyn FnMut(&Verdict),
+) -> Result<Solved, Failure> {
     let begin = Instant::now();
     let text = smt::text(loaded);
     let (asked, verdict, reach) = thread::scope(|scope| {
         let aside = scope.spawn(|| Reach::of(loaded, others));
         let asked = first.ask(&text, loaded.table.variables);
-        let verdict = verdict(loaded, &asked);
+        let mut verdict = verdict(loaded, &asked);
         tell(&verdict);
+        if let (Some(made), Verdict::Violated(_)) = (made, &verdict) {
+            verdict = made(verdict);
+            tell(&verdict);
+        }
         let reach = aside.join().unwrap_or_else(|_| Err(Failure::Other("the search for reached asserts failed".to_string())));
         (asked, verdict, reach)
     });
@@ -187,17 +250,20 @@ fn followed(loaded: &Loaded, solver: &str, model: &Model) -> Result<Found, Failu
         return Err(Failure::Other(format!("{name} fails, so {solver} or the text that it was given is wrong\n  {details}")));
     }
     let schedule = loaded.decode(&name, assignment)?;
-    let run = run::replay(loaded, "the decoded schedule", &schedule)?;
-    match run.ending {
-        Ending::Violated(_) => {
-            let (solver, left_out) = (solver.to_string(), model.left_out_in_words());
-            Ok(Found { solver, assignment: assignment.clone(), schedule, run, left_out })
+    let violating = |loaded: &Loaded| -> Result<Run, Failure> {
+        let run = run::replay(loaded, "the decoded schedule", &schedule)?;
+        match run.ending {
+            Ending::Violated(_) => Ok(run),
+            _ => Err(Failure::Other(format!(
+                "an assignment that meets the constraints replays to '{}': this is not the proved library",
+                run::verdict(&loaded.case, run.ending)
+            ))),
         }
-        _ => Err(Failure::Other(format!(
-            "an assignment that meets the constraints replays to '{}': this is not the proved library",
-            run::verdict(&loaded.case, run.ending)
-        ))),
-    }
+    };
+    // Where one assert is asked about, the run must break it alone, and it is the run of the whole case that is shown.
+    let run = violating(loaded).and_then(|run| if loaded.alone.is_some() { violating(loaded.whole()) } else { Ok(run) })?;
+    let (solver, left_out) = (solver.to_string(), model.left_out_in_words());
+    Ok(Found { solver, assignment: assignment.clone(), schedule, run, left_out, short: None })
 }
 
 impl Verdict {
@@ -260,7 +326,10 @@ impl Solved {
     pub fn note(&self, loaded: &Loaded) -> String {
         let within = format!("nothing within n = {}, in round robin", loaded.case.switches);
         match (&self.verdict, self.reach.note()) {
-            (Verdict::Violated(found), _) => run::broken(&loaded.case, found.run.ending),
+            (Verdict::Violated(found), _) => {
+                let short = found.short.as_ref().map(|short| format!("; {}", short.words(&loaded.case))).unwrap_or_default();
+                loaded.broken_in_words(&found.run) + &short
+            }
             (Verdict::Unsat, None) => within,
             (Verdict::Unsat, Some(note)) if self.reach.is_vacuous() => note,
             (Verdict::Unsat, Some(note)) => format!("{within}; {note}"),

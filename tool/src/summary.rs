@@ -3,8 +3,9 @@
 use crate::calls::Loaded;
 use crate::failure::{Failure, Status};
 use crate::input::Source;
+use crate::least;
 use crate::objects;
-use crate::solve::{solve, Asking, Solved, Wanted};
+use crate::solve::{Asking, Solved, Wanted};
 
 /// A case's answer, as it is printed and filed.
 #[derive(Clone, Debug)]
@@ -30,7 +31,11 @@ pub struct Summary {
 impl Summary {
     /// Solves the case of a file, files what came of it, and sums it up.
     pub fn of(source: &Source, wanted: &Wanted, asking: &Asking) -> Summary {
-        answered(source, wanted, asking).unwrap_or_else(|failure| Summary::of_failure(source, &failure))
+        let summary = match wanted.least {
+            None => answered(source, wanted, asking),
+            Some(_) => least::answered(source, wanted, asking),
+        };
+        summary.unwrap_or_else(|failure| Summary::of_failure(source, &failure))
     }
 
     /// The exit status. Where it is strict, an unsat must be about every assert.
@@ -65,7 +70,7 @@ impl Summary {
         Summary { message: Some(format!("{}: not kept: {why}", self.name)), note, json, ..self }
     }
 
-    fn of_failure(source: &Source, failure: &Failure) -> Summary {
+    pub fn of_failure(source: &Source, failure: &Failure) -> Summary {
         let message = failure.message().unwrap_or_default();
         let first = message.lines().next().unwrap_or_default();
         let note = first.strip_prefix(&format!("{}: ", source.name())).unwrap_or(first);
@@ -85,25 +90,35 @@ impl Summary {
     }
 }
 
-fn answered(source: &Source, wanted: &Wanted, asking: &Asking) -> Result<Summary, Failure> {
-    let loaded = Loaded::from(source).or_else(|failure| {
-        // An answer of what the case was before is not left beside a refusal.
+/// The case of a source. An answer of what the case was before is not left beside a refusal.
+pub fn load(source: &Source, wanted: &Wanted) -> Result<Loaded, Failure> {
+    Loaded::from(source).or_else(|failure| {
         let forced = wanted.keep.as_ref().filter(|keep| keep.force);
-        forced.map_or(Ok(()), |keep| keep.clear(&source.stem()))?;
+        let bounds = wanted.bounds(source);
+        forced.map_or(Ok(()), |keep| bounds.iter().try_for_each(|source| keep.clear(&source.stem())))?;
         Err(failure)
-    })?;
+    })
+}
+
+fn answered(source: &Source, wanted: &Wanted, asking: &Asking) -> Result<Summary, Failure> {
+    let loaded = load(source, wanted)?.with_assert_alone(wanted.assert())?;
+    answer(&loaded, wanted, asking).map(|(summary, _)| summary)
+}
+
+/// Solves a case, files what came of it, and sums it up; and all of it, where it was not filed before.
+pub fn answer(loaded: &Loaded, wanted: &Wanted, asking: &Asking) -> Result<(Summary, Option<Solved>), Failure> {
     if let Some(keep) = &wanted.keep {
-        if let Some(filed) = keep.filed(&loaded, wanted, asking)? {
-            return Ok(filed);
+        if let Some(filed) = keep.filed(loaded, wanted, asking)? {
+            return Ok((filed, None));
         }
         keep.clear(&loaded.stem)?;
     }
-    let solved = solve(&loaded, asking, &mut |_| {})?;
-    let summary = Summary::of_solved(&loaded, asking, &solved, wanted.strict);
-    let kept = wanted.keep.as_ref().map_or(Ok(()), |keep| keep.keep(&loaded, asking, &solved, &summary));
+    let solved = wanted.solve(loaded, asking, &mut |_| {})?;
+    let summary = Summary::of_solved(loaded, asking, &solved, wanted.strict);
+    let kept = wanted.keep.as_ref().map_or(Ok(()), |keep| keep.keep(loaded, asking, &solved, &summary));
     match (kept, solved.verdict.found()) {
-        (Ok(()), _) => Ok(summary),
-        (Err(failure), Some(_)) => Ok(summary.not_kept(&loaded, asking, &solved, &failure)),
+        (Ok(()), _) => Ok((summary, Some(solved))),
+        (Err(failure), Some(_)) => Ok((summary.not_kept(loaded, asking, &solved, &failure), Some(solved))),
         (Err(failure), None) => Err(failure),
     }
 }

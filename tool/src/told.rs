@@ -1,25 +1,23 @@
 //! `solve CASE` in words: what the solvers say, what the library makes of it, what it means, and which asserts it is about.
 
-use crate::calls::Loaded;
+use crate::calls::{Ending, Loaded};
 use crate::failure::{Failure, Status};
 use crate::input::Source;
 use crate::name::shown;
 use crate::output::Output;
 use crate::reach::{plainly_nothing_in_words, Reach, Reached};
-use crate::solve::{solve, Found, Solved, Verdict, Wanted};
+use crate::solve::{Found, Solved, Verdict, Wanted};
 use crate::summary::Summary;
 use crate::words::{all, count, enumeration, numbers_in_lines, record_in_words, these};
 use std::ffi::OsStr;
 
 /// `solve CASE`.
 pub fn one(source: &Source, wanted: &Wanted, output: &mut Output) -> Result<Status, Failure> {
-    let loaded = Loaded::from(source)?;
+    let loaded = Loaded::from(source)?.with_assert_alone(wanted.assert())?;
     if let Some(keep) = &wanted.keep {
         keep.prepare(source)?;
     }
-    let constraints = count(loaded.table.rows.len(), "constraint", "constraints");
-    let variables = count(loaded.table.variables, "variable", "variables");
-    output.say(&format!("{}: {constraints} over {variables}\n", loaded.name))?;
+    output.say(&question(source, &loaded))?;
     if let Some(words) = plainly_nothing_in_words(&loaded.case) {
         output.say(&format!("{words}\n"))?;
     }
@@ -32,8 +30,14 @@ pub fn one(source: &Source, wanted: &Wanted, output: &mut Output) -> Result<Stat
     }
     let names = asking.names();
     let mut told = Ok(());
-    let solved = solve(&loaded, &asking, &mut |verdict| {
-        told = output.say(&answer(&loaded, &names, verdict));
+    let solved = wanted.solve(&loaded, &asking, &mut |verdict| {
+        let text = match verdict {
+            Verdict::Violated(found) if wanted.short && found.short.is_none() => not_yet_short(&loaded, found),
+            _ => answer(&loaded, &names, verdict),
+        };
+        if told.is_ok() {
+            told = output.say(&text);
+        }
         if let (Err(failure), None) = (&told, &wanted.keep) {
             // Nobody waits for the rest, which may take long. The guard ends what is still asked.
             failure.report();
@@ -53,6 +57,17 @@ pub fn one(source: &Source, wanted: &Wanted, output: &mut Output) -> Result<Stat
     Status::of(solved.status(wanted.strict)).map_err(|_| Failure::Other(solved.verdict.message()))
 }
 
+/// What is asked: of which case, with which n where it was chosen, about which assert where it is one alone, and how much.
+fn question(source: &Source, loaded: &Loaded) -> String {
+    let constraints = count(loaded.table.rows.len(), "constraint", "constraints");
+    let variables = count(loaded.table.variables, "variable", "variables");
+    let alone = loaded.alone.as_ref().map(|(record, whole)| {
+        let asked = record_in_words(&whole.case, *record);
+        format!("asked about {asked} alone, with every other assert made 1\n")
+    });
+    format!("{}: {constraints} over {variables}\n{}", source.name_and_bound(), alone.unwrap_or_default())
+}
+
 /// An answer that was filed before.
 fn resumed(filed: &Summary, folder: &OsStr, wanted: &Wanted, output: &mut Output) -> Result<Status, Failure> {
     let by = filed.filed_by.as_deref().unwrap_or("a solver");
@@ -63,21 +78,38 @@ fn resumed(filed: &Summary, folder: &OsStr, wanted: &Wanted, output: &mut Output
 /// What the solvers say, and what the library makes of it. Where there is no answer, the failure says why.
 pub fn answer(loaded: &Loaded, solvers: &[&str], verdict: &Verdict) -> String {
     match (verdict.found(), verdict) {
-        (Some(found), _) => violated(loaded, found),
+        (Some(found), _) => violated(loaded, solvers, found),
         (None, Verdict::Unsat) => unsat(loaded, solvers),
         (None, _) => String::new(),
     }
 }
 
-fn violated(loaded: &Loaded, found: &Found) -> String {
-    let Found { solver, assignment, schedule, run, left_out } = found;
+fn violated(loaded: &Loaded, solvers: &[&str], found: &Found) -> String {
+    let Found { solver, assignment, schedule, run, left_out, short } = found;
     let left_out = left_out.as_ref().map(|words| format!("({words})\n")).unwrap_or_default();
+    let alone = match (&loaded.alone, run.ending) {
+        (Some((record, _)), Ending::Violated(first)) if first != *record => {
+            format!("record {record}, which was asked about, is broken too, after record {first}\n")
+        }
+        _ => String::new(),
+    };
     format!(
-        "{solver} says sat. Its assignment:\n{}{left_out}checked: it meets {}\ndecoded: schedule {}\n{}",
+        "{solver} says sat. Its assignment:\n{}{left_out}checked: it meets {}\ndecoded: schedule {}\n{}{alone}{}",
         numbers_in_lines(assignment),
         all(loaded.table.rows.len(), "constraint", "constraints"),
         numbers_in_lines(schedule),
-        run.text(&loaded.case, schedule)
+        run.text(&loaded.whole().case, schedule),
+        short.as_ref().map(|short| short.text(&loaded.case, solvers)).unwrap_or_default()
+    )
+}
+
+/// The run that was found first, in short: making it short may take long, or be ended.
+fn not_yet_short(loaded: &Loaded, found: &Found) -> String {
+    let Found { solver, schedule, run, .. } = found;
+    let broken = loaded.broken_in_words(run);
+    format!(
+        "{solver} says sat, and a run is found: {broken}; schedule {}a shorter one is asked for\n",
+        numbers_in_lines(schedule)
     )
 }
 
@@ -87,6 +119,10 @@ fn unsat(loaded: &Loaded, solvers: &[&str]) -> String {
     let switches = loaded.case.switches;
     let bound = if switches == 1 { "switch" } else { "switches" };
     let threads = loaded.case.threads;
+    let (assertion, other) = match &loaded.alone {
+        None => ("an assertion".to_string(), "no assertion breaks"),
+        Some((record, _)) => (format!("the assertion of record {record}"), "no other one breaks, nor this one"),
+    };
     let names = enumeration(solvers);
     let (say, word) = match solvers.len() {
         1 => ("says", format!("{names}'s own")),
@@ -94,10 +130,10 @@ fn unsat(loaded: &Loaded, solvers: &[&str]) -> String {
     };
     format!(
         "{names} {say} unsat: nothing meets {constraints}.\n\
-         It means: no complete legal run breaks an assertion within n = {switches} {bound}, in round robin: block i\n\
+         It means: no complete legal run breaks {assertion} within n = {switches} {bound}, in round robin: block i\n\
          (0 to {switches}) belongs to thread i modulo {threads}, and a thread that runs no line still uses its turn. A run is\n\
          complete and legal when every thread ran all its lines, every assume held and every lock was free.\n\
-         It does not mean: that no assertion breaks with more switches or in another order of threads; that\n\
+         It does not mean: that {other} with more switches or in another order of threads; that\n\
          anything was checked of an assert that no such run reaches; that the case says what the controller does.\n\
          The word unsat is {word}: that the constraints say this is proved, that nothing meets them is\n\
          not checked here.\n"

@@ -37,6 +37,17 @@ pub fn run(_: &dyn Calls, report: &mut Report) {
 /// A folder that goes when it is dropped.
 pub struct Folder(pub PathBuf);
 
+impl Folder {
+    /// A folder of this process under the system's own for such.
+    pub fn new(name: &str) -> Folder {
+        Folder(env::temp_dir().join(format!("menduvo-{name}-{}", std::process::id())))
+    }
+
+    pub fn name(&self) -> Result<&str, String> {
+        self.0.to_str().ok_or("the folder's name is no text".to_string())
+    }
+}
+
 impl Drop for Folder {
     fn drop(&mut self) {
         let _ = fs::remove_dir_all(&self.0);
@@ -47,19 +58,28 @@ impl Drop for Folder {
 pub fn write(folder: &Path, shape: Shape, cases: u64) -> Result<Vec<Draft>, String> {
     let draft = |number| accepted(&mut Random::from_seed(70_000_000 + number), shape);
     let drafts: Vec<Draft> = (0..cases).map(draft).collect();
+    write_all(folder, &drafts)?;
+    Ok(drafts)
+}
+
+/// Writes these cases to a folder: 000.case, 001.case, ..
+pub fn write_all(folder: &Path, drafts: &[Draft]) -> Outcome {
     fs::create_dir_all(folder).map_err(|error| error.to_string())?;
     for (number, draft) in drafts.iter().enumerate() {
         fs::write(folder.join(format!("{number:03}.case")), draft.bytes()).map_err(|error| error.to_string())?;
     }
-    Ok(drafts)
+    Ok(())
+}
+
+/// The command under test.
+pub fn program() -> Result<String, String> {
+    env::var(PROGRAM).map_err(|_| format!("{PROGRAM} does not name a program"))
 }
 
 fn compare(shape: Shape, cases: u64, tally: &mut Tally) -> Outcome {
-    let program = env::var(PROGRAM).map_err(|_| format!("{PROGRAM} does not name a program"))?;
-    let folder = Folder(env::temp_dir().join(format!("menduvo-answers-{}-{cases}", std::process::id())));
+    let folder = Folder::new(&format!("answers-{cases}"));
     let drafts = write(&folder.0, shape, cases)?;
-    let name = folder.0.to_str().ok_or("the folder's name is no text")?;
-    let printed = program::run(&program, &["solve", name, "--json", "--solver", "z3", "--jobs", "2"], &[])?;
+    let printed = program::run(&program()?, &["solve", folder.name()?, "--json", "--solver", "z3", "--jobs", "2"], &[])?;
     for (number, draft) in drafts.iter().enumerate() {
         let case = format!("/{number:03}.case\",");
         let object = printed.lines().find(|line| line.contains(&case) && line.contains("\"asserts\""));
@@ -70,8 +90,7 @@ fn compare(shape: Shape, cases: u64, tally: &mut Tally) -> Outcome {
 }
 
 fn same_answer(draft: &Draft, object: &str, tally: &mut Tally) -> Outcome {
-    let asserts = (1..).zip(&draft.records).filter(|(_, line)| line.kind == ASSERT);
-    let asserts: Vec<u16> = asserts.map(|(number, _)| number).collect();
+    let asserts = asserts(draft);
     let all = schedules(draft, &[0]);
     let violates = |draft: &Draft| all.iter().any(|all| matches!(reply(&second::RIGHT, draft, all), Replayed::Violated(_)));
     let reached: BTreeSet<u16> = asserts.iter().copied().filter(|&record| violates(&changed(draft, record))).collect();
@@ -95,14 +114,28 @@ fn same_answer(draft: &Draft, object: &str, tally: &mut Tally) -> Outcome {
     Ok(())
 }
 
+/// The records of the asserts.
+pub fn asserts(draft: &Draft) -> Vec<u16> {
+    let asserts = (1..).zip(&draft.records).filter(|(_, line)| line.kind == ASSERT);
+    asserts.map(|(number, _)| number).collect()
+}
+
 /// The case that is violated just where this assert is reached: its expression
 /// is 0, and that of every other assert 1.
-fn changed(draft: &Draft, record: u16) -> Draft {
-    let mut changed = draft.clone();
-    for (number, line) in (1..).zip(&mut changed.records) {
-        if line.kind == ASSERT {
-            (line.op, line.a, line.b, line.c) = (COPY, CONSTANT, 0, u16::from(number != record));
+pub fn changed(draft: &Draft, record: u16) -> Draft {
+    let mut changed = alone(draft, record);
+    let line = &mut changed.records[usize::from(record) - 1];
+    (line.op, line.a, line.b, line.c) = (COPY, CONSTANT, 0, 0);
+    changed
+}
+
+/// The case in which the expression of every other assert is 1.
+pub fn alone(draft: &Draft, record: u16) -> Draft {
+    let mut alone = draft.clone();
+    for (number, line) in (1..).zip(&mut alone.records) {
+        if line.kind == ASSERT && number != record {
+            (line.op, line.a, line.b, line.c) = (COPY, CONSTANT, 0, 1);
         }
     }
-    changed
+    alone
 }

@@ -2,9 +2,10 @@
 //! with the feature `proved`, else the second implementation itself. `mutants`
 //! leaves it aside and takes the second implementation with mistakes; `listing`
 //! holds it and the second implementation to what a program prints, and
-//! `answers` and `step` the command to the second implementation.
+//! `answers`, `step` and `bounds` the command to the second implementation.
 
 pub mod answers;
+mod bounds;
 mod case_a;
 mod checks;
 mod decodings;
@@ -69,6 +70,10 @@ pub fn all() -> Vec<Group> {
     groups.push(Group {
         by_default: std::env::var_os(answers::PROGRAM).is_some(),
         ..group("step", "runs by hand in MENDUVO_COMMAND", step::run)
+    });
+    groups.push(Group {
+        by_default: std::env::var_os(answers::PROGRAM).is_some(),
+        ..group("bounds", "its --least, --each and --short", bounds::run)
     });
     groups
 }

@@ -1,0 +1,323 @@
+#!/usr/bin/env bash
+# Tests the bound as a question, with z3 and cvc5 and with fakes: a case with another n, the smallest n with a violation, one assert
+# alone or each by itself, and runs that are made short. What a solver does not answer is told, and never taken for an answer.
+set -u
+cd -- "$(dirname -- "${BASH_SOURCE[0]}")/.." || exit
+. tests/helpers.sh || exit
+seen=$scratch/fakes:$PATH
+mkdir "$scratch/fakes"
+z3=$(type -P z3)
+broken=cases/interlock-broken.case
+json=$PWD/target/json/release/menduvo-json
+schema=$PWD/docs/output.schema.json
+
+# shows NAME COMMAND: the command is true; what was run last is printed where it is not.
+shows() {
+    result "$1" eval "$2"
+}
+
+# with_bound FILE N: a copy of the case with this n, as a file; its name.
+with_bound() {
+    cp "$1" "$scratch/bound.case"
+    fields "$2" | dd of="$scratch/bound.case" bs=2 seek=1 conv=notrunc status=none
+}
+
+# asked_z3 TEXT BODY: a z3 that does this where the question has the text, and else what z3 does.
+asked_z3() {
+    fake z3 "question=\$(cat); case \$question in *'$1'*) $2 ;; *) $z3 \"\$@\" <<<\"\$question\" ;; esac"
+}
+
+# objects COUNT ARGUMENTS..: with --json the command prints so many objects, and all are as the schema says.
+objects() {
+    local count=$1
+    shift
+    env PATH="$seen" timeout 60 "$menduvo" "$@" --json >"$scratch/objects" 2>"$scratch/errors" </dev/null
+    status=$?
+    out=$(cat "$scratch/objects" "$scratch/errors")
+    result "$* --json: $count objects" test "$("$json" validate "$schema" <"$scratch/objects" 2>&1)" = "$count lines, all valid"
+}
+
+# last FIELD..: a field of the last object.
+last() {
+    tail -n 1 "$scratch/objects" | "$json" get "$@" 2>&1
+}
+
+switches() {
+    local n word
+    for n in 0 1 2 15; do
+        with_bound "$broken" "$n"
+        run "$menduvo" list "$scratch/bound.case"
+        cp "$scratch/out" "$scratch/wanted"
+        run "$menduvo" list "$broken" --switches "$n"
+        shows "list --switches $n" '[ "$status" = 0 ] && cmp -s "$scratch/out" "$scratch/wanted"'
+        run "$menduvo" show "$scratch/bound.case"
+        sed '1s/^bound.case/cases\/interlock-broken.case/' "$scratch/out" >"$scratch/wanted"
+        run "$menduvo" show "$broken" "--switches=$n"
+        shows "show --switches $n" '[ "$status" = 0 ] && cmp -s "$scratch/out" "$scratch/wanted"'
+    done
+    says 'n = 16 is refused' 2 'refusal 3, place 0' "$menduvo" show "$broken" --switches 16
+    says 'n = 16 is refused by solve' 2 'refusal 3, place 0' "$menduvo" solve "$broken" --switches 16
+    says 'n = 65535 is refused' 2 'n 65535' "$menduvo" list "$broken" --switches 65535
+    with_bound "$broken" 16
+    says 'a file with n = 16 is taken with n = 3' 0 '2 threads, 3 switches' "$menduvo" show "$scratch/bound.case" --switches 3
+    with_bound "$broken" 300
+    says 'a file with n = 300 too' 0 '2 threads, 3 switches' "$menduvo" show "$scratch/bound.case" --switches 3
+    for word in -1 x 65536 '' 1.5 +1 ' 2' 0x2 2, 99999999999999999999; do
+        says "--switches '$word'" 3 '--switches needs a number from 0 to 65535' "$menduvo" list "$broken" "--switches=$word"
+    done
+    says '--switches of a filed folder' 3 "there is no option '--switches'" "$menduvo" file "$broken" "$scratch/none" --switches 2
+    for n in 0 1 2 3; do
+        head -c "$n" "$broken" >"$scratch/stub.case"
+        says "a file of $n bytes" 2 'refusal 1, place 0' "$menduvo" list "$scratch/stub.case" --switches 2
+    done
+    run bash -c "'$menduvo' list - --switches 2 <$broken"
+    shows 'a case on standard input' '[ "$status" = 0 ] && [[ $out = "63 42"* ]]'
+    says 'several to list' 0 '== cases/case-a.case with n = 2' "$menduvo" list "$broken" cases/case-a.case --switches 2
+    says 'check' 0 'meets all 66 constraints with n = 3' "$menduvo" check "$broken" cases/interlock-broken.assignment --switches 3
+    says 'check at another n' 2 'refusal 11' "$menduvo" check "$broken" cases/interlock-broken.assignment --switches 2
+    run "$menduvo" decode cases/case-a.case cases/case-a.assignment --switches 2
+    shows 'decode' '[ "$status" = 0 ] && [ "$out" = "2 1 2" ]'
+    says 'decode at another n' 2 'refusal 11' "$menduvo" decode cases/case-a.case cases/case-a.assignment --switches 3
+    echo 9 9 0 >"$scratch/short.schedule"
+    says 'replay' 0 'clean' "$menduvo" replay "$broken" "$scratch/short.schedule" --switches 2
+    says 'replay at another n' 2 'refusal 12' "$menduvo" replay "$broken" "$scratch/short.schedule"
+    says 'picture' 0 'interlock-broken-n2' "$menduvo" picture "$broken" "$scratch/short.schedule" --switches 2 -o -
+    local solver
+    for solver in z3 cvc5; do
+        says "$solver, n = 2" 0 'cases/interlock-broken.case with n = 2: 63 constraints over 42 variables' \
+            "$menduvo" solve "$broken" --switches 2 --solver "$solver"
+        says "$solver, n = 4" 1 'with n = 4: 69 constraints' "$menduvo" solve "$broken" --switches 4 --solver "$solver"
+    done
+    says 'several' 1 $'every case with n = 2\ncase ' "$menduvo" solve "$broken" cases/case-a.case --switches 2
+    says 'a folder' 1 '5 cases: 2 violated, 3 unsat, 0 vacuous' "$menduvo" solve cases --switches 2
+    objects 1 solve "$broken" --switches 2
+    result 'the object has the n' test "$(last switches)" = 2
+}
+
+# The answers at several n stand beside each other.
+kept() {
+    local folder=$scratch/kept
+    says 'kept at n = 2' 0 'says unsat' "$menduvo" solve "$broken" --switches 2 --keep "$folder"
+    says 'kept at n = 3 beside it' 1 'violated' "$menduvo" solve "$broken" --switches 3 --keep "$folder"
+    result 'both are there' test -s "$folder/interlock-broken-n2.answer" -a -s "$folder/interlock-broken-n3.schedule"
+    says 'at n = 2 again' 3 'interlock-broken-n2.smt2 is there already' "$menduvo" solve "$broken" --switches 2 --keep "$folder"
+    says 'resumed at n = 2' 0 'filed in kept already, by z3: unsat' "$menduvo" solve "$broken" --switches 2 --resume "$folder"
+    says 'resumed at n = 3' 1 'filed in kept already, by z3: violated' "$menduvo" solve "$broken" --switches 3 --resume "$folder"
+    says 'its own n is another name' 1 'violated' "$menduvo" solve "$broken" --resume "$folder"
+    result 'it is there' test -s "$folder/interlock-broken.answer"
+    says 'what was kept is replayed' 1 'violated' "$menduvo" replay "$broken" "$folder/interlock-broken-n3.schedule"
+}
+
+least() {
+    local solver name words
+    for solver in z3 cvc5; do
+        while read -r name words; do
+            says "$solver, $name" "${words%% *}" "${words#* }" "$menduvo" solve "cases/$name.case" --least --switches 6 --solver "$solver"
+        done <<'CASES'
+case-a 1 first at n = 2; unsat at 0, 1 (0: nothing was checked)
+interlock-broken 1 first at n = 3; unsat at 0, 1, 2 (0: nothing was checked)
+interlock 0 unsat at 0 to 6 (0: nothing was checked): no violation up to n = 6
+lock-order 0 unsat at 0 to 6 (0: nothing was checked): no violation up to n = 6
+lost-update 1 first at n = 2; unsat at 0, 1 (0, 1: nothing was checked)
+CASES
+    done
+    says 'up to the largest' 0 'unsat at 0 to 15 (0: nothing was checked): no violation up to the largest n' \
+        "$menduvo" solve cases/interlock.case --least
+    result 'each n has its line' test "$(grep -cE '^[0-9]+ +(unsat|vacuous) ' "$scratch/out")" = 16
+    run "$menduvo" solve "$broken" --least --solver z3
+    sed -n '/^with n = 3:$/,/^first at /p' "$scratch/out" | sed '1d;$d' >"$scratch/shown"
+    run "$menduvo" solve "$broken" --switches 3 --solver z3
+    result 'the run is the one of solve' cmp -s "$scratch/shown" <(sed 1d "$scratch/out")
+    says 'the n of the file is no matter' 1 'first at n = 3' "$menduvo" solve "$scratch/bound.case" --least
+    run bash -c "'$menduvo' solve - --least <$broken"
+    shows 'a case on standard input' '[ "$status" = 1 ] && [[ $out = *"first at n = 3; unsat at 0, 1, 2"* ]]'
+    says 'a bound over the largest' 3 '--least looks up to n = 15, the largest of a case, and not to 16' \
+        "$menduvo" solve "$broken" --least --switches 16
+    says 'a folder' 1 '5 cases: 3 violated, 2 unsat, 0 vacuous' "$menduvo" solve cases --least --switches 4 --jobs 2
+    shows 'a line of it' '[[ $out = *"interlock-broken.case  violated    66 over 45"*"first at n = 3; unsat at 0, 1, 2 (0: nothing was checked); record 8"* ]]'
+    damaged 0 5
+    says 'a refused case' 2 'refusal 2' "$menduvo" solve "$scratch/damaged.case" --least
+    # L0 = 1; G1 = L0: no assert.
+    fields 2 3 0 0 1 0 0 0 0 0 0 0 0 0 0 0  0 1 0 0 0 16 0 1 >"$scratch/none.case"
+    says 'nothing at any n' 0 'nothing was checked at 0 to 15: every unsat is vacuous' "$menduvo" solve "$scratch/none.case" --least
+    says 'which is no success where it is strict' 1 'every unsat is vacuous' "$menduvo" solve "$scratch/none.case" --least --strict
+    says 'a strict one goes by the largest n' 0 'unsat at 0 to 4' "$menduvo" solve cases/interlock.case --least --switches 4 --strict
+}
+
+# An n without an answer is told, and nothing is called the first behind it. The text has n by its counts: 66 over 45 is n = 3.
+open() {
+    local words='a violation at n = 4; unsat at 0, 1, 2 (0: nothing was checked); not known at 3'
+    asked_z3 '; 66 constraints over 45' 'exec sleep 60'
+    says 'no time at n = 3' 1 "$words (timeout)" "$menduvo" solve "$broken" --least --timeout 3
+    shows 'the message has the n' '[[ $out = *"menduvo: at n = 3: cases/interlock-broken.case: timeout"* && $out != *"first at"* ]]'
+    asked_z3 '; 66 constraints over 45' 'echo unknown'
+    says 'z3 gives up at n = 3' 1 "$words (unknown)" "$menduvo" solve "$broken" --least
+    objects 6 solve "$broken" --least
+    shows 'the object' '[ "$(last first), $(last violated), $(last notKnown 0 switches), $(last notKnown 0 answer)" = "null, 4, 3, unknown" ]'
+    asked_z3 '; 66 constraints over 45' 'echo sat; echo "((v0 #x0001))"'
+    says 'a wrong model at n = 3' 1 "$words (failed)" "$menduvo" solve "$broken" --least
+    says 'a wrong model, up to n = 3' 3 'no violation found; unsat at 0, 1, 2 (0: nothing was checked); not known at 3 (failed)' \
+        "$menduvo" solve "$broken" --least --switches 3
+    says 'a wrong model, among several' 3 'no violation found; unsat at 0, 1, 2 (0: nothing was checked); not known at 3 (failed)' \
+        "$menduvo" solve "$broken" cases/interlock.case --least --switches 3
+    fake z3 'cat >/dev/null; echo unknown'
+    says 'nothing is known' 3 'no violation found; not known at 0 (unknown), 1 (unknown)' "$menduvo" solve "$broken" --least --switches 1
+    fake z3 'cat >/dev/null; echo unsat'
+    says 'a solver that always denies' 0 'no violation up to n = 4' "$menduvo" solve "$broken" --least --switches 4
+    rm "$scratch/fakes/z3"
+    fake cvc5 'cat >/dev/null; echo unsat'
+    says 'a solver that denies the run of another' 3 'a violation at n = 3, which a solver denies; unsat at 0, 1, 2' \
+        "$menduvo" solve "$broken" --least --solver both
+    objects 5 solve "$broken" --least --solver both
+    shows 'it is not called the first' '[ "$status, $(last first), $(last violated)" = "3, null, 3" ]'
+    rm "$scratch/fakes/cvc5"
+    fake z3 "echo asked >>'$scratch/asked'; exec $z3 \"\$@\""
+    local folder=$scratch/steps
+    says 'kept' 1 'first at n = 3' "$menduvo" solve "$broken" --least --keep "$folder"
+    result 'each n is kept' test "$(cd "$folder" && echo *.answer)" = \
+        'interlock-broken-n0.answer interlock-broken-n1.answer interlock-broken-n2.answer interlock-broken-n3.answer'
+    : >"$scratch/asked"
+    says 'resumed' 1 'first at n = 3; unsat at 0, 1, 2' "$menduvo" solve "$broken" --least --resume "$folder"
+    result 'no solver is asked' test ! -s "$scratch/asked"
+    rm "$folder"/*-n1.*
+    says 'resumed where one is missing' 1 'first at n = 3; unsat at 0, 1, 2' "$menduvo" solve "$broken" --least --resume "$folder"
+    : >"$scratch/asked"
+    rm "$folder"/*-n[013].*
+    says 'something is in the way' 3 'interlock-broken-n2.smt2 is there already' "$menduvo" solve "$broken" --least --keep "$folder"
+    result 'no solver was asked before that' test ! -s "$scratch/asked"
+    rm "$scratch/fakes/z3"
+    bare
+    local seen=$scratch/bare
+    says 'no solver' 3 'no solver is installed' "$menduvo" solve "$broken" --least
+    objects 1 solve "$broken" --least
+}
+
+# One case with two asserts that break in one run, one that is never reached and one that holds: assert 0; assert 0; if L0: assert 0;
+# assert 1.
+asserts() {
+    fields 2 1 0 0 1 0 0 0 0 0 0 0 0 0 0 0 \
+        2 5 0 0 0 16 0 0  3 5 0 0 0 16 0 0  4 5 1 0 0 16 0 0  0 5 0 0 0 16 0 1 >"$scratch/four.case"
+    local solver
+    for solver in z3 cvc5; do
+        run "$menduvo" solve "$scratch/four.case" --each --solver "$solver"
+        sed -i 's/  [0-9]\.[0-9][0-9]  /  -.--  /' "$scratch/out"
+        matches solve-each 1
+        says "$solver, one is unsat at n = 3" 1 '2 asserts: 1 violated, 1 unsat' "$menduvo" solve "$broken" --each --solver "$solver"
+        says "$solver, each by its first n" 1 'first at n = 4; unsat at 0 to 3 (0: nothing was checked); e.g. schedule' \
+            "$menduvo" solve "$broken" --each --least --switches 5 --solver "$solver"
+        says "$solver, one alone" 1 'record 2, which was asked about, is broken too, after record 1' \
+            "$menduvo" solve "$scratch/four.case" --assert 2 --solver "$solver"
+        shows 'the run is that of the case' '[[ $out = *"record   1  assert 0"*"BROKEN"*"record   2  assert 0"*"violated: record 1 "* ]]'
+        says "$solver, one alone that is unsat" 0 'no complete legal run breaks the assertion of record 17 within n = 3' \
+            "$menduvo" solve "$broken" --assert 17 --solver "$solver"
+        says "$solver, one alone with more switches" 1 'violated: record 17' "$menduvo" solve "$broken" --assert 17 --switches 4 --solver "$solver"
+        says "$solver, one alone by its first n" 1 'first at n = 4; unsat at 0 to 3' "$menduvo" solve "$broken" --assert 17 --least --solver "$solver"
+    done
+    says 'one that is never reached' 0 'VACUOUS: this unsat says nothing' "$menduvo" solve "$scratch/four.case" --assert 3
+    says 'which is no success where it is strict' 1 'VACUOUS' "$menduvo" solve "$scratch/four.case" --assert 3 --strict
+    says 'one that holds' 0 'record 4 (thread 0, line 4: assert 1): reached' "$menduvo" solve "$scratch/four.case" --assert 4
+    says 'no assert' 3 $'record 5 (thread 0, line 5: L1 = G0) is not an assert; these are:\n  record 8 (thread 0, line 8: assert L3 == 0)\n  record 17' \
+        "$menduvo" solve "$broken" --assert 5
+    says 'no record' 3 'record 0, which this case does not have is not an assert' "$menduvo" solve "$broken" --assert 0
+    says 'no record, of a large number' 3 'record 65535' "$menduvo" solve "$broken" --assert 65535
+    says 'no number' 3 '--assert needs a number' "$menduvo" solve "$broken" --assert first
+    says 'a case without asserts' 3 'is not an assert; the case has none' "$menduvo" solve "$scratch/none.case" --assert 1
+    says 'a case without asserts, each' 0 '0 asserts: 0 violated' "$menduvo" solve "$scratch/none.case" --each
+    says 'a case without asserts, strict' 1 '0 asserts' "$menduvo" solve "$scratch/none.case" --each --strict
+    says 'both options' 3 '--assert and --each exclude each other' "$menduvo" solve "$broken" --each --assert 8
+    says 'kept' 3 '--each and --keep exclude each other' "$menduvo" solve "$broken" --each --keep "$scratch/no"
+    says 'resumed' 3 '--assert and --resume exclude each other' "$menduvo" solve "$broken" --assert 8 --resume "$scratch/no"
+    says 'several cases' 3 '--assert and --each take one case' "$menduvo" solve "$broken" cases/case-a.case --each
+    says 'a folder' 3 '--assert and --each take one case' "$menduvo" solve cases --assert 8
+    damaged 0 5
+    says 'a refused case' 2 'refusal 2' "$menduvo" solve "$scratch/damaged.case" --each
+    objects 1 solve "$scratch/damaged.case" --each
+    objects 5 solve "$scratch/four.case" --each
+    shows 'the answers' '[ "$status, $(for i in 0 1 2 3; do last answers $i answer; done | tr "\n" " ")" = "1, violated violated vacuous unsat " ]'
+    objects 11 solve "$broken" --each --least --switches 3
+    objects 1 solve "$broken" --assert 8
+    result 'the object names the assert' test "$(last assert), $(last answer)" = '8, violated'
+    # The question about record 17 alone has record 8 made 1.
+    asked_z3 'record 8 (thread 0, line 8: assert 1)' 'exec sleep 60'
+    says 'no time for one assert' 1 '2 asserts: 1 violated, 0 unsat, 0 vacuous, 1 timeout' "$menduvo" solve "$broken" --each --timeout 3
+    shows 'it is told' '[[ $out = *"menduvo: 1 assert was not done"* ]]'
+    rm "$scratch/fakes/z3"
+}
+
+short() {
+    local solver folder
+    # L0 = input; L1 = L0 < 1234; L2 = input; assert L1.
+    fields 2 3 0 0 1 0 0 0 0 0 0 0 0 0 0 0 \
+        2 4 0 0 0 0 0 0  3 1 0 1 6 0 16 1234  4 4 0 2 0 0 0 0  0 5 0 0 0 1 0 0 >"$scratch/inputs.case"
+    # L0 = input; if L0: L1 = input; assert L0 == 0: the second input has a true guard.
+    fields 2 2 0 0 1 0 0 0 0 0 0 0 0 0 0 0 \
+        2 4 0 0 0 0 0 0  3 4 1 1 0 0 0 0  0 5 0 0 5 0 16 0 >"$scratch/guarded.case"
+    for solver in z3 cvc5; do
+        folder=$scratch/short-$solver
+        says "$solver, n = 15" 1 'short: 3 of 15 switches used, 4 blocks with lines' \
+            "$menduvo" solve "$broken" --switches 15 --short --solver "$solver" --keep "$folder"
+        shows 'whose word it is' '[[ $out = *"that none is shorter is the word of $solver"* ]]'
+        says 'its assignment meets the constraints' 0 'meets all 102 constraints with n = 15' \
+            "$menduvo" check "$broken" "$folder/interlock-broken-n15.assignment" --switches 15
+        says 'its schedule violates' 1 'violated' "$menduvo" replay "$broken" "$folder/interlock-broken-n15.schedule" --switches 15
+        result 'no wish is kept with the constraints' eval '! grep -q wish "$folder/interlock-broken-n15.smt2"'
+        says "$solver, inputs" 1 'short: 0 of 3 switches used, 1 block with lines, inputs 1234 0' \
+            "$menduvo" solve "$scratch/inputs.case" --short --solver "$solver"
+        says "$solver, an input with a guard" 1 'short: 0 of 2 switches used, 1 block with lines, inputs 1 0' \
+            "$menduvo" solve "$scratch/guarded.case" --short --solver "$solver"
+        says "$solver, lost-update" 1 'short: 2 of 2 switches used, 3 blocks with lines, input 0' \
+            "$menduvo" solve cases/lost-update.case --short --solver "$solver"
+        says "$solver, one assert" 1 'short: 4 of 9 switches used' "$menduvo" solve "$broken" --assert 17 --switches 9 --short --solver "$solver"
+        says "$solver, with the smallest n" 1 'short: 3 of 3 switches used' "$menduvo" solve "$broken" --least --short --solver "$solver"
+    done
+    says 'of several' 1 'is broken; 2 of 2 switches used, 3 blocks with lines, input 0' "$menduvo" solve cases --short
+    says 'of each' 1 '; 4 of 9 switches used, 4 blocks with lines' "$menduvo" solve "$broken" --each --switches 9 --short
+    says 'of an unsat' 0 'z3 says unsat' "$menduvo" solve cases/interlock.case --short
+    says 'resumed' 3 '--short and --resume exclude each other' "$menduvo" solve "$broken" --short --resume "$scratch/no"
+    objects 1 solve "$scratch/inputs.case" --short
+    shows 'the object' '[ "$(last short switches) $(last short blocks) $(last short inputs 0) $(last short inputs 1) $(last short shortest)" = "0 1 1234 0 true" ]'
+    # Five times: L0 = input; L1 = L0 < 40000; assume L1 == 0. Then assert 0.
+    local input lines=()
+    for input in 1 4 7 10 13; do
+        lines+=($((input + 1)) 4 0 0 0 0 0 0  $((input + 2)) 1 0 1 6 0 16 40000  $((input + 3)) 6 0 0 5 1 16 0)
+    done
+    fields 2 0 0 0 1 0 0 0 0 0 0 0 0 0 0 0 "${lines[@]}" 0 5 0 0 0 16 0 0 >"$scratch/many.case"
+    says 'the questions have an end' 1 '64 more questions; a shorter one may be there: 64 questions are the most that are asked' \
+        "$menduvo" solve "$scratch/many.case" --short
+    shows 'what came so far' '[[ $out = *"inputs 40000 40000 "* ]]'
+    # What a solver makes of a wish is measured, and what it does not answer is told.
+    local word
+    fake z3 "sed '/^; a wish/,+1d' | $z3 \"\$@\""
+    says 'a solver that does not hear wishes' 1 'a shorter one may be there: the run of z3 is not as short as was asked' \
+        "$menduvo" solve "$scratch/inputs.case" --short
+    asked_z3 '; a wish' 'exec sleep 60'
+    says 'no time for a wish' 1 'a shorter one may be there: timeout: z3 gave no answer in time' \
+        "$menduvo" solve "$broken" --switches 9 --short --timeout 3
+    shows 'the run is there' '[[ $out = *"violated: record"*"short: "*" of 9 switches used"* ]]'
+    objects 1 solve "$broken" --switches 9 --short --timeout 3
+    result 'the object says so' test "$status, $(last short shortest)" = '1, false'
+    asked_z3 '; a wish' 'echo sat; echo "((v0 #x0001))"'
+    says 'a wrong model for a wish' 1 'a shorter one may be there: the assignment of z3 fails' "$menduvo" solve "$broken" --switches 9 --short
+    asked_z3 '; a wish' 'echo unsat'
+    says 'a solver that denies every wish' 1 'that none is shorter is the word of z3' "$menduvo" solve "$scratch/inputs.case" --short
+    asked_z3 '; a wish' 'echo unknown'
+    says 'a solver that gives up' 1 'a shorter one may be there: unknown: z3 gave up' "$menduvo" solve "$broken" --switches 9 --short
+    # The run that is found first is told at once.
+    asked_z3 '; a wish' 'exec sleep 60'
+    run bash -c "timeout 6 '$menduvo' solve $broken --switches 9 --short; true"
+    shows 'the first run is told before a shorter one is asked for' '[[ $out = *"a run is found: record"*" is broken; schedule "* ]]'
+    rm "$scratch/fakes/z3"
+}
+
+run cargo build --release --offline --locked --quiet --manifest-path tests/json/Cargo.toml --target-dir target/json
+result 'the validator is built' test "$status" = 0
+run "$menduvo" --version
+result 'the command is built' test "$status" = 0
+[ "$failed" = 0 ] || { finish; exit; }
+switches
+kept
+least
+open
+asserts
+short
+finish

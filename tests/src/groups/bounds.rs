@@ -1,0 +1,182 @@
+//! What `menduvo solve` says with `--least`, `--each` and `--short` on random
+//! small cases, beside what trying every schedule finds: the smallest n with a
+//! violation, the answer of each assert alone, and the shortest run.
+
+use crate::ask::reply;
+use crate::calls::{Calls, Replayed};
+use crate::draft::Draft;
+use crate::enumerate::{block_lengths, schedules, with_each};
+use crate::generate::{accepted, Shape, BUSY, BUSY_WITH_INPUTS, FOUR_THREADS, SMALL};
+use crate::groups::answers::{alone, asserts, changed, program, write_all, Folder};
+use crate::line::{assert, compute, constant, input, load, store, CONSTANT, LESS, OR};
+use crate::program;
+use crate::random::Random;
+use crate::report::{Outcome, Report, Tally};
+use crate::second;
+
+/// The n up to which the smallest is looked for.
+const MOST: u16 = 4;
+
+pub fn run(_: &dyn Calls, report: &mut Report) {
+    report.check("the smallest n", |tally| {
+        least(&drafts(80_000_000, SMALL, 30), tally)?;
+        least(&drafts(81_000_000, BUSY, 60), tally)?;
+        ["first at 1", "first at 2", "none"].iter().try_for_each(|what| tally.saw_often(what, 3))
+    });
+    report.check("the smallest n, four threads", |tally| least(&drafts(82_000_000, FOUR_THREADS, 20), tally));
+    report.check("each assert alone", |tally| {
+        drafts(83_000_000, BUSY, 50).iter().try_for_each(|draft| each(draft, tally))?;
+        ["violated", "unsat", "vacuous", "another is first"].iter().try_for_each(|what| tally.saw_often(what, 3))
+    });
+    report.check("the shortest run", |tally| {
+        short(&drafts(84_000_000, BUSY, 110), &[0], tally)?;
+        short(&drafts(85_000_000, FOUR_THREADS, 40), &[0], tally)?;
+        tally.saw_often("violated", 20)?;
+        tally.saw_often("an empty block between", 2)
+    });
+    report.check("the shortest run with an input", |tally| {
+        let fits = |draft: &Draft| draft.inputs().len() == 1 && (1..=6).contains(&block_lengths(draft).len());
+        let random = drafts(86_000_000, BUSY_WITH_INPUTS, 500).into_iter().filter(fits).take(6);
+        let drafts: Vec<Draft> = random.chain([1, 2, 100, 40_000].map(with_an_input)).collect();
+        let all_values: Vec<u16> = (0..=u16::MAX).collect();
+        short(&drafts, &all_values, tally)?;
+        tally.saw_often("an input over 0", 4)
+    });
+}
+
+/// A case with a violation just where the input is not smaller than this, and
+/// the other thread has written 0 before.
+fn with_an_input(least: u16) -> Draft {
+    let is_less = [LESS, 0, CONSTANT, least];
+    let lines = [input(0), compute(2, is_less), load(1, 0), assert([OR, 1, 2, 0])];
+    Draft::new(2, 3).with_globals(&[1]).with_thread(0, &lines).with_thread(1, &[store(0, constant(0))])
+}
+
+fn drafts(seed: u64, shape: Shape, cases: u64) -> Vec<Draft> {
+    (0..cases).map(|number| accepted(&mut Random::from_seed(seed + number), shape)).collect()
+}
+
+fn violates(draft: &Draft, schedule: &[u16]) -> bool {
+    matches!(reply(&second::RIGHT, draft, schedule), Replayed::Violated(_))
+}
+
+/// What the command prints about cases, as objects.
+fn printed(folder: &Folder, drafts: &[Draft], options: &[&str]) -> Result<String, String> {
+    write_all(&folder.0, drafts)?;
+    let arguments = [&["solve", folder.name()?, "--json", "--solver", "z3", "--jobs", "2"], options].concat();
+    program::run(&program()?, &arguments, &[])
+}
+
+/// The object of a case by its number that has this text.
+fn object<'a>(printed: &'a str, number: usize, text: &str) -> Result<&'a str, String> {
+    let case = format!("/{number:03}.case\",");
+    let object = printed.lines().find(|line| line.contains(&case) && line.contains(text));
+    object.ok_or_else(|| format!("no object of case {number} with {text}"))
+}
+
+fn least(drafts: &[Draft], tally: &mut Tally) -> Outcome {
+    let folder = Folder::new("least");
+    let printed = printed(&folder, drafts, &["--least", "--switches", &MOST.to_string()])?;
+    for (number, draft) in drafts.iter().enumerate() {
+        let object = object(&printed, number, "\"least\":true")?;
+        let about = |wanted: &str| format!("it should say {wanted}; {object}; case {draft}");
+        let bounds: Vec<Draft> = (0..=MOST).map(|switches| Draft { switches, ..draft.clone() }).collect();
+        let any = |draft: &Draft, all: &[Vec<u16>]| all.iter().any(|schedule| violates(draft, schedule));
+        let first = bounds.iter().position(|draft| any(draft, &schedules(draft, &[0])));
+        let unsat: Vec<usize> = (0..first.unwrap_or(bounds.len())).collect();
+        let is_vacuous = |n: &usize| {
+            let all = schedules(&bounds[*n], &[0]);
+            !asserts(draft).iter().any(|&record| any(&changed(&bounds[*n], record), &all))
+        };
+        let vacuous: Vec<usize> = unsat.iter().copied().filter(is_vacuous).collect();
+        let first = first.map_or("null".to_string(), |first| first.to_string());
+        tally.saw(if first == "null" { "none".to_string() } else { format!("first at {first}") });
+        let list = |numbers: &[usize]| format!("{numbers:?}").replace(' ', "");
+        for (field, wanted) in
+            [("first", first.clone()), ("violated", first), ("unsat", list(&unsat)), ("vacuous", list(&vacuous))]
+        {
+            let wanted = format!("\"{field}\":{wanted},");
+            tally.holds(object.contains(&wanted), || about(&wanted))?;
+        }
+    }
+    Ok(())
+}
+
+fn each(draft: &Draft, tally: &mut Tally) -> Outcome {
+    let folder = Folder::new("each");
+    write_all(&folder.0, std::slice::from_ref(draft))?;
+    let case = format!("{}/000.case", folder.name()?);
+    let printed = program::run(&program()?, &["solve", &case, "--json", "--solver", "z3", "--each"], &[])?;
+    let all = schedules(draft, &[0]);
+    for record in asserts(draft) {
+        let object = object(&printed, 0, &format!("\"assert\":{record},"))?;
+        let (one, reached) = (alone(draft, record), changed(draft, record));
+        let word = match all.iter().any(|schedule| violates(&one, schedule)) {
+            true => "violated",
+            false if all.iter().any(|schedule| violates(&reached, schedule)) => "unsat",
+            false => "vacuous",
+        };
+        tally.saw(word);
+        let answer = format!("\"answer\":\"{word}\"");
+        tally.holds(object.contains(&answer), || format!("record {record} is {word}; {object}; case {draft}"))?;
+        if word == "violated" {
+            let schedule = numbers(object, "\"schedule\":[")?;
+            tally.same(reply(&second::RIGHT, &one, &schedule), Replayed::Violated(record), || {
+                format!("{object}; case {draft}")
+            })?;
+            let Replayed::Violated(first) = reply(&second::RIGHT, draft, &schedule) else {
+                return Err(format!("the run is none of the case: {object}; case {draft}"));
+            };
+            if first != record {
+                tally.saw("another is first");
+            }
+            tally.holds(object.contains(&format!("\"record\":{first},\"assignment\"")), || format!("{first}; {object}"))?;
+        }
+    }
+    Ok(())
+}
+
+/// The numbers of the first list that begins so.
+fn numbers(object: &str, begin: &str) -> Result<Vec<u16>, String> {
+    let (_, rest) = object.split_once(begin).ok_or_else(|| format!("no {begin} in {object}"))?;
+    let (list, _) = rest.split_once(']').unwrap_or_default();
+    let numbers = list.split(',').filter(|number| !number.is_empty()).map(str::parse);
+    numbers.collect::<Result<_, _>>().map_err(|error| format!("{error}: {object}"))
+}
+
+/// The last block with lines, how many have lines, and the inputs.
+fn length(draft: &Draft, schedule: &[u16]) -> Vec<u16> {
+    let (lengths, inputs) = schedule.split_at(draft.blocks());
+    let used = lengths.iter().rposition(|&length| length > 0).unwrap_or(0) as u16;
+    let blocks = lengths.iter().filter(|&&length| length > 0).count() as u16;
+    [&[used, blocks], inputs].concat()
+}
+
+fn short(drafts: &[Draft], values: &[u16], tally: &mut Tally) -> Outcome {
+    let folder = Folder::new("short");
+    let printed = printed(&folder, drafts, &["--short"])?;
+    for (number, draft) in drafts.iter().enumerate() {
+        let object = object(&printed, number, "\"constraints\"")?;
+        let all = block_lengths(draft);
+        let all = draft.inputs().iter().fold(all, |all, _| with_each(&all, values));
+        let violating = all.iter().filter(|schedule| violates(draft, schedule));
+        let Some(shortest) = violating.map(|schedule| length(draft, schedule)).min() else {
+            tally.holds(!object.contains("\"short\""), || format!("it has no run; {object}; case {draft}"))?;
+            continue;
+        };
+        tally.saw("violated");
+        let schedule = numbers(object, "\"schedule\":[")?;
+        tally.same(length(draft, &schedule), shortest.clone(), || format!("{object}; case {draft}"))?;
+        let (used, blocks, inputs) = (shortest[0], shortest[1], format!("{:?}", &shortest[2..]).replace(' ', ""));
+        let wanted = format!("\"short\":{{\"switches\":{used},\"blocks\":{blocks},\"inputs\":{inputs},");
+        tally.holds(object.contains(&wanted), || format!("it should say {wanted}; {object}; case {draft}"))?;
+        tally.holds(object.contains("\"shortest\":true"), || format!("{object}; case {draft}"))?;
+        if blocks <= used {
+            tally.saw("an empty block between");
+        }
+        if shortest[2..].iter().any(|&input| input > 0) {
+            tally.saw("an input over 0");
+        }
+    }
+    Ok(())
+}
