@@ -44,7 +44,8 @@ lying=$scratch/built/debug/menduvo
 lies() {
     local lie=$1 text=$2
     shift 2
-    run env LIE="$lie" "$lying" "$@"
+    out=$(env LIE="$lie" "$lying" "$@" 2>&1)
+    status=$?
     result "the lie '$lie' is told" eval '[ "$status" = 3 ] && [[ $out = *"$text"* ]]'
 }
 
@@ -54,6 +55,10 @@ lies clean 'disagrees with the proved library' replay cases/case-a.case cases/ca
 lies record 'disagrees with the proved library' replay cases/case-a.case cases/case-a.schedule
 lies items 'disagrees with the proved library' picture cases/case-a.case cases/case-a.schedule -o "$scratch/none.svg"
 result 'no picture is left' test ! -e "$scratch/none.svg"
+# A run by hand is held to the library where it is over; then no schedule is given.
+lies clean 'disagrees with the proved library' step cases/case-a.case -o "$scratch/none.schedule" < <(printf '%s\n' 0 0 1 'rest 0')
+lies items 'disagrees with the proved library' step cases/case-a.case -o "$scratch/none.schedule" < <(printf '%s\n' 0 0 1 'rest 0')
+result 'no schedule is left' eval '[ ! -e "$scratch/none.schedule" ] && [[ $out != *schedule:* ]]'
 lies fails 'display of a constraint disagrees with the proved library' check cases/case-a.case cases/case-a.assignment
 lies fails 'display of a constraint disagrees with the proved library' decode cases/case-a.case cases/case-a.assignment
 lies row 'display of a constraint disagrees with the proved library' check cases/case-a.case cases/case-a.assignment

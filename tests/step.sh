@@ -18,6 +18,8 @@ fields 2 1 8 4 1 0 0 0 60000 60001 60002 60003 60004 60005 60006 60007 \
 # assert 0, then assume 0, and two lines of thread 1, which has one block.
 fields 2 1 0 0 1 3 0 0 0 0 0 0 0 0 0 0 \
     2 5 0 0 0 16 0 0 0 6 0 0 0 16 0 0 4 1 0 0 0 16 0 1 0 1 0 1 0 16 0 2 >"$scratch/vain.case"
+# Thread 1 alone, of an assume 0.
+fields 2 1 0 0 0 1 0 0 0 0 0 0 0 0 0 0 0 6 0 0 0 16 0 0 >"$scratch/last.case"
 # No line at all.
 fields 2 1 0 0 0 0 0 0 0 0 0 0 0 0 0 0 >"$scratch/empty.case"
 
@@ -98,6 +100,7 @@ giving() {
     steps inputs-wrong 3 "$scratch/inputs.case" 0 65536
     steps inputs-ended 3 "$scratch/inputs.case" 'rest 0' 1
     steps inputs-quit 3 "$scratch/inputs.case" 0 quit 7
+    steps inputs-so-far 3 "$scratch/inputs.case" 0 7 0 9 schedule
 }
 
 cutting() {
@@ -112,6 +115,9 @@ cutting() {
     steps cut-off-switch 3 cases/lock-order.case 0 1 1 switch
     steps in-vain 0 "$scratch/vain.case" 'rest 0'
     replays 'in vain' "$scratch/vain.case"
+    # The last line of all fails: none is left for other blocks.
+    steps cut-off-at-the-end 0 "$scratch/last.case" 'rest 1' schedule
+    replays 'cut off at the end' "$scratch/last.case"
     # Block 3 is the last, so thread 0 has no place for its other lines.
     steps cut-off-without-schedule 3 cases/lock-order.case 0 switch switch 1 1
 }

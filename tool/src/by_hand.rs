@@ -78,11 +78,6 @@ impl<'a> ByHand<'a> {
         Ok(())
     }
 
-    /// Whether every line has run.
-    pub fn is_complete(&self) -> bool {
-        !is_cut_off(&self.steps) && self.unfinished().is_empty()
-    }
-
     /// The schedule of a run that is over. Where it is cut off the lines that never run stand in the next blocks of their
     /// threads: a schedule has a place for every line. There is none where such a thread has no block left.
     pub fn schedule(&self) -> Option<Vec<u16>> {
@@ -95,7 +90,7 @@ impl<'a> ByHand<'a> {
     }
 
     /// The threads that have lines left, in the order in which they can run on; those that have no block left come last.
-    fn unfinished(&self) -> Vec<usize> {
+    pub fn unfinished(&self) -> Vec<usize> {
         let mut threads: Vec<usize> = (0..self.case.threads).filter(|&thread| !self.machine.left(thread).is_empty()).collect();
         threads.sort_by_key(|&thread| self.turn(thread).unwrap_or(usize::MAX));
         threads

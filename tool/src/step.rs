@@ -245,11 +245,16 @@ impl Talk<'_> {
             let broken = first_broken(&self.run.steps).map(|record| {
                 format!("{} is broken, but only a run of all lines can violate\n", record_in_words(case, record))
             });
+            let values = match self.run.machine.inputs.as_slice() {
+                [] => String::new(),
+                values => format!("   input values so far, 0 where none was taken: {}", numbers_in_lines(values)),
+            };
             let lengths = numbers_in_lines(&self.run.lengths);
-            return Ok(format!("no schedule yet; block lengths so far: {lengths}{left}{}", broken.unwrap_or_default()));
+            let broken = broken.unwrap_or_default();
+            return Ok(format!("no schedule yet\n   block lengths so far: {lengths}{values}{left}{broken}"));
         };
         let run = self.replayed(&schedule)?;
-        let more = match self.run.is_complete() {
+        let more = match self.run.unfinished().is_empty() {
             true => "",
             false => "lines that the run does not get to are counted in the next blocks of their threads\n",
         };
