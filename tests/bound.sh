@@ -252,6 +252,9 @@ short() {
     # L0 = input; if L0: L1 = input; assert L0 == 0: the second input has a true guard.
     fields 2 2 0 0 1 0 0 0 0 0 0 0 0 0 0 0 \
         2 4 0 0 0 0 0 0  3 4 1 1 0 0 0 0  0 5 0 0 5 0 16 0 >"$scratch/guarded.case"
+    # L0 = 5; if L1: L0 = input; L2 = input; L3 = L2 < 1000; assert L3: the first input has a false guard, and its line the value 5.
+    fields 2 2 0 0 1 0 0 0 0 0 0 0 0 0 0 0 \
+        2 1 0 0 0 16 0 5  3 4 2 0 0 0 0 0  4 4 0 2 0 0 0 0  5 1 0 3 6 2 16 1000  0 5 0 0 0 3 0 0 >"$scratch/skipped.case"
     for solver in z3 cvc5; do
         folder=$scratch/short-$solver
         says "$solver, n = 15" 1 'short: 3 of 15 switches used, 4 blocks with lines' \
@@ -265,6 +268,8 @@ short() {
             "$menduvo" solve "$scratch/inputs.case" --short --solver "$solver"
         says "$solver, an input with a guard" 1 'short: 0 of 2 switches used, 1 block with lines, inputs 1 0' \
             "$menduvo" solve "$scratch/guarded.case" --short --solver "$solver"
+        says "$solver, an input that is skipped" 1 'short: 0 of 2 switches used, 1 block with lines, inputs 0 1000' \
+            "$menduvo" solve "$scratch/skipped.case" --short --solver "$solver"
         says "$solver, lost-update" 1 'short: 2 of 2 switches used, 3 blocks with lines, input 0' \
             "$menduvo" solve cases/lost-update.case --short --solver "$solver"
         says "$solver, one assert" 1 'short: 4 of 9 switches used' "$menduvo" solve "$broken" --assert 17 --switches 9 --short --solver "$solver"

@@ -460,7 +460,7 @@ parallel_jobs() {
 
     recipe 'what came of it' 'What came of it'
     result 'what came of it' test "$(sed -E 's/^ +//' <<<"$out")" = \
-        $'3 "answer":"unsat"\n3 "answer":"violated"\n3 0\n3 1'
+        $'2 "answer":"unsat"\n3 "answer":"violated"\n2 0\n3 1'
 
     # Two answers are lost, and one case has not been solved at all.
     rm "$place"/out/{case-a,interlock,lock-order}.*
@@ -468,7 +468,7 @@ parallel_jobs() {
     jobs_are_done 'going on'
     cp "$place/out.jsonl" "$scratch/objects"
     result 'going on: what has an answer is not asked again' test "$(get resumed | sort | uniq -c | tr -s ' \n' ' ')" = \
-        ' 3 false 3 true '
+        ' 3 false 2 true '
 
     rm -r "$place/out" "$place/out.jsonl" "$place/out.joblog"
     recipe 'several machines' 'On several machines'

@@ -250,20 +250,23 @@ fn followed(loaded: &Loaded, solver: &str, model: &Model) -> Result<Found, Failu
         return Err(Failure::Other(format!("{name} fails, so {solver} or the text that it was given is wrong\n  {details}")));
     }
     let schedule = loaded.decode(&name, assignment)?;
-    let violating = |loaded: &Loaded| -> Result<Run, Failure> {
-        let run = run::replay(loaded, "the decoded schedule", &schedule)?;
-        match run.ending {
-            Ending::Violated(_) => Ok(run),
-            _ => Err(Failure::Other(format!(
-                "an assignment that meets the constraints replays to '{}': this is not the proved library",
-                run::verdict(&loaded.case, run.ending)
-            ))),
-        }
-    };
-    // Where one assert is asked about, the run must break it alone, and it is the run of the whole case that is shown.
-    let run = violating(loaded).and_then(|run| if loaded.alone.is_some() { violating(loaded.whole()) } else { Ok(run) })?;
+    let run = violating(loaded, &schedule, loaded.alone.as_ref().map(|(record, _)| *record))?;
+    // Where one assert is asked about, it is the run of the whole case that is shown.
+    let run = if loaded.alone.is_some() { violating(loaded.whole(), &schedule, None)? } else { run };
     let (solver, left_out) = (solver.to_string(), model.left_out_in_words());
     Ok(Found { solver, assignment: assignment.clone(), schedule, run, left_out, short: None })
+}
+
+/// The run of a schedule that an assignment was decoded to, which violates: first at this record, where one is named.
+fn violating(loaded: &Loaded, schedule: &[u16], record: Option<u16>) -> Result<Run, Failure> {
+    let run = run::replay(loaded, "the decoded schedule", schedule)?;
+    match run.ending {
+        Ending::Violated(first) if record.is_none_or(|record| first == record) => Ok(run),
+        _ => Err(Failure::Other(format!(
+            "an assignment that meets the constraints replays to '{}': this is not the proved library",
+            run::verdict(&loaded.case, run.ending)
+        ))),
+    }
 }
 
 impl Verdict {
