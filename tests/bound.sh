@@ -134,7 +134,7 @@ CASES
     says 'a bound over the largest' 3 '--least looks up to n = 15, the largest of a case, and not to 16' \
         "$menduvo" solve "$broken" --least --switches 16
     says 'a folder' 1 '5 cases: 3 violated, 2 unsat, 0 vacuous' "$menduvo" solve cases --least --switches 4 --jobs 2
-    shows 'a line of it' '[[ $out = *"interlock-broken.case  violated    66 over 45"*"first at n = 3; unsat at 0, 1, 2 (0: nothing was checked); record 8"* ]]'
+    shows 'a line of it' '[[ $out = *"interlock-broken.source  violated    66 over 45"*"first at n = 3; unsat at 0, 1, 2 (0: nothing was checked); record 8"* ]]'
     damaged 0 5
     says 'a refused case' 2 'refusal 2' "$menduvo" solve "$scratch/damaged.case" --least
     # L0 = 1; G1 = L0: no assert.
