@@ -6,9 +6,8 @@ use crate::failure::{note, Failure};
 use crate::input::Source;
 use crate::needed;
 use crate::numbers::{self, Given, Model};
-use crate::refusal::Refusal;
 use crate::table::{self, Table};
-use menduvo::{Checked, Decoded, Encoded, Listed, Replayed};
+use menduvo::{Checked, Decoded, Encoded, Listed, Refusal, Replayed};
 use std::ffi::OsString;
 
 /// An accepted case and its table.
@@ -54,7 +53,7 @@ impl Loaded {
             Encoded::Table { constraints, variables } => (usize::from(constraints), usize::from(variables)),
             Encoded::Refused { number, place } => {
                 let refusal = Refusal { number, place };
-                return Err(refusal.failure(&name, &diagnosis::of_case(&bytes, refusal)));
+                return Err(Failure::of_refusal(refusal, &name, &diagnosis::of_case(&bytes, refusal)));
             }
         };
         let rows = room[..6 * constraints].chunks_exact(6);
@@ -125,7 +124,7 @@ impl Loaded {
             Replayed::CutOff(record) => Ending::CutOff(record),
             Replayed::Refused { number, place } => {
                 let refusal = Refusal { number, place };
-                return Err(refusal.failure(name, &diagnosis::of_schedule(&self.case, schedule, refusal)));
+                return Err(Failure::of_refusal(refusal, name, &diagnosis::of_schedule(&self.case, schedule, refusal)));
             }
         };
         Ok((ending, items))
@@ -140,7 +139,7 @@ impl Loaded {
             },
             _ => Vec::new(),
         };
-        refusal.failure(name, &details)
+        Failure::of_refusal(refusal, name, &details)
     }
 
     /// A constraint that an assignment fails: what it needs, and what the assignment has there. Where this display finds nothing

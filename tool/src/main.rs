@@ -33,7 +33,6 @@ mod quote;
 mod reach;
 mod readme;
 mod reads;
-mod refusal;
 mod report;
 mod run;
 mod said;
