@@ -15,9 +15,11 @@ use std::time::Duration;
 
 pub enum Call {
     Help(Option<&'static Page>),
+    Manual,
+    Completion,
     Version,
     Demo,
-    List { cases: Vec<Source>, json: bool },
+    List { cases: Vec<Source>, words: bool, json: bool },
     Show { cases: Vec<Source>, json: bool },
     Check { case: Source, assignment: Source, json: bool },
     Decode { case: Source, assignment: Source },
@@ -111,7 +113,7 @@ fn name_and_value(argument: &OsStr) -> (&OsStr, Option<&OsStr>) {
 fn call(parts: &mut Parts) -> Result<Call, Failure> {
     Ok(match parts.page.name {
         "demo" => Call::Demo,
-        "list" => Call::List { cases: parts.cases()?, json: parts.has("--json") },
+        "list" => Call::List { cases: parts.cases()?, words: parts.has("--words"), json: parts.has("--json") },
         "show" => Call::Show { cases: parts.cases()?, json: parts.has("--json") },
         "check" => Call::Check { case: parts.next("CASE")?, assignment: parts.next("ASSIGNMENT")?, json: parts.has("--json") },
         "decode" => Call::Decode { case: parts.next("CASE")?, assignment: parts.next("ASSIGNMENT")? },
@@ -125,12 +127,21 @@ fn call(parts: &mut Parts) -> Result<Call, Failure> {
         },
         "file" => Call::File(filing(parts)?),
         "verify" => Call::Verify(verifying(parts)?),
-        _ => {
+        _ => help(parts)?,
+    })
+}
+
+fn help(parts: &mut Parts) -> Result<Call, Failure> {
+    match (parts.has("--man"), parts.has("--bash-completion")) {
+        (true, true) => Err(parts.usage("--man and --bash-completion exclude each other")),
+        (true, false) => Ok(Call::Manual),
+        (false, true) => Ok(Call::Completion),
+        (false, false) => {
             let command = parts.next("COMMAND")?.name();
             let page = named(&command).ok_or_else(|| parts.usage(&format!("there is no command '{command}'")))?;
-            Call::Help(Some(page))
+            Ok(Call::Help(Some(page)))
         }
-    })
+    }
 }
 
 fn wanted(parts: &mut Parts) -> Result<Wanted, Failure> {
