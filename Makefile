@@ -23,7 +23,7 @@ files = bin/menduvo lib/libmenduvo.a include/menduvo.h lib/pkgconfig/menduvo.pc 
 # Sets prefix, which stands in menduvo.pc, and place, where files are written.
 define find_place
 case $$PREFIX in
-    '') echo 'PREFIX is empty: name a folder, / for the root' >&2 && exit 1 ;;
+    '') echo 'PREFIX is empty: name a folder, or / for the root' >&2 && exit 1 ;;
     '~'*) echo "PREFIX is $$PREFIX, and no shell put a folder for the ~: write \$$HOME" >&2 && exit 1 ;;
     *[$$'\n\t"#$$\\`']*) echo "PREFIX is $$PREFIX, and has a sign that menduvo.pc cannot hold" >&2 && exit 1 ;;
     /*) prefix=$$PREFIX ;;
@@ -31,6 +31,7 @@ case $$PREFIX in
 esac
 until [ "$${prefix%/}" = "$$prefix" ]; do prefix=$${prefix%/}; done
 place=$$DESTDIR$$prefix
+[ ! "$$place/bin" -ef bin ] || { echo 'PREFIX is this tree, which has a bin/menduvo of its own' >&2 && exit 1; }
 endef
 
 # bin/menduvo tells its command the commit. A command that is installed has nobody to tell it, so that is built here once more, with

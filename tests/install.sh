@@ -198,10 +198,12 @@ places() {
     result 'its prefix' grep -qxF "prefix=$scratch/a  place/it's here" "$scratch/a  place/it's here/lib/pkgconfig/menduvo.pc"
     says 'it is removed' 0 'removed ' make uninstall PREFIX="$scratch/a  place/it's here"
     result 'nothing is left of it' test -z "$(there "$scratch/a  place/it's here")"
-    says 'a stage' 0 'installed stage/usr/bin/menduvo' make install DESTDIR="$stage" PREFIX=/usr
-    result 'its files are in the stage' test "$(there "$stage/usr")" = "$files"
-    result 'and name the place after it' grep -qxF 'prefix=/usr' "$stage/usr/lib/pkgconfig/menduvo.pc"
-    says 'they are removed from the stage' 0 'removed ' make uninstall DESTDIR="$stage" PREFIX=/usr
+    # The place after the stage is in the scratch folder too: nothing else is written to, or removed, should the stage be forgotten.
+    says 'a stage' 0 "installed stage" make install DESTDIR="$stage" PREFIX="$scratch/final"
+    result 'its files are in the stage' test "$(there "$stage$scratch/final")" = "$files"
+    result 'and nowhere else' test ! -e "$scratch/final"
+    result 'they name the place after it' grep -qxF "prefix=$scratch/final" "$stage$scratch/final/lib/pkgconfig/menduvo.pc"
+    says 'they are removed from the stage' 0 'removed ' make uninstall DESTDIR="$stage" PREFIX="$scratch/final"
     result 'nothing is left in the stage' test -z "$(there "$stage")"
     relative=$(realpath --relative-to=. "$scratch")/relative
     run make install PREFIX="$relative"
@@ -209,13 +211,14 @@ places() {
     result 'menduvo.pc has it from the root' grep -q '^prefix=/.*/relative$' "$scratch/relative/lib/pkgconfig/menduvo.pc"
     : >"$scratch/plain"
     says 'a place that cannot be written' 2 "plain" make install PREFIX="$scratch/plain/in"
-    says 'no place' 2 'PREFIX is empty' make install PREFIX=
-    says 'a tilde' 2 'write $HOME' make install PREFIX='~/x'
-    result 'no folder of that name' test ! -e '~'
-    says 'a quote' 2 'a sign that menduvo.pc cannot hold' make install PREFIX="$scratch/a\"b"
-    says 'a number sign' 2 'a sign that menduvo.pc cannot hold' make install PREFIX="$scratch/a#b"
-    says 'a dollar' 2 'a sign that menduvo.pc cannot hold' make install PREFIX="$scratch/a\$\$b"
-    result 'nothing is written there' test -z "$(find "$scratch" -maxdepth 1 -name 'a[^ ]b')"
+    # With a stage, which holds what would be written all the same.
+    says 'no place' 2 'PREFIX is empty' make install DESTDIR="$stage/none" PREFIX=
+    # shellcheck disable=SC2088 # it is not to be expanded
+    says 'a tilde' 2 'write $HOME' make install DESTDIR="$stage/none" PREFIX='~/x'
+    says 'a quote' 2 'a sign that menduvo.pc cannot hold' make install DESTDIR="$stage/none" PREFIX='/a"b'
+    says 'a number sign' 2 'a sign that menduvo.pc cannot hold' make install DESTDIR="$stage/none" PREFIX='/a#b'
+    says 'a dollar' 2 'a sign that menduvo.pc cannot hold' make install DESTDIR="$stage/none" PREFIX='/a$$b'
+    result 'nothing is written there' test ! -e "$stage/none"
 }
 
 removing() {
@@ -237,7 +240,7 @@ builds() {
 
 # When it builds. The fakes: bin/menduvo prints the version in a file, and cargo makes a command of what it was given.
 building() {
-    local tree="$scratch/a tree"
+    local tree="$scratch/a tree" name
     mkdir -p "$tree"/{bin,tool,cases,target/staticlib,by\ hand} && cp -r Makefile bindings "$tree/"
     echo one >"$tree/tool/main.rs" && echo tree >"$tree/target/staticlib/libmenduvo.a" && echo hand >"$tree/by hand/libmenduvo.a"
     echo 'menduvo 0.1.0 (commit abc with changes, library SHA-256 1)' >"$tree/version"
@@ -265,6 +268,10 @@ chmod +x "$2/release/menduvo"'
     result 'a build fails, and nothing is installed' test "$status, $("$tree/out/bin/menduvo")" = '2, two of def with hand'
     rm "$tree/broken"
     builds 'it is not forgotten' cargo 'three of def with tree'
+    for name in install uninstall; do
+        says "$name in the tree itself" 2 'PREFIX is this tree' env PATH="$scratch/fakes:$PATH" make -C "$tree" "$name" PREFIX=.
+        result "$name: bin/menduvo is as it was" grep -qx 'cat version' "$tree/bin/menduvo"
+    done
     [ -z "$by_hand" ] || export MENDUVO_LIB_DIR=$by_hand
 }
 
