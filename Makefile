@@ -34,8 +34,8 @@ place=$$DESTDIR$$prefix
 [ ! "$$place/bin" -ef bin ] || { echo 'PREFIX is this tree, which has a bin/menduvo of its own' >&2 && exit 1; }
 endef
 
-# bin/menduvo tells its command the commit. A command that is installed has nobody to tell it, so that is built here once more, with
-# the commit compiled in: where its sources, the commit or the library changed. So 'make install' after 'make' builds nothing.
+# bin/menduvo tells its command the commit. A command that is installed has nobody to tell it, so it is built here once more,
+# with the commit compiled in: where its sources, the commit or the library changed. 'make install' after 'make' builds nothing.
 all:
 	version=$$(bin/menduvo --version)
 	commit=$${version#*'(commit '} && commit=$${commit%', library '*}

@@ -1,8 +1,8 @@
 #!/usr/bin/env bash
-# Tests the bindings: from C, every call that bindings/menduvo.h declares on the static library; what header and Rust package have
-# without a library, and that both say the same; and over a library that lies, that the Rust package tells numbers that stand for no
-# answer, the command a reply, items or a failing constraint that its own display does not find, and the comparison with plain Rust
-# other answers.
+# Tests the bindings: from C, every call that bindings/menduvo.h declares on the static library; what header and Rust package
+# have without a library, and that both say the same; and over a library that lies, that the Rust package tells numbers that stand
+# for no answer, the command a reply, items or a failing constraint that its own display does not find, and the comparison with
+# plain Rust other answers.
 set -u
 cd -- "$(dirname -- "${BASH_SOURCE[0]}")/.." || exit
 . tests/counting.sh || exit
@@ -38,7 +38,8 @@ compile texts.c tests/bindings/unused.c -o "$scratch/texts"
 result 'the header has its texts without a library' test "$status" = 0
 "$scratch/texts" >"$scratch/texts.c.out"
 if type -P c++ >/dev/null; then
-    run c++ -x c++ -std=c++98 -Wall -Wextra -Werror -Ibindings tests/bindings/texts.c tests/bindings/unused.c -o "$scratch/texts++"
+    run c++ -x c++ -std=c++98 -Wall -Wextra -Werror -Ibindings tests/bindings/texts.c tests/bindings/unused.c \
+        -o "$scratch/texts++"
     result 'the header compiles as C++' test "$status" = 0
     result 'it says the same in C++' cmp -s "$scratch/texts.c.out" <("$scratch/texts++")
 else
@@ -104,7 +105,7 @@ run env MENDUVO_LIB_DIR="$scratch" cargo run --offline --quiet --manifest-path b
 result 'plain Rust answers otherwise' test "$status, ${out##*$'\n'}" = '1, 0 passed, 11 failed'
 
 # Unsafe code stands in one place.
-run grep -rnE --include='*.rs' '\bunsafe\b' tool bindings
+run grep -rnE --include='*.rs' '\bunsafe\b' tool bindings examples
 rest=$(grep -vE '^bindings/rust/src/(lib|library)\.rs:|forbid\(unsafe_code\)' <<<"$out")
 result 'unsafe code is in library.rs alone' test -z "$rest"
 

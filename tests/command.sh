@@ -19,7 +19,9 @@ calling() {
     says 'an unknown option' 3 "there is no option '--fast'" "$menduvo" list --fast cases/case-a.case
     says 'an option of another command' 3 "there is no option '-o'" "$menduvo" show cases/case-a.case -o x
     run "$menduvo" --version
-    result 'the version is one line' eval '[[ $out =~ ^menduvo\ 0\.1\.0\ \(commit\ (unknown|[0-9a-f]{40}( with changes)?),\ library\ SHA-256\ [0-9a-f]{64}\)$ ]]'
+    local version made='commit (unknown|[0-9a-f]{40}( with changes)?), library SHA-256 [0-9a-f]{64}'
+    version=$(sed -n 's/^#define MENDUVO_VERSION "\(.*\)"/\1/p' bindings/menduvo.h)
+    result 'the version is one line' eval '[[ $out =~ ^"menduvo $version ("$made")"$ ]]'
     says 'the manual and the completion at once' 3 'exclude each other' "$menduvo" help --man --bash-completion
     says 'the manual of a command' 3 "'list' is too much" "$menduvo" help --man list
     says 'an operand is missing' 3 'ASSIGNMENT is missing' "$menduvo" check cases/case-a.case

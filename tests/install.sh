@@ -1,7 +1,7 @@
 #!/usr/bin/env bash
-# Tests 'make install' and 'make uninstall' in a scratch folder: which files there are, that the installed command works alone and
-# names its commit, the manual page, the completion, and the examples with the lines of README.md; places with blanks, relative and
-# staged ones, and those that cannot be written. When it builds is tested in a scratch tree where cargo and bin/menduvo are fakes.
+# Tests 'make install' and 'make uninstall' in a scratch folder: which files there are, that the installed command works alone
+# and names its commit, the manual page, the completion, and the examples with the lines of README.md; places with blanks, staged
+# and relative ones, and those that cannot be written. When it builds is tested in a scratch tree with a fake cargo and bin/menduvo.
 set -u
 cd -- "$(dirname -- "${BASH_SOURCE[0]}")/.." || exit
 . tests/helpers.sh || exit
@@ -71,13 +71,13 @@ alone() {
 }
 
 package() {
-    local pc=$prefix/lib/pkgconfig/menduvo.pc
+    local pc=$prefix/lib/pkgconfig/menduvo.pc number=${version#menduvo } && number=${number%% *}
     result 'menduvo.pc: the prefix' grep -qxF "prefix=$prefix" "$pc"
-    result 'menduvo.pc: the version' grep -qx "Version: $(sed -n 's/^#define MENDUVO_VERSION "\(.*\)"/\1/p' bindings/menduvo.h)" "$pc"
+    result 'menduvo.pc: the version' grep -qxF "Version: $number" "$pc"
     result 'menduvo.pc: nothing is left to be filled in' eval "! grep -q @ '$pc'"
     type -P pkg-config >/dev/null || { echo 'pkg-config is not installed; its tests are left out'; return; }
     run env PKG_CONFIG_PATH="$prefix/lib/pkgconfig" pkg-config --modversion menduvo
-    result 'pkg-config: the version' eval '[[ $version = "menduvo $out "* ]]'
+    result 'pkg-config: the version' test "$out" = "$number"
     run env PKG_CONFIG_PATH="$prefix/lib/pkgconfig" pkg-config --cflags --libs menduvo
     result 'pkg-config: the flags' test "${out% }" = '-Ihome/.local/include -Lhome/.local/lib -lmenduvo'
 }
@@ -151,16 +151,17 @@ examples() {
             *pkg-config*) type -P pkg-config >/dev/null || continue ;;
         esac
         lines=$((lines + 1))
+        : >"$scratch/before" && sleep 0.02
         readme "$line"
         case $line in
-            cc*) result "README.md: $line" eval '[ "$status" = 0 ] && [ -x "$place/replay" ] && mv "$place/replay" "$place/replay.$lines"' ;;
-            *' 2 1 2') result "README.md: $line" eval '[ "$status" = 1 ] && [[ $out = *"violated: the first assertion that the run breaks is record 4" ]]' ;;
+            cc*) result "README.md: $line" eval '[ "$status" = 0 ] && [ "$place/replay" -nt "$scratch/before" ]' ;;
+            *' 2 1 2') result "README.md: $line" eval '[ "$status" = 1 ] && [[ $out = *"the run breaks is record 4" ]]' ;;
             *) result "README.md: $line" test "$status" = 0 ;;
         esac
-        [ ! -x "$place/replay.$lines" ] || cp "$place/replay.$lines" "$place/replay"
     done < <(block 'From C and Rust')
     result 'README.md: some lines' test "$lines" -ge 3
-    run cc -std=c99 -pedantic -Wall -Wextra -Werror -I"$prefix/include" examples/c/replay.c -L"$prefix/lib" -lmenduvo -o "$place/c"
+    run cc -std=c99 -pedantic -Wall -Wextra -Werror -I"$prefix/include" examples/c/replay.c -L"$prefix/lib" -lmenduvo \
+        -o "$place/c"
     result 'the example in C has nothing to warn of' test "$status" = 0
     while read -r status_wanted arguments; do
         for program in "$place/c" target/examples/debug/replay; do
@@ -198,7 +199,7 @@ places() {
     result 'its prefix' grep -qxF "prefix=$scratch/a  place/it's here" "$scratch/a  place/it's here/lib/pkgconfig/menduvo.pc"
     says 'it is removed' 0 'removed ' make uninstall PREFIX="$scratch/a  place/it's here"
     result 'nothing is left of it' test -z "$(there "$scratch/a  place/it's here")"
-    # The place after the stage is in the scratch folder too: nothing else is written to, or removed, should the stage be forgotten.
+    # The place after the stage is in the scratch folder too: should the stage be forgotten, no other folder is touched.
     says 'a stage' 0 "installed stage" make install DESTDIR="$stage" PREFIX="$scratch/final"
     result 'its files are in the stage' test "$(there "$stage$scratch/final")" = "$files"
     result 'and nowhere else' test ! -e "$scratch/final"
@@ -235,7 +236,7 @@ builds() {
     local name=$1 calls=$2 text=$3
     : >"$scratch/calls"
     seen=$scratch/fakes:$PATH run make -C "$tree" install PREFIX="$tree/out"
-    result "$name" eval '[ "$status" = 0 ] && [ "$(cat "$scratch/calls")" = "$calls" ] && [ "$("$tree/out/bin/menduvo")" = "$text" ]'
+    result "$name" test "$status, $(<"$scratch/calls"), $("$tree/out/bin/menduvo")" = "0, $calls, $text"
 }
 
 # When it builds. The fakes: bin/menduvo prints the version in a file, and cargo makes a command of what it was given.

@@ -3,9 +3,9 @@
  *
  *     replay CASE NUMBER..
  *
- * The numbers are the block lengths, one for each block, and then a value for each input line. README.md, "From C and Rust", has the
- * line that compiles it. The exit status is that of `menduvo replay`: 1 where the run breaks an assertion, 2 where the case or the
- * schedule is refused, 3 where something else failed.
+ * The numbers are the block lengths, one for each block, and then a value for each input line. README.md, "From C and Rust",
+ * has the line that compiles it. The exit status is that of `menduvo replay`: 1 where the run breaks an assertion, 2 where the
+ * case or the schedule is refused, 3 where something else failed.
  */
 #include <errno.h>
 #include <menduvo.h>

@@ -30,8 +30,8 @@ fn head(loaded: &Loaded) -> String {
         ),
     };
     format!(
-        "{} over {}\n({LEGEND})\nRecord k has the variables v(2k - 2), its block number, and v(2k - 1), its value.\n{block_values}\
-         A block begins with the items as they are at the end of the block before, and block 0 with: {}.\n",
+        "{} over {}\n({LEGEND})\nRecord k has the variables v(2k - 2), its block number, and v(2k - 1), its value.\n\
+         {block_values}A block begins with the items as they are at the end of the block before, and block 0 with: {}.\n",
         count(table.rows.len(), "constraint", "constraints"),
         count(table.variables, "variable", "variables"),
         items_in_words(case, &case.items_at_start()),

@@ -50,7 +50,7 @@ pub const PAGES: [Page; 11] = [
         usage: "list CASE..",
         summary: "print the constraints, six numbers a line",
         options: &[
-            Choice { name: "--words", value: "", does: "print each with its number and in words: what it demands, of which copies" },
+            Choice { name: "--words", value: "", does: "print each with its number and what it demands, in words" },
             JSON,
         ],
         more: "The first line has the count of constraints and of variables. File it with the case: constants and\n\

@@ -1,5 +1,5 @@
-//! What the value of a line is made of, with the copies that its constraint has: said here once, read of an assignment by `reads`,
-//! and put into words by `demands`.
+//! What the value of a line is made of, with the copies that its constraint has: said here once, read of an assignment by
+//! `reads`, and put into words by `demands`.
 
 use crate::case::{Case, Kind, Record};
 use crate::table::Row;
