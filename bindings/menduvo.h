@@ -25,6 +25,12 @@
 extern "C" {
 #endif
 
+/* The version that this header is of; `menduvo --version` says the same, and which commit and library it was made of. */
+#define MENDUVO_VERSION "0.1.0"
+#define MENDUVO_VERSION_MAJOR 0
+#define MENDUVO_VERSION_MINOR 1
+#define MENDUVO_VERSION_PATCH 0
+
 /*
  * The most that any accepted case needs. A table, a schedule, items and a listing of these sizes are never refused with 10,
  * whatever the case; no accepted case is longer, and no assignment that is taken has more numbers. This is proved of the definitions
@@ -43,28 +49,44 @@ extern "C" {
  * Where `refusal` is 0 the call was not refused: `place` is 0, `answer` says which answer it is, counted from 1, and `first`
  * and `second` are the values that it carries, as the calls below say; a value that is not named there is 0.
  *
- * Where `refusal` is 1 to 15 the call was refused: `place` is where, and the other three are 0. No other refusal is given. In
- * checking order:
- *    1  the case is not 32 + 16R bytes with R from 0 to 256
- *    2  T, the number of threads, is outside 2 to 4
- *    3  n, the number of switches, is over 15
- *    4  G, the number of globals, is over 8, or M, the number of mutexes, is over 4
- *    5  a header field of an absent thread or global is not 0
- *    6  a first or next number is over R, or a record is reached twice
- *    7  a record is in no chain
- *    8  a thread has over 64 lines
- *    9  a record breaks the rules of its fields; the place is the lowest such record
- *   10  a slice to be written is shorter than what would be written
- *   11  the assignment does not have exactly 2R + n x (G + M) numbers
- *   12  the schedule does not have exactly n + 1 numbers and one for each input line
- *   13  the block lengths of some thread do not add up to its lines
- *   14  the run meets an input line with a false guard and a value other than 0; the place is that record
- *   15  the assignment given to the decoder fails; the place is the first failed constraint, from 1
- * The place is 0 where none is named. Records are counted from 1.
+ * Where `refusal` is 1 to 15 the call was refused: `place` is where, and the other three are 0. No other refusal is given. The
+ * place is 0 where MENDUVO_REFUSALS names none; records are counted from 1.
  */
 typedef struct {
     uint16_t refusal, place, answer, first, second;
 } MenduvoNumbers;
+
+/*
+ * The refusals in checking order, each with its number and what it means: the macro X is used once for each, as
+ * menduvo_refusal_text uses it. It is a list of macros so that a program may make of it what it needs (a switch, a table), and
+ * so that the texts are in no program that does not use them.
+ */
+#define MENDUVO_REFUSALS(X)                                                                                     \
+    X(1, "the case is not 32 + 16R bytes with R from 0 to 256")                                                 \
+    X(2, "T, the number of threads, is outside 2 to 4")                                                         \
+    X(3, "n, the number of switches, is over 15")                                                               \
+    X(4, "G, the number of globals, is over 8, or M, the number of mutexes, is over 4")                         \
+    X(5, "a header field of an absent thread or global is not 0")                                               \
+    X(6, "a first or next number is over R, or a record is reached twice")                                      \
+    X(7, "a record is in no chain")                                                                             \
+    X(8, "a thread has over 64 lines")                                                                          \
+    X(9, "a record breaks the rules of its fields (the place is the lowest such record)")                       \
+    X(10, "an output slice is shorter than what would be written")                                              \
+    X(11, "the assignment does not have exactly 2R + n x (G + M) numbers")                                      \
+    X(12, "the schedule does not have exactly n + 1 numbers and one for each input line")                       \
+    X(13, "the block lengths of some thread do not add up to its lines")                                        \
+    X(14, "the run meets an input line with a false guard and a value other than 0 (the place is that record)") \
+    X(15, "the assignment fails (the place is the first failed constraint, from 1)")
+
+/* What a refusal's number means, as text that ends in 0. It needs no library. Of a number that is none it says so. */
+static inline const char *menduvo_refusal_text(uint16_t refusal) {
+    switch (refusal) {
+#define MENDUVO_TEXT_OF_ONE(number, text) case number: return text;
+        MENDUVO_REFUSALS(MENDUVO_TEXT_OF_ONE)
+#undef MENDUVO_TEXT_OF_ONE
+    default: return "not a refusal of document 01";
+    }
+}
 
 /*
  * Whether the other calls take this case.

@@ -1,7 +1,8 @@
 #!/usr/bin/env bash
-# Tests the bindings: from C, every call that bindings/menduvo.h declares on the static library; and over a library that lies, that
-# the Rust package tells numbers that stand for no answer, the command a reply, items or a failing constraint that its own display
-# does not find, and the comparison with plain Rust other answers.
+# Tests the bindings: from C, every call that bindings/menduvo.h declares on the static library; what header and Rust package
+# have without a library, and that both say the same; and over a library that lies, that the Rust package tells numbers that stand
+# for no answer, the command a reply, items or a failing constraint that its own display does not find, and the comparison with
+# plain Rust other answers.
 set -u
 cd -- "$(dirname -- "${BASH_SOURCE[0]}")/.." || exit
 . tests/counting.sh || exit
@@ -31,6 +32,35 @@ compile calls.c "${MENDUVO_LIB_DIR:-target/staticlib}/libmenduvo.a" -o "$scratch
 result 'every call links' test "$status" = 0
 run bash -c "'$scratch/calls' $(sed 1d cases/case-a.assignment | tr '\n' ' ') <cases/case-a.case"
 result 'every call, from C' eval '[ "$status" = 0 ] && [ "$out" = "$(<tests/bindings/calls.expected)" ]'
+
+# Without a library: the header's texts in two files of one program, and the Rust package's types.
+compile texts.c tests/bindings/unused.c -o "$scratch/texts"
+result 'the header has its texts without a library' test "$status" = 0
+"$scratch/texts" >"$scratch/texts.c.out"
+if type -P c++ >/dev/null; then
+    run c++ -x c++ -std=c++98 -Wall -Wextra -Werror -Ibindings tests/bindings/texts.c tests/bindings/unused.c \
+        -o "$scratch/texts++"
+    result 'the header compiles as C++' test "$status" = 0
+    result 'it says the same in C++' cmp -s "$scratch/texts.c.out" <("$scratch/texts++")
+else
+    echo 'c++ is not installed; its tests are left out'
+fi
+mkdir "$scratch/empty"
+run env MENDUVO_LIB_DIR="$scratch/empty" cargo build --offline --locked --quiet --manifest-path tests/bindings/types/Cargo.toml \
+    --target-dir target/types
+result 'types of Rust link where there is no library, and nothing is missed' test "$status, $out" = '0, '
+run target/types/debug/menduvo-types
+result 'every answer in words' cmp -s tests/bindings/types.expected <(sed 1,17d <<<"$out")
+result "the refusals' texts are the same in C and in Rust" cmp -s <(sed 1,2d "$scratch/texts.c.out") <(head -n 17 <<<"$out")
+result 'each refusal has a text, and 0 and 16 have none' test "$(sort -k 2 -u "$scratch/texts.c.out" | grep -c '^[0-9]* ')" = 16
+
+# One version, in the header and in what is built.
+version=$(sed -n 1p "$scratch/texts.c.out")
+result 'the numbers of the version' test "$(sed -n 2p "$scratch/texts.c.out")" = "$version"
+for manifest in tool/Cargo.toml bindings/rust/Cargo.toml; do
+    run grep '^version = ' "$manifest"
+    result "the version, $manifest" test "$out" = "version = \"$version\""
+done
 
 # The command, over a library that lies.
 compile lying.c -c -o "$scratch/lying.o"
@@ -80,7 +110,7 @@ run env MENDUVO_LIB_DIR="$scratch" cargo run --offline --quiet --manifest-path b
 result 'plain Rust answers otherwise' test "$status, ${out##*$'\n'}" = '1, 0 passed, 11 failed'
 
 # Unsafe code stands in one place.
-run grep -rnE --include='*.rs' '\bunsafe\b' tool bindings
+run grep -rnE --include='*.rs' '\bunsafe\b' tool bindings examples
 rest=$(grep -vE '^bindings/rust/src/(lib|library)\.rs:|forbid\(unsafe_code\)' <<<"$out")
 result 'unsafe code is in library.rs alone' test -z "$rest"
 

@@ -18,6 +18,12 @@ calling() {
     says 'an unknown command' 3 "there is no command 'lst'" "$menduvo" lst
     says 'an unknown option' 3 "there is no option '--fast'" "$menduvo" list --fast cases/case-a.case
     says 'an option of another command' 3 "there is no option '-o'" "$menduvo" show cases/case-a.case -o x
+    run "$menduvo" --version
+    local version made='commit (unknown|[0-9a-f]{40}( with changes)?), library SHA-256 [0-9a-f]{64}'
+    version=$(sed -n 's/^#define MENDUVO_VERSION "\(.*\)"/\1/p' bindings/menduvo.h)
+    result 'the version is one line' eval '[[ $out =~ ^"menduvo $version ("$made")"$ ]]'
+    says 'the manual and the completion at once' 3 'exclude each other' "$menduvo" help --man --bash-completion
+    says 'the manual of a command' 3 "'list' is too much" "$menduvo" help --man list
     says 'an operand is missing' 3 'ASSIGNMENT is missing' "$menduvo" check cases/case-a.case
     says 'an operand too many' 3 "'x' is too much" "$menduvo" decode cases/case-a.case cases/case-a.assignment x
     says 'an option twice' 3 '--solver is given twice' "$menduvo" solve cases/case-a.case --solver z3 --solver=z3
@@ -36,9 +42,30 @@ calling() {
     cd - >/dev/null || exit
 }
 
+# A case with every kind of line, guards of both sorts, and names with and without a copy.
+every_kind() {
+    fields 2 2 2 1 1 14 0 0 3 0 0 0 0 0 0 0
+    fields 2 4 0 0 0 0 0 0    # L0 = input
+    fields 3 1 0 1 2 0 16 3   # L1 = L0 - 3
+    fields 4 3 2 2 0 0 0 0    # if L1 != 0: L2 = G0
+    fields 5 2 18 0 4 2 0 0   # if L1 == 0: G0 = L2 | L0
+    fields 6 4 4 2 0 0 0 0    # if L3 != 0: L2 = input
+    fields 7 7 0 0 0 0 0 0    # lock M0
+    fields 8 8 2 0 0 0 0 0    # if L1 != 0: unlock M0
+    fields 9 7 2 0 0 0 0 0    # if L1 != 0: lock M0
+    fields 10 6 0 0 6 0 2 0   # assume L0 < L2
+    fields 11 5 18 0 0 2 0 0  # if L1 == 0: assert L2
+    fields 12 2 0 0 0 16 0 7  # G0 = 7
+    fields 13 3 0 4 0 0 0 0   # L4 = G0
+    fields 0 5 0 0 3 4 4 0    # assert L4 & L4
+    fields 15 2 0 1 1 0 16 1  # G1 = L0 + 1
+    fields 0 6 1 0 1 16 16 9  # if L0 != 0: assume 9 + 9
+}
+
 reading() {
     local name
     same list-case-a 0 "$menduvo" list cases/case-a.case
+    same list-words-case-a 0 "$menduvo" list --words cases/case-a.case
     for name in cases/*.case; do
         name=$(basename "$name" .case)
         same "show-$name" 0 "$menduvo" show "cases/$name.case"
@@ -61,6 +88,12 @@ reading() {
     # No record, no switch: one constraint, over no variable.
     fields 2 0 0 0 0 0 0 0 0 0 0 0 0 0 0 0 >"$scratch/empty.case"
     same check-empty 1 "$menduvo" check "$scratch/empty.case" /dev/null
+    same list-words-empty 0 "$menduvo" list --words "$scratch/empty.case"
+    every_kind >"$scratch/kinds.case"
+    same list-words-kinds 0 "$menduvo" list --words "$scratch/kinds.case"
+    run "$menduvo" list "$scratch/kinds.case" && cp "$scratch/out" "$scratch/list"
+    result "the words stand beside the listing's rows" cmp -s <(sed 1d "$scratch/list") \
+        <(sed -nE 's/^ *[0-9]+: ([0-9 ]*[0-9])  .*/\1/p' tests/command/list-words-kinds.expected)
     same picture-case-a 0 "$menduvo" picture cases/case-a.case cases/case-a.schedule -o -
     same picture-lock-order 0 "$menduvo" picture cases/lock-order.case cases/lock-order.schedule -o -
     says 'picture to a file' 0 'violated' "$menduvo" picture cases/case-a.case cases/case-a.schedule -o "$scratch/a.svg"
@@ -126,6 +159,8 @@ refusals() {
     damaged 5 0 && same refusal-7 2 "$menduvo" show "$scratch/damaged.case"
     damaged 27 1 && same refusal-9 2 "$menduvo" show "$scratch/damaged.case"
     same refusal-9-list 2 "$menduvo" list "$scratch/damaged.case"
+    run "$menduvo" list --words "$scratch/damaged.case"
+    result 'a refused case has no words' eval '[ "$status" = 2 ] && cmp -s "$scratch/out" tests/command/refusal-9-list.expected'
     damaged 17 9 && same refusal-9-kind 2 "$menduvo" show "$scratch/damaged.case"
     local record records=()
     for record in {2..65} 0; do records+=("$record" 7 0 0 0 0 0 0); done

@@ -38,7 +38,7 @@ fresh() {
     fake "$bin/rustc" 'echo a fake'
     fake "$bin/apt-get" 'echo "${!#}" >>"${0%/*}/apt.log"; eval "${APT:-exit 100}"'
     local program
-    for program in z3 cvc5 parallel xmllint; do fake "$bin/$program" ''; done
+    for program in z3 cvc5 parallel xmllint make; do fake "$bin/$program" ''; done
     fake "$repo/tests/a.sh" 'eval "${TEST:-echo 2 passed, 0 failed}"'
     fake "$repo/tests/b.sh" 'echo 1 passed, 0 failed'
     echo 'echo this is no test; exit 1' >"$repo/tests/helper.sh"

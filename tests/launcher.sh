@@ -39,7 +39,7 @@ begin cargo; while [ "$1" != --target-dir ]; do shift; done
 mkdir -p "$2/release"; made=$2/release/menduvo; [ ! -e "$made" ] || exit 0
 text="$(cat tool/main.rs) $(cat "$MENDUVO_LIB_DIR/libmenduvo.a")"
 printf "#!%s\n" "$BASH" >"$made"; chmod +x "$made"; pause cargo
-printf "%s\n" "echo \"it is $text\${MENDUVO_COMMIT+, \$MENDUVO_COMMIT}\"" \
+printf "%s\n" "echo \"it is $text$MENDUVO_BUILD_COMMIT\${MENDUVO_COMMIT+, \$MENDUVO_COMMIT}\"" \
     "for fd in /proc/\$\$/fd/*; do [ ! \"\$fd\" -ef \"$PWD/$2/lock\" ] || echo it has the lock; done" >>"$made"; sleep 0.02'
 
 # Make the scratch tree anew.
@@ -92,7 +92,8 @@ building() {
     mkdir -p "$scratch/rt" && cp "$scratch"/fakes/{rt,common} "$scratch/rt/"
     seen=$slow:$scratch/rt says 'cargo is missing' 3 'cargo is not installed' "$menduvo"
     plant
-    runs 'it builds all, whatever a variable is called outside' "$whole" 'rt cargo' 'it is red round' env lock=1 "$menduvo"
+    runs 'it builds all, whatever a variable is called outside' "$whole" 'rt cargo' 'it is red round' \
+        env lock=1 MENDUVO_BUILD_COMMIT=x "$menduvo"
     runs 'nothing to do, nothing said, and nothing started but readlink and find' "$quick" '' 'it is red round' "$menduvo"
     echo blue >"$tree/tool/main.rs"
     runs 'the command changed' "$whole" cargo 'it is blue round' "$menduvo"
@@ -344,7 +345,7 @@ commits() {
     plant_built
     runs 'there is no git' "$slow" '' 'it is red round, unknown' "$menduvo" file
     fake git 'echo "$0" >>"${0%/fakes/*}/calls"'
-    runs 'only file needs git' "$whole" '' 'it is red round' "$menduvo" list file
+    runs 'only what tells the commit needs git' "$whole" '' 'it is red round' "$menduvo" list file
     rm "$scratch/fakes/git"
     type -P git >/dev/null || { echo 'git is not installed; its tests are left out'; return; }
     ln -s "$(type -P git)" "$slow/"
@@ -353,7 +354,9 @@ commits() {
     "${git[@]}" add bin crates crates.txt tool bindings cases && "${git[@]}" commit -qm all && hash=$("${git[@]}" rev-parse HEAD)
     result 'there is a commit' test "${#hash}" -ge 40
     runs 'its commit' "$slow" '' "it is red round, $hash" "$menduvo" file
-    runs 'its commit, for what is verified' "$slow" '' "it is red round, $hash" "$menduvo" verify
+    for name in verify --version -V version; do
+        runs "its commit, for $name" "$slow" '' "it is red round, $hash" "$menduvo" "$name"
+    done
     runs 'whatever the caller was told' "$slow" '' "it is red round, $hash" \
         env MENDUVO_COMMIT=x GIT_DIR="$scratch" GIT_INDEX_FILE="$scratch/x" "$menduvo" file
     # Git takes no orders from a repository of somebody else, unless it is told to.
@@ -393,7 +396,9 @@ real() {
     says 'the command is built' 0 'menduvo 0.' bin/menduvo --version
     mkdir -p "$scratch/real/target" && cp -r bin crates crates.txt tool bindings cases "$scratch/real/"
     find target -maxdepth 1 \( -name 'menduvo*' -o -name staticlib \) -exec cp -r {} "$scratch/real/target/" \;
+    # The copy is no repository.
     local version=${out##*$'\n'}
+    version="${version%%(*}(commit unknown, ${version##*, }"
     runs 'the command runs in a copy of the tree' "$slow" '' "$version" "$scratch/real/bin/menduvo" --version
     cd "$scratch" || exit
     mv real 'moved again'

@@ -17,7 +17,7 @@ while read -r manifest; do
     result "cargo fmt --check, $manifest" test "$status" = 0
     clippy "$manifest"
     # What a feature puts in is looked at too, and what is there without it.
-    ! grep -q '^\[features\]' "$manifest" || clippy "$manifest" --all-features
+    ! grep -q '^\[features\]' "$manifest" || { clippy "$manifest" --all-features; clippy "$manifest" --no-default-features; }
     run grep '^rust-version' "$manifest"
     result "the version of Rust, $manifest" test "$out" = "rust-version = \"$version\""
 done < <(find . \( -name target -o -name .git \) -prune -o -name Cargo.toml -print | sort)

@@ -119,6 +119,10 @@ listings() {
             sed 's/.*"rows":\[\[//; s/\]\].*//; s/\],\[/\n/g' "$scratch/objects" | tr , ' '
         } >"$scratch/rows"
         result "list $name: the rows are those of the text" cmp -s "$scratch/rows" "$scratch/text"
+        object "list --words $name" 0 listed list --words "$name"
+        result "list --words $name: the words are those of the text" cmp -s \
+            <(sed 's/.*"words":\["//; s/"\]}$//; s/","/\n/g' "$scratch/objects") \
+            <(sed -nE 's/^ *[0-9]+: [0-9 ]*[0-9]  +//p' "$scratch/text")
         object "show $name" 0 shown show "$name"
         is "show $name" "$name" case
         result "show $name: the counts are those of the text" grep -q \

@@ -1,10 +1,14 @@
 //! Tells the linker where libmenduvo.a is: in the folder that MENDUVO_LIB_DIR names, else where `rt staticlib menduvo` puts it.
+//! Without the feature `link` nothing is linked, and nothing is told.
 
 use std::env;
 use std::path::{self, PathBuf};
 
 fn main() {
     println!("cargo:rerun-if-changed=build.rs");
+    if env::var_os("CARGO_FEATURE_LINK").is_none() {
+        return;
+    }
     println!("cargo:rerun-if-env-changed=MENDUVO_LIB_DIR");
     let package = PathBuf::from(env::var_os("CARGO_MANIFEST_DIR").expect("cargo sets CARGO_MANIFEST_DIR"));
     let folder = match env::var_os("MENDUVO_LIB_DIR") {

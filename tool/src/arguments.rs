@@ -18,11 +18,13 @@ use std::time::Duration;
 
 pub enum Call {
     Help(Option<&'static Page>),
+    Manual,
+    Completion,
     Version,
     Demo,
     Make { source: Source, file: OsString, force: bool },
     Source { case: Source },
-    List { cases: Vec<Source>, json: bool },
+    List { cases: Vec<Source>, words: bool, json: bool },
     Show { cases: Vec<Source>, json: bool },
     Check { case: Source, assignment: Source, json: bool },
     Decode { case: Source, assignment: Source },
@@ -119,7 +121,7 @@ fn call(parts: &mut Parts) -> Result<Call, Failure> {
         "demo" => Call::Demo,
         "make" => Call::Make { source: parts.next("SOURCE")?, file: parts.output("CASE")?, force: parts.has("--force") },
         "source" => Call::Source { case: parts.next("CASE")? },
-        "list" => Call::List { cases: parts.cases()?, json: parts.has("--json") },
+        "list" => Call::List { cases: parts.cases()?, words: parts.has("--words"), json: parts.has("--json") },
         "show" => Call::Show { cases: parts.cases()?, json: parts.has("--json") },
         "check" => Call::Check { case: parts.case()?, assignment: parts.next("ASSIGNMENT")?, json: parts.has("--json") },
         "decode" => Call::Decode { case: parts.case()?, assignment: parts.next("ASSIGNMENT")? },
@@ -139,12 +141,21 @@ fn call(parts: &mut Parts) -> Result<Call, Failure> {
         },
         "file" => Call::File(filing(parts)?),
         "verify" => Call::Verify(verifying(parts)?),
-        _ => {
+        _ => help(parts)?,
+    })
+}
+
+fn help(parts: &mut Parts) -> Result<Call, Failure> {
+    match (parts.has("--man"), parts.has("--bash-completion")) {
+        (true, true) => Err(parts.usage("--man and --bash-completion exclude each other")),
+        (true, false) => Ok(Call::Manual),
+        (false, true) => Ok(Call::Completion),
+        (false, false) => {
             let command = parts.next("COMMAND")?.name();
             let page = named(&command).ok_or_else(|| parts.usage(&format!("there is no command '{command}'")))?;
-            Call::Help(Some(page))
+            Ok(Call::Help(Some(page)))
         }
-    })
+    }
 }
 
 /// Why nothing is kept where one assert is asked about.

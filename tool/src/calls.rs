@@ -6,11 +6,10 @@ use crate::failure::{note, Failure};
 use crate::input::Source;
 use crate::needed;
 use crate::numbers::{self, Given, Model};
-use crate::refusal::Refusal;
 use crate::source::Draft;
 use crate::table::{self, Table};
 use crate::token::pointed;
-use menduvo::{Checked, Decoded, Encoded, Listed, Replayed};
+use menduvo::{Checked, Decoded, Encoded, Listed, Refusal, Replayed};
 use std::ffi::OsString;
 
 /// An accepted case and its table.
@@ -63,11 +62,11 @@ impl Loaded {
                 let refusal = Refusal { number, place };
                 let details = diagnosis::of_case(&bytes, refusal);
                 return Err(match source {
-                    None => refusal.failure(&name, &details),
+                    None => Failure::of_refusal(refusal, &name, &details),
                     Some(source) => {
                         let place = source.place_of(refusal);
                         let details = [pointed(&source.text, place), details].concat();
-                        refusal.failure(&format!("{name}: {place}"), &details)
+                        Failure::of_refusal(refusal, &format!("{name}: {place}"), &details)
                     }
                 });
             }
@@ -146,7 +145,7 @@ impl Loaded {
             Replayed::CutOff(record) => Ending::CutOff(record),
             Replayed::Refused { number, place } => {
                 let refusal = Refusal { number, place };
-                return Err(refusal.failure(name, &diagnosis::of_schedule(&self.case, schedule, refusal)));
+                return Err(Failure::of_refusal(refusal, name, &diagnosis::of_schedule(&self.case, schedule, refusal)));
             }
         };
         Ok((ending, items))
@@ -161,7 +160,7 @@ impl Loaded {
             },
             _ => Vec::new(),
         };
-        refusal.failure(name, &details)
+        Failure::of_refusal(refusal, name, &details)
     }
 
     /// A constraint that an assignment fails: what it needs, and what the assignment has there. Where this display finds nothing

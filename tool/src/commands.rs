@@ -9,17 +9,22 @@ use crate::output::Output;
 use crate::run::Run;
 use crate::solve::Asserts;
 use crate::words::{all, numbers_in_lines};
-use crate::{demo, each, file, help, keep, least, make, picture, report, run, said::Said, several, show, step, told, verified};
+use crate::{
+    completion, demands, demo, each, file, help, keep, least, make, manual, picture, report, run, said::Said, several, show,
+    step, told, verified,
+};
 use std::ffi::OsStr;
 
 pub fn perform(call: Call, output: &mut Output) -> Result<Status, Failure> {
     match call {
         Call::Help(page) => output.say(&page.map_or_else(help::all, help::one)).map(|()| Status::Done),
-        Call::Version => output.say(concat!("menduvo ", env!("CARGO_PKG_VERSION"), "\n")).map(|()| Status::Done),
+        Call::Manual => output.say(&manual::page()).map(|()| Status::Done),
+        Call::Completion => output.say(&completion::script()).map(|()| Status::Done),
+        Call::Version => output.say(&file::version()).map(|()| Status::Done),
         Call::Demo => demo::tell(output),
         Call::Make { source, file, force } => make::make(&source, &file, force, output),
         Call::Source { case } => make::source(&case, output),
-        Call::List { cases, json } => each(&cases, json, output, list),
+        Call::List { cases, words, json } => each(&cases, json, output, |case, json| list(case, words, json)),
         Call::Show { cases, json } => each(&cases, json, output, show),
         Call::Check { case, assignment, json } => check(&case, &assignment, json).tell(output),
         Call::Decode { case, assignment } => decode(&case, &assignment, output),
@@ -39,7 +44,7 @@ pub fn perform(call: Call, output: &mut Output) -> Result<Status, Failure> {
 }
 
 /// One case after the other, each though an earlier one failed. The exit status is then the highest.
-fn each(cases: &[Source], json: bool, output: &mut Output, one: fn(&Source, bool) -> Said) -> Result<Status, Failure> {
+fn each(cases: &[Source], json: bool, output: &mut Output, one: impl Fn(&Source, bool) -> Said) -> Result<Status, Failure> {
     let mut worst = Ok(Status::Done);
     for case in cases {
         if cases.len() > 1 && !json {
@@ -56,13 +61,14 @@ fn each(cases: &[Source], json: bool, output: &mut Output, one: fn(&Source, bool
     worst
 }
 
-/// As the listing program: the counts and the constraints, or a refusal's number and place.
-fn list(case: &Source, json: bool) -> Said {
+/// As the listing program: the counts and the constraints, or a refusal's number and place. Or the constraints in words.
+fn list(case: &Source, words: bool, json: bool) -> Said {
     let loaded = case.case().and_then(|draft| Ok((listing(&draft.bytes)?, Loaded::of(case, draft))));
     match (loaded, json) {
+        (Ok((_, Ok(loaded))), false) if words => Said { text: demands::text(&loaded), ended: Ok(Status::Done) },
         // A refused case has a listing too; that it is refused is told besides.
         (Ok((text, loaded)), false) => Said { text, ended: loaded.map(|_| Status::Done) },
-        (Ok((_, Ok(loaded))), true) => Said::object(&report::listed(&loaded), Status::Done),
+        (Ok((_, Ok(loaded))), true) => Said::object(&report::listed(&loaded, words), Status::Done),
         (Ok((_, Err(failure))) | Err(failure), _) => Said::failed("list", case, case, failure, json),
     }
 }

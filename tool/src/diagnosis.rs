@@ -1,8 +1,8 @@
 //! What may help to mend a refused input. Only the library decides that it is refused, and why; this looks for the place.
 
 use crate::case::{Case, Kind, Record, CONSTANT};
-use crate::refusal::Refusal;
 use crate::words::{count, enumeration, record_in_words};
+use menduvo::Refusal;
 
 /// Details of refusals 1 to 9.
 pub fn of_case(bytes: &[u8], refusal: Refusal) -> Vec<String> {

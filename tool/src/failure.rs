@@ -1,7 +1,7 @@
 //! How a call of the command ends, and its exit status.
 
 use crate::name::shown;
-use crate::refusal::Refusal;
+use menduvo::Refusal;
 use std::io::Write;
 use std::path::Path;
 
@@ -62,9 +62,24 @@ impl Failure {
         Failure::Other(format!("{}: {error}", shown(path.as_ref().as_os_str())))
     }
 
+    /// The library refused this input. The details say more about it, a line each.
+    pub fn of_refusal(refusal: Refusal, input: &str, details: &[String]) -> Failure {
+        let mut message = format!("{input}: {refusal}");
+        for detail in details {
+            message.push_str("\n  ");
+            message.push_str(detail);
+        }
+        match refusal.number {
+            // The slices that this command lends are as long as any result.
+            10 => Failure::Other(message),
+            _ => Failure::ByLibrary(refusal, message),
+        }
+    }
+
     pub fn status(&self) -> i32 {
         match self {
-            Failure::ByLibrary(refusal, _) if refusal.is_of_a_failing_assignment() => Status::Found.number(),
+            // The input was taken, and is an assignment that fails.
+            Failure::ByLibrary(Refusal { number: 15, .. }, _) => Status::Found.number(),
             Failure::ByLibrary(..) | Failure::Refused(_) => Failure::STATUS_REFUSED,
             Failure::Told(status) => *status,
             Failure::Other(_) | Failure::BrokenPipe => Failure::STATUS_OTHER,

@@ -78,15 +78,26 @@ fn made(asking: &Asking) -> Made {
     Made { command: quote::line(&arguments), solvers: solvers.collect(), ..this_command() }
 }
 
-/// What is known of this command itself. Its commit is told by the script that starts it.
+/// What is known of this command itself. Its commit is compiled in where it is built to be installed; else the script that starts
+/// it tells it, which knows of commits that came after the build.
 pub fn this_command() -> Made {
-    let commit = std::env::var("MENDUVO_COMMIT").unwrap_or_default();
+    let compiled = option_env!("MENDUVO_BUILD_COMMIT").unwrap_or_default();
+    let commit = match compiled.is_empty() {
+        true => std::env::var("MENDUVO_COMMIT").unwrap_or_default(),
+        false => compiled.to_string(),
+    };
     Made {
         version: env!("CARGO_PKG_VERSION").to_string(),
         commit: one_line(&commit),
         library: env!("MENDUVO_LIBRARY_SHA256").to_string(),
         ..Made::default()
     }
+}
+
+/// `menduvo --version`, in one line.
+pub fn version() -> String {
+    let Made { version, commit, library, .. } = this_command();
+    format!("menduvo {version} (commit {commit}, library SHA-256 {library})\n")
 }
 
 /// A folder that is not whole yet. It goes where it is not renamed.

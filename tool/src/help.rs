@@ -68,7 +68,11 @@ pub const PAGES: &[Page] = &[
         name: "list",
         usage: "list CASE..",
         summary: "print the constraints, six numbers a line",
-        options: &[SWITCHES, JSON],
+        options: &[
+            SWITCHES,
+            Choice { name: "--words", value: "", does: "print each with its number and what it demands, in words" },
+            JSON,
+        ],
         more: "The first line has the count of constraints and of variables. File it with the case: constants and\n\
                operations stand in the case alone.\n\
                For a refused case it prints the refusal's number and its place on one line, with exit status 2.\n\
@@ -248,10 +252,22 @@ pub const PAGES: &[Page] = &[
                gives another answer; 2 where the filed case is refused; 3 where the folder cannot be read, or a solver that\n\
                is asked again gives no answer.\n",
     },
-    Page { name: "help", usage: "help [COMMAND]", summary: "print this, or the help of a command", options: &[], more: "" },
+    Page {
+        name: "help",
+        usage: "help [COMMAND]",
+        summary: "print this, or the help of a command",
+        options: &[
+            Choice { name: "--man", value: "", does: "print the manual page, for man" },
+            Choice { name: "--bash-completion", value: "", does: "print the completion of commands and options, for bash" },
+        ],
+        more: "",
+    },
 ];
 
-const FILES: &str = "\
+/// What the command is.
+pub const ABOUT: &str = "bounded checking of threaded cases, over a proved library";
+
+pub const FILES: &str = "\
 Files:
   CASE         the bytes of a case file, or its source (docs/SOURCE.md); '-' is standard input
   ASSIGNMENT   a number for each variable, or a solver's model (z3's or cvc5's) over v0, v1, ..
@@ -260,7 +276,7 @@ Files:
   line's end. '-' is standard input.
 ";
 
-const STATUSES: &str = "\
+pub const STATUSES: &str = "\
 Exit status:
   0  done
   1  a violation was found, an assignment fails, or a filed folder is not the same
@@ -270,7 +286,7 @@ Exit status:
 
 /// `menduvo help`.
 pub fn all() -> String {
-    let mut text = String::from("menduvo: bounded checking of threaded cases, over a proved library\n\nCommands:\n");
+    let mut text = format!("menduvo: {ABOUT}\n\nCommands:\n");
     let width = PAGES.iter().map(|page| page.usage.len()).max().unwrap_or(0);
     for page in PAGES {
         text.push_str(&format!("  {:width$}  {}\n", page.usage, page.summary));
@@ -299,7 +315,7 @@ fn options(page: &Page) -> String {
     }
 }
 
-fn capitalised(text: &str) -> String {
+pub fn capitalised(text: &str) -> String {
     let mut signs = text.chars();
     signs.next().map(|first| first.to_uppercase().collect::<String>() + signs.as_str()).unwrap_or_default()
 }

@@ -5,6 +5,7 @@ use crate::case::{Case, Kind, Record};
 use crate::names::Name;
 use crate::reads::{Read, Reads};
 use crate::table::{Row, Table};
+use crate::term::Term;
 use crate::words::{enumeration, item_name};
 use std::collections::BTreeMap;
 
@@ -88,7 +89,7 @@ impl Rows<'_> {
             return Some(Seen { holds: found == 1, needed, found: format!("{found}{why}") });
         }
         let (guard, why) = self.reads.guard(record, guard_copy);
-        let mutex = self.reads.mutex(record, target_copy);
+        let mutex = self.reads.term(record, Term::mutex(self.case, record, target_copy))?;
         let why = why.map(|why| format!(" ({why})")).unwrap_or_default();
         let needed = format!("{} = 0{why}", self.case.names.called(Name::Mutex(record.target)));
         Some(Seen { holds: !guard || mutex.value == 0, needed, found: mutex.words })
@@ -136,36 +137,15 @@ impl Rows<'_> {
     /// The value that a line must have; none where it is free.
     fn line_value(&self, record: &Record, row: Row) -> Option<Read> {
         let (guard, why) = self.reads.guard(record, row[2]);
-        let Read { value, words } = match guard {
-            true => self.value_if_true(record, row)?,
-            false => self.value_if_false(record, row),
+        let term = match guard {
+            true => Term::if_true(record, row),
+            false => Term::if_false(self.case, record, row),
+        };
+        let Read { value, words } = self.reads.term(record, term)?;
+        let words = match (guard, term) {
+            (true, _) | (false, Term::Fixed(..)) => words,
+            (false, _) => format!("the target keeps its value, {words}"),
         };
         Some(Read { value, words: why.into_iter().chain([words]).collect::<Vec<_>>().join("; ") })
-    }
-
-    fn value_if_true(&self, record: &Record, [_, line, _, a_copy, b_copy, _]: Row) -> Option<Read> {
-        Some(match record.kind {
-            Kind::Input => return None,
-            Kind::Load => self.reads.item(usize::from(record.a), line, a_copy),
-            Kind::Lock => Read { value: 1, words: "a lock gives 1".to_string() },
-            Kind::Unlock => Read { value: 0, words: "an unlock gives 0".to_string() },
-            Kind::Assert | Kind::Assume => {
-                let Read { value, words } = self.reads.expression(record, a_copy, b_copy);
-                let not_zero = if value > 1 { ", which is not 0" } else { "" };
-                Read { value: u16::from(value != 0), words: words + not_zero }
-            }
-            _ => self.reads.expression(record, a_copy, b_copy),
-        })
-    }
-
-    fn value_if_false(&self, record: &Record, [_, line, _, _, _, target_copy]: Row) -> Read {
-        let Read { value, words } = match record.kind {
-            Kind::Assert => return Read { value: 1, words: "an assert then has 1".to_string() },
-            Kind::Assume => return Read { value: 1, words: "an assume then has 1".to_string() },
-            Kind::Store => self.reads.item(usize::from(record.target), line, target_copy),
-            Kind::Lock | Kind::Unlock => self.reads.mutex(record, target_copy),
-            _ => self.reads.local(record.local(record.target), target_copy),
-        };
-        Read { value, words: format!("the target keeps its value, {words}") }
     }
 }

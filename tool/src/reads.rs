@@ -2,6 +2,7 @@
 
 use crate::case::{Case, Kind, Record, CONSTANT};
 use crate::names::Name;
+use crate::term::Term;
 use crate::words::item_name;
 
 /// A number, and where it comes from.
@@ -26,7 +27,23 @@ impl<'a> Reads<'a> {
         (guard, Some(format!("the guard {words} is {guard} with {}", local.words)))
     }
 
-    pub fn expression(&self, record: &Record, a_copy: u16, b_copy: u16) -> Read {
+    /// What a line's value is made of; nothing where it is free.
+    pub fn term(&self, record: &Record, term: Term) -> Option<Read> {
+        Some(match term {
+            Term::Any => return None,
+            Term::Fixed(value, words) => Read { value, words: words.to_string() },
+            Term::Local { local, copy } => self.local(local, copy),
+            Term::Item { item, copy } => self.item(item, record.number, copy),
+            Term::Expression { a_copy, b_copy } => self.expression(record, a_copy, b_copy),
+            Term::Truth { a_copy, b_copy } => {
+                let Read { value, words } = self.expression(record, a_copy, b_copy);
+                let not_zero = if value > 1 { ", which is not 0" } else { "" };
+                Read { value: u16::from(value != 0), words: words + not_zero }
+            }
+        })
+    }
+
+    fn expression(&self, record: &Record, a_copy: u16, b_copy: u16) -> Read {
         let mut reads = Vec::new();
         let mut operand = |operand: u16, copy: u16| match operand {
             CONSTANT => record.c,
@@ -45,17 +62,11 @@ impl<'a> Reads<'a> {
             Kind::Assert | Kind::Assume => format!("{} is {value}", record.expression_words(names)),
             _ => record.expression_words(names),
         };
-        let words = match (record.op, reads.as_slice()) {
-            (0, []) => format!("the constant {value}"),
-            (0, [read, ..]) => read.clone(),
-            (_, []) => formula,
-            (_, reads) => format!("{formula} with {}", reads.join(" and ")),
-        };
-        Read { value, words }
+        Read { value, words: expression_with(record, formula, &reads) }
     }
 
     /// A local by its copy.
-    pub fn local(&self, local: Name, copy: u16) -> Read {
+    fn local(&self, local: Name, copy: u16) -> Read {
         let name = self.case.names.called(local);
         match copy {
             0 => Read { value: 0, words: format!("{name} = 0 at the start") },
@@ -64,17 +75,13 @@ impl<'a> Reads<'a> {
     }
 
     /// The item as this line reads it.
-    pub fn item(&self, item: usize, line: u16, copy: u16) -> Read {
+    fn item(&self, item: usize, line: u16, copy: u16) -> Read {
         let block = self.block(line);
         if copy == 0 || self.block(copy) != block {
             return self.before(block, item);
         }
         let value = self.value(copy);
         Read { value, words: format!("{} = {value} by record {copy} in the same block", item_name(self.case, item)) }
-    }
-
-    pub fn mutex(&self, record: &Record, copy: u16) -> Read {
-        self.item(self.case.globals + usize::from(record.target), record.number, copy)
     }
 
     /// The item's value where a block begins.
@@ -107,5 +114,15 @@ impl<'a> Reads<'a> {
     /// A number that the assignment does not have is 0.
     pub fn number(&self, variable: usize) -> u16 {
         self.assignment.get(variable).copied().unwrap_or_default()
+    }
+}
+
+/// An expression's formula with what it reads; of one that has no formula, op 0, what it reads alone.
+pub fn expression_with(record: &Record, formula: String, reads: &[String]) -> String {
+    match (record.op, reads) {
+        (0, []) => format!("the constant {}", record.c),
+        (0, [read, ..]) => read.clone(),
+        (_, []) => formula,
+        (_, reads) => format!("{formula} with {}", reads.join(" and ")),
     }
 }

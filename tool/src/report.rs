@@ -2,6 +2,7 @@
 
 use crate::calls::{Ending, Loaded};
 use crate::case::Case;
+use crate::demands;
 use crate::failure::Status;
 use crate::json::{list, Json};
 use crate::run::Run;
@@ -69,12 +70,16 @@ fn step(case: &Case, step: &Step, values: bool) -> Json {
     Json::Object(fields)
 }
 
-pub fn listed(loaded: &Loaded) -> Json {
-    let own = vec![
+/// The constraints, and what they demand in words where that is wanted.
+pub fn listed(loaded: &Loaded, words: bool) -> Json {
+    let Loaded { case, table, .. } = loaded;
+    let in_words = table.rows.iter().map(|&row| demands::in_words(case, table, row));
+    let mut own = vec![
         ("constraints", loaded.table.rows.len().into()),
         ("variables", loaded.table.variables.into()),
         ("rows", list(loaded.table.rows.iter().map(numbers))),
     ];
+    own.extend(words.then(|| ("words", list(in_words))));
     object("list", &loaded.name, Status::Done, "listed", own)
 }
 

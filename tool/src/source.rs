@@ -3,9 +3,9 @@
 
 use crate::names::{Name, Names};
 use crate::numbers::lines;
-use crate::refusal::Refusal;
 use crate::scope::{number, Item, Local, Scope};
 use crate::token::{Place, Problem, Words};
+use menduvo::Refusal;
 
 /// A case before the library has seen it.
 pub struct Draft {

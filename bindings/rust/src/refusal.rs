@@ -1,8 +1,10 @@
-//! The refusals of document 01, in words.
+//! The refusals of document 01, in words. `bindings/menduvo.h` has the same words for C.
 
-use crate::failure::Failure;
+use std::error::Error;
+use std::fmt::{self, Display, Formatter};
 
-/// A refusal as the library gives it.
+/// Why a call was refused, as the variant `Refused` of every answer has it: the number, 1 to 15, and the place, which is 0 but
+/// for 9 and 14 (a record) and 15 (a constraint), each counted from 1.
 #[derive(Clone, Copy, Debug, PartialEq, Eq)]
 pub struct Refusal {
     pub number: u16,
@@ -31,24 +33,12 @@ impl Refusal {
             _ => "not a refusal of document 01",
         }
     }
+}
 
-    /// The failure of a command that was given this input. The details say more about it, a line each.
-    pub fn failure(self, input: &str, details: &[String]) -> Failure {
-        let Refusal { number, place } = self;
-        let mut message = format!("{input}: refusal {number}, place {place}: {}", self.meaning());
-        for detail in details {
-            message.push_str("\n  ");
-            message.push_str(detail);
-        }
-        match number {
-            // The slices that this command lends are as long as any result.
-            10 => Failure::Other(message),
-            _ => Failure::ByLibrary(self, message),
-        }
-    }
-
-    /// Whether the input was taken, and is an assignment that fails.
-    pub fn is_of_a_failing_assignment(self) -> bool {
-        self.number == 15
+impl Display for Refusal {
+    fn fmt(&self, to: &mut Formatter) -> fmt::Result {
+        write!(to, "refusal {}, place {}: {}", self.number, self.place, self.meaning())
     }
 }
+
+impl Error for Refusal {}

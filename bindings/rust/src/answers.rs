@@ -1,0 +1,118 @@
+//! The answers of the calls, and each in words.
+
+use crate::Refusal;
+use std::fmt::{self, Display, Formatter};
+
+/// Whether the calls take a case.
+#[derive(Clone, Copy, Debug, PartialEq, Eq)]
+pub enum Verdict {
+    Accepted,
+    Refused { number: u16, place: u16 },
+}
+
+/// The encoder wrote the table, with so many constraints over so many variables, or refused.
+#[derive(Clone, Copy, Debug, PartialEq, Eq)]
+pub enum Encoded {
+    Table { constraints: u16, variables: u16 },
+    Refused { number: u16, place: u16 },
+}
+
+/// The assignment meets the constraints, or fails one of them, the first, counted from 1.
+#[derive(Clone, Copy, Debug, PartialEq, Eq)]
+pub enum Checked {
+    Meets,
+    Fails(u16),
+    Refused { number: u16, place: u16 },
+}
+
+/// The decoder wrote a schedule of so many numbers, or refused.
+#[derive(Clone, Copy, Debug, PartialEq, Eq)]
+pub enum Decoded {
+    Schedule { numbers: u16 },
+    Refused { number: u16, place: u16 },
+}
+
+/// The run is complete and legal and breaks an assertion, first at this record; or it breaks none; or it is cut off at this
+/// record, whose assume or lock failed, whether or not an assertion was broken before; or the schedule is refused.
+#[derive(Clone, Copy, Debug, PartialEq, Eq)]
+pub enum Replayed {
+    Violated(u16),
+    Clean,
+    CutOff(u16),
+    Refused { number: u16, place: u16 },
+}
+
+/// The listing was written, so many bytes of it, or did not fit.
+#[derive(Clone, Copy, Debug, PartialEq, Eq)]
+pub enum Listed {
+    Text { bytes: u16 },
+    Refused { number: u16, place: u16 },
+}
+
+impl Display for Verdict {
+    fn fmt(&self, to: &mut Formatter) -> fmt::Result {
+        match *self {
+            Verdict::Accepted => to.write_str("accepted"),
+            Verdict::Refused { number, place } => Refusal { number, place }.fmt(to),
+        }
+    }
+}
+
+impl Display for Encoded {
+    fn fmt(&self, to: &mut Formatter) -> fmt::Result {
+        match *self {
+            Encoded::Table { constraints, variables } => {
+                let constraints = count(constraints, "constraint", "constraints");
+                write!(to, "{constraints} over {}", count(variables, "variable", "variables"))
+            }
+            Encoded::Refused { number, place } => Refusal { number, place }.fmt(to),
+        }
+    }
+}
+
+impl Display for Checked {
+    fn fmt(&self, to: &mut Formatter) -> fmt::Result {
+        match *self {
+            Checked::Meets => to.write_str("meets: the assignment meets every constraint"),
+            Checked::Fails(constraint) => write!(to, "fails: the first constraint that the assignment fails is {constraint}"),
+            Checked::Refused { number, place } => Refusal { number, place }.fmt(to),
+        }
+    }
+}
+
+impl Display for Decoded {
+    fn fmt(&self, to: &mut Formatter) -> fmt::Result {
+        match *self {
+            Decoded::Schedule { numbers } => write!(to, "a schedule of {}", count(numbers, "number", "numbers")),
+            Decoded::Refused { number, place } => Refusal { number, place }.fmt(to),
+        }
+    }
+}
+
+impl Display for Replayed {
+    fn fmt(&self, to: &mut Formatter) -> fmt::Result {
+        match *self {
+            Replayed::Violated(record) => write!(to, "violated: the first assertion that the run breaks is record {record}"),
+            Replayed::Clean => to.write_str("clean: the run is complete and legal and breaks no assertion"),
+            Replayed::CutOff(record) => write!(to, "cut off: the assume or lock of record {record} failed"),
+            Replayed::Refused { number, place } => Refusal { number, place }.fmt(to),
+        }
+    }
+}
+
+impl Display for Listed {
+    fn fmt(&self, to: &mut Formatter) -> fmt::Result {
+        match *self {
+            Listed::Text { bytes } => write!(to, "a listing of {}", count(bytes, "byte", "bytes")),
+            Listed::Refused { number, place } => Refusal { number, place }.fmt(to),
+        }
+    }
+}
+
+/// `1 byte`, `2 bytes`.
+fn count(number: u16, one: &str, many: &str) -> String {
+    match number {
+        1 => format!("1 {one}"),
+        _ => format!("{number} {many}"),
+    }
+}

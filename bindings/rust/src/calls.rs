@@ -1,0 +1,82 @@
+//! The six calls: safe functions on slices.
+
+use crate::library::{self, read, Numbers};
+use crate::{Checked, Decoded, Encoded, Listed, Replayed, Verdict};
+
+/// Whether the other calls take this case. Refusals 1 to 9.
+pub fn accept(case: &[u8]) -> Verdict {
+    read(
+        library::accept(case),
+        |number, place| Verdict::Refused { number, place },
+        |numbers| match numbers {
+            Numbers { answer: 1, first: 0, second: 0, .. } => Some(Verdict::Accepted),
+            _ => None,
+        },
+    )
+}
+
+/// Writes the constraints of the case to `table`, six numbers for each. Refusals 1 to 10.
+pub fn encode(case: &[u8], table: &mut [u16]) -> Encoded {
+    read(
+        library::encode(case, table),
+        |number, place| Encoded::Refused { number, place },
+        |numbers| match numbers {
+            Numbers { answer: 1, first, second, .. } => Some(Encoded::Table { constraints: first, variables: second }),
+            _ => None,
+        },
+    )
+}
+
+/// Whether the assignment, one number for each variable, meets every constraint of the case. Refusals 1 to 9 and 11.
+pub fn check(case: &[u8], assignment: &[u16]) -> Checked {
+    read(
+        library::check(case, assignment),
+        |number, place| Checked::Refused { number, place },
+        |numbers| match numbers {
+            Numbers { answer: 1, first: 0, second: 0, .. } => Some(Checked::Meets),
+            Numbers { answer: 2, first: 1.., second: 0, .. } => Some(Checked::Fails(numbers.first)),
+            _ => None,
+        },
+    )
+}
+
+/// Writes the schedule that the assignment stands for: n + 1 block lengths, then a value for each input line, by thread and
+/// then by chain. Refusals 1 to 11 and 15.
+pub fn decode(case: &[u8], assignment: &[u16], schedule: &mut [u16]) -> Decoded {
+    read(
+        library::decode(case, assignment, schedule),
+        |number, place| Decoded::Refused { number, place },
+        |numbers| match numbers {
+            Numbers { answer: 1, first, second: 0, .. } => Some(Decoded::Schedule { numbers: first }),
+            _ => None,
+        },
+    )
+}
+
+/// Runs the schedule, and writes the items' values at the end of the run, or at the cut-off with the failed line not run:
+/// globals first, then mutexes. Refusals 1 to 10 and 12 to 14.
+pub fn replay(case: &[u8], schedule: &[u16], items: &mut [u16]) -> Replayed {
+    read(
+        library::replay(case, schedule, items),
+        |number, place| Replayed::Refused { number, place },
+        |numbers| match numbers {
+            Numbers { answer: 1, first: 1.., second: 0, .. } => Some(Replayed::Violated(numbers.first)),
+            Numbers { answer: 2, first: 0, second: 0, .. } => Some(Replayed::Clean),
+            Numbers { answer: 3, first: 1.., second: 0, .. } => Some(Replayed::CutOff(numbers.first)),
+            _ => None,
+        },
+    )
+}
+
+/// Writes the listing of the case, in ASCII: the counts of constraints and of variables, then one constraint a line. Of a case
+/// that the other calls refuse it is one line with the number and place of the refusal. Refusal 10.
+pub fn listing(case: &[u8], text: &mut [u8]) -> Listed {
+    read(
+        library::listing(case, text),
+        |number, place| Listed::Refused { number, place },
+        |numbers| match numbers {
+            Numbers { answer: 1, first, second: 0, .. } => Some(Listed::Text { bytes: first }),
+            _ => None,
+        },
+    )
+}

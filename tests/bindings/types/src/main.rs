@@ -1,0 +1,29 @@
+//! What the Rust package has without a library: the refusals' texts, a line each; and then every answer in words.
+#![forbid(unsafe_code)]
+
+use menduvo::{Checked, Decoded, Encoded, Listed, Refusal, Replayed, Verdict};
+use std::error::Error;
+
+fn main() {
+    for number in 0..=16 {
+        println!("{number} {}", Refusal { number, place: 0 }.meaning());
+    }
+    println!("{}", Verdict::Accepted);
+    println!("{}", Verdict::Refused { number: 1, place: 0 });
+    println!("{}", Encoded::Table { constraints: 18, variables: 12 });
+    println!("{}", Encoded::Table { constraints: 1, variables: 1 });
+    println!("{}", Encoded::Refused { number: 9, place: 3 });
+    println!("{}", Checked::Meets);
+    println!("{}", Checked::Fails(13));
+    println!("{}", Checked::Refused { number: 11, place: 0 });
+    println!("{}", Decoded::Schedule { numbers: 3 });
+    println!("{}", Decoded::Refused { number: 15, place: 2 });
+    println!("{}", Replayed::Violated(4));
+    println!("{}", Replayed::Clean);
+    println!("{}", Replayed::CutOff(7));
+    println!("{}", Replayed::Refused { number: 14, place: 5 });
+    println!("{}", Listed::Text { bytes: 220 });
+    println!("{}", Listed::Refused { number: 10, place: 0 });
+    let error: Box<dyn Error> = Box::new(Refusal { number: 2, place: 0 });
+    println!("{error}");
+}
