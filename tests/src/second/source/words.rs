@@ -1,0 +1,73 @@
+//! "UTF-8, in lines", and the words of a line.
+
+use super::Place;
+use crate::second::Wrong;
+
+/// A word and its column.
+pub struct Word {
+    pub text: String,
+    pub column: usize,
+}
+
+/// A line that has a statement, or might have one.
+pub struct Line {
+    pub number: usize,
+    pub words: Vec<Word>,
+    /// The column behind the line's last character.
+    pub end: usize,
+}
+
+impl Line {
+    pub fn end(&self) -> Place {
+        Place { line: self.number, column: self.end }
+    }
+}
+
+/// The lines of a text; none if the file is no source.
+pub fn lines(file: &[u8], wrong: Wrong) -> Option<Vec<Line>> {
+    let text = std::str::from_utf8(file).ok()?;
+    // "a byte-order mark at the start is passed over"
+    let text = text.strip_prefix('\u{feff}').unwrap_or(text);
+    // "other control characters but the tab make the file no source"
+    if text.chars().any(|character| character.is_control() && !"\t\n\r".contains(character)) {
+        return None;
+    }
+    // "A line ends with a line feed, a carriage return, or both".
+    let text = text.replace("\r\n", "\n").replace('\r', "\n");
+    Some((1..).zip(text.split('\n')).map(|(number, line)| split(number, line, wrong)).collect())
+}
+
+fn split(number: usize, line: &str, wrong: Wrong) -> Line {
+    let characters: Vec<char> = line.chars().collect();
+    let mut words = Vec::new();
+    let mut place = 0;
+    // "`#` begins a comment, to the line's end."
+    while place < characters.len() && characters[place] != '#' {
+        let length = word_length(&characters[place..]);
+        if !" \t".contains(characters[place]) {
+            let text = characters[place..place + length].iter().collect();
+            words.push(Word { text, column: column(&characters, place, wrong) });
+        }
+        place += length;
+    }
+    Line { number, words, end: column(&characters, characters.len(), wrong) }
+}
+
+/// "the line and column (from 1, in characters)"
+fn column(characters: &[char], place: usize, wrong: Wrong) -> usize {
+    if wrong == Wrong::ColumnsInBytes {
+        return 1 + characters[..place].iter().map(|character| character.len_utf8()).sum::<usize>();
+    }
+    1 + place
+}
+
+/// How long the word is that begins here. Names, keywords and numbers go as far
+/// as they can, and so do signs. Any other character is a word by itself: one
+/// that can stand nowhere.
+fn word_length(rest: &[char]) -> usize {
+    let in_name = |character: &&char| character.is_ascii_alphanumeric() || **character == '_';
+    match rest {
+        ['=' | '!', '=', ..] => 2,
+        _ => rest.iter().take_while(in_name).count().max(1),
+    }
+}
