@@ -2,7 +2,7 @@
 //! with the feature `proved`, else the second implementation itself. `mutants`
 //! leaves it aside and takes the second implementation with mistakes; `listing`
 //! holds it and the second implementation to what a program prints, and
-//! `answers` the command to the second implementation.
+//! `answers` and `sources` the command to the second implementation.
 
 pub mod answers;
 mod case_a;
@@ -20,9 +20,11 @@ mod refusals_of_calls;
 mod runs;
 mod slices;
 mod solvers;
+mod sources;
 mod tables;
 
 use crate::calls::Calls;
+use crate::command;
 use crate::report::Report;
 
 pub struct Group {
@@ -62,8 +64,12 @@ pub fn all() -> Vec<Group> {
         ..group("listing", "the program in MENDUVO_LISTING", listing::run)
     });
     groups.push(Group {
-        by_default: std::env::var_os(answers::PROGRAM).is_some(),
+        by_default: std::env::var_os(command::PROGRAM).is_some(),
         ..group("answers", "the command in MENDUVO_COMMAND", answers::run)
+    });
+    groups.push(Group {
+        by_default: std::env::var_os(command::PROGRAM).is_some(),
+        ..group("sources", "its sources", sources::run)
     });
     groups
 }
