@@ -99,7 +99,7 @@ fn swapped(text: &str, first: Range<usize>, second: Range<usize>) -> String {
 
 /// Lines dropped, doubled or swapped.
 fn with_other_lines(random: &mut Random, text: &[u8]) -> Vec<u8> {
-    let mut lines: Vec<&[u8]> = text.split_inclusive(|byte| *byte == b'\n').collect();
+    let mut lines: Vec<&[u8]> = text.split_inclusive(|byte| b"\r\n".contains(byte)).collect();
     if lines.is_empty() {
         return Vec::new();
     }

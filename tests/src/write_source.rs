@@ -16,8 +16,16 @@ const BASES: [&str; 20] = [
 
 const BLANKS: [&str; 8] = ["", " ", " ", " ", "  ", "\t", " \t ", "          "];
 
-const COMMENTS: [&str; 8] =
-    ["#", "# a comment", "## # two", "#switches 3", "# Schütz öffnet", "#\t世界 \u{1f6aa}", "# thread: \"'`\\$@>", "# \u{feff}"];
+const COMMENTS: [&str; 8] = [
+    "#",
+    "# a comment",
+    "## # two",
+    "#switches 3",
+    "# Schütz öffnet",
+    "#\t世界 \u{1f6aa}",
+    "# thread: \"'`\\$@>",
+    "# \u{feff}",
+];
 
 /// A source of an accepted case, and the names in it.
 pub fn written(random: &mut Random, draft: &Draft) -> (Vec<u8>, Names) {

@@ -21,6 +21,7 @@ mod runs;
 mod slices;
 mod solvers;
 mod sources;
+mod sources_by_hand;
 mod tables;
 
 use crate::calls::Calls;

@@ -8,8 +8,9 @@ use crate::compare::SHAPES;
 use crate::damage_source::damaged;
 use crate::draft::Draft;
 use crate::generate::accepted;
+use crate::groups::sources_by_hand::examples;
 use crate::random::Random;
-use crate::report::{Outcome, Report, Tally};
+use crate::report::{outcome_of, Outcome, Report, Tally};
 use crate::second::source::{make, source, Fault, Names, Place};
 use crate::second::{accept, Wrong};
 use crate::write_source::written;
@@ -20,6 +21,16 @@ const CASES: u64 = 2_400;
 const WRITTEN: u64 = 1_200;
 /// How many sources are damaged.
 const DAMAGED: u64 = 3_600;
+
+/// Deliberate mistakes, each of which must be found.
+const MISTAKES: [Wrong; 6] = [
+    Wrong::ColumnsInBytes,
+    Wrong::PlainNameStays,
+    Wrong::LongName,
+    Wrong::TwoNumbers,
+    Wrong::RecordAfterLargest,
+    Wrong::RecordAtThread,
+];
 
 /// What the command was asked and what it answered. Mistakes in the second
 /// implementation are held to the same answers.
@@ -37,6 +48,7 @@ pub fn run(_: &dyn Calls, report: &mut Report) {
         Ok(menduvo) => menduvo,
         Err(message) => return report.check("the command", |_| Err(message)),
     };
+    report.check("sources worked out by hand", |tally| make_by_hand(&menduvo, &mut asked, tally));
     report.check("cases are printed and made again", |tally| {
         let drafts: Vec<Draft> = (0..CASES).map(|number| some_case(80_000_000 + number)).collect();
         print_and_make(&menduvo, &drafts, &mut asked, tally)
@@ -50,6 +62,12 @@ pub fn run(_: &dyn Calls, report: &mut Report) {
         }
         Ok(())
     });
+    for wrong in MISTAKES {
+        report.check(&format!("{wrong:?} is found"), |tally| {
+            let outcome = outcome_of(|tally| same_all(&asked, wrong, tally), tally);
+            tally.holds(outcome.is_err(), || "not by what was asked".to_string())
+        });
+    }
 }
 
 /// An accepted case with its records in order, in turn, or shuffled.
@@ -100,6 +118,27 @@ fn judged(case: Vec<u8>, place_of: impl Fn(u16) -> Option<Place>) -> Answer {
     match accept(&case) {
         Verdict::Accepted => Answer::Made(case),
         Verdict::Refused { number, place } => Answer::Refused(place_of(number), Refusal { number, place }),
+    }
+}
+
+/// Texts whose answers were worked out beforehand.
+fn make_by_hand(menduvo: &Menduvo, asked: &mut Asked, tally: &mut Tally) -> Outcome {
+    let examples = examples();
+    let answers = menduvo.each(&examples, |menduvo, (text, _)| menduvo.make(text.as_bytes()))?;
+    for ((text, wanted), answer) in examples.into_iter().zip(answers) {
+        tally.same(in_short(&answer).as_str(), wanted, || format!("making {text:?}"))?;
+        same_make(text.as_bytes(), &answer, Wrong::Nothing, tally)?;
+        asked.made.push((text.into_bytes(), answer));
+    }
+    Ok(())
+}
+
+fn in_short(answer: &Answer) -> String {
+    match answer {
+        Answer::Made(_) => "made".to_string(),
+        Answer::Wrong(Place { line, column }) => format!("{line}:{column}"),
+        Answer::Refused(Some(Place { line, column }), refusal) => format!("refusal {} at {line}:{column}", refusal.number),
+        Answer::Refused(None, refusal) => format!("refusal {}", refusal.number),
     }
 }
 
@@ -160,6 +199,15 @@ fn make_all(menduvo: &Menduvo, texts: Vec<Vec<u8>>, asked: &mut Asked, tally: &m
         asked.made.push((text, answer));
     }
     Ok(())
+}
+
+/// Everything that was asked, beside the second implementation with a mistake.
+fn same_all(asked: &Asked, wrong: Wrong, tally: &mut Tally) -> Outcome {
+    for (text, answer) in &asked.made {
+        same_make(text, answer, wrong, tally)?;
+    }
+    let mut printed = asked.printed.iter();
+    printed.try_for_each(|(case, names, printed)| same_print(case, names.as_ref(), printed, wrong, tally))
 }
 
 fn same_make(text: &[u8], made: &Answer, wrong: Wrong, tally: &mut Tally) -> Outcome {

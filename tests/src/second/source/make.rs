@@ -116,7 +116,8 @@ impl Made {
         statement.take_word("=")?;
         let thread = self.names.locals.len() - 1;
         let locals = &mut self.names.locals[thread];
-        let still_plain = |word: &str| plain_locals().iter().position(|plain| plain == word).filter(|&local| locals[local] == word);
+        let still_plain =
+            |word: &str| plain_locals().iter().position(|plain| plain == word).filter(|&local| locals[local] == word);
         let local = statement.take(still_plain)?;
         locals[local] = name;
         Ok(())
@@ -141,7 +142,7 @@ impl Made {
     /// threads; the first line's is 1. `record 7:` gives another".
     fn record_number(&self, statement: &mut Statement) -> Result<usize, Place> {
         if statement.take_word_if("record") {
-            let given = statement.take(|word| number(word).filter(|&number| number != 0))?;
+            let given = statement.take_number()?;
             statement.take_word(":")?;
             return Ok(usize::from(given));
         }
@@ -232,7 +233,8 @@ impl Made {
     fn link_lines(&mut self) -> Result<(), Place> {
         let mut given = vec![false; self.lines.len()];
         for line in &self.lines {
-            match given.get_mut(line.number - 1) {
+            let mark = line.number.checked_sub(1).and_then(|index| given.get_mut(index));
+            match mark {
                 Some(mark) if !*mark => *mark = true,
                 _ => return Err(line.place),
             }

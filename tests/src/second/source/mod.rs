@@ -7,7 +7,7 @@ mod print;
 mod statement;
 mod words;
 
-pub use make::{make, Made};
+pub use make::make;
 pub use names::Names;
 
 use super::read::read;
@@ -23,7 +23,7 @@ pub struct Place {
 /// Why there is no case.
 #[derive(Clone, Copy, Debug, PartialEq, Eq)]
 pub enum Fault {
-    /// The file is no text, or has control characters.
+    /// The file is empty, no text, or has control characters.
     NoSource,
     At(Place),
 }

@@ -13,7 +13,7 @@ pub struct Word {
 pub struct Line {
     pub number: usize,
     pub words: Vec<Word>,
-    /// The column behind the line's last character.
+    /// The column behind its last word.
     pub end: usize,
 }
 
@@ -25,10 +25,10 @@ impl Line {
 
 /// The lines of a text; none if the file is no source.
 pub fn lines(file: &[u8], wrong: Wrong) -> Option<Vec<Line>> {
-    let text = std::str::from_utf8(file).ok()?;
+    let text = std::str::from_utf8(file).ok().filter(|text| !text.is_empty())?;
     // "a byte-order mark at the start is passed over"
     let text = text.strip_prefix('\u{feff}').unwrap_or(text);
-    // "other control characters but the tab make the file no source"
+    // "other control characters but the tab"
     if text.chars().any(|character| character.is_control() && !"\t\n\r".contains(character)) {
         return None;
     }
@@ -40,17 +40,18 @@ pub fn lines(file: &[u8], wrong: Wrong) -> Option<Vec<Line>> {
 fn split(number: usize, line: &str, wrong: Wrong) -> Line {
     let characters: Vec<char> = line.chars().collect();
     let mut words = Vec::new();
-    let mut place = 0;
+    let (mut place, mut end) = (0, 1);
     // "`#` begins a comment, to the line's end."
     while place < characters.len() && characters[place] != '#' {
         let length = word_length(&characters[place..]);
         if !" \t".contains(characters[place]) {
             let text = characters[place..place + length].iter().collect();
             words.push(Word { text, column: column(&characters, place, wrong) });
+            end = column(&characters, place + length, wrong);
         }
         place += length;
     }
-    Line { number, words, end: column(&characters, characters.len(), wrong) }
+    Line { number, end, words }
 }
 
 /// "the line and column (from 1, in characters)"
