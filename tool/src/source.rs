@@ -127,8 +127,8 @@ impl Reader {
     }
 
     fn take_global(&mut self, words: &mut Words) -> Result<(), Problem> {
-        words.expect("global")?;
         let place = words.place();
+        words.expect("global")?;
         let plain = Name::Global(self.globals.len() as u16).plain();
         let word = self.scope().new_name(words, &plain)?;
         words.expect("=")?;
@@ -138,8 +138,8 @@ impl Reader {
     }
 
     fn take_mutex(&mut self, words: &mut Words) -> Result<(), Problem> {
-        words.expect("mutex")?;
         let place = words.place();
+        words.expect("mutex")?;
         let plain = Name::Mutex(self.mutexes.len() as u16).plain();
         let word = self.scope().new_name(words, &plain)?;
         self.mutexes.push(Item { word, value: 0, place });

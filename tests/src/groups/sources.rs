@@ -16,11 +16,11 @@ use crate::second::{accept, Wrong};
 use crate::write_source::written;
 
 /// How many cases are printed and made again.
-const CASES: u64 = 2_400;
+const CASES: u64 = 2_000;
 /// How many sources are written in many ways, and made and printed.
-const WRITTEN: u64 = 1_200;
+const WRITTEN: u64 = 1_000;
 /// How many sources are damaged.
-const DAMAGED: u64 = 3_600;
+const DAMAGED: u64 = 3_000;
 
 /// Deliberate mistakes, each of which must be found.
 const MISTAKES: [Wrong; 6] = [

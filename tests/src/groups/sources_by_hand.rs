@@ -119,7 +119,7 @@ const RECORDS: [(&str, &str); 14] = [
 ];
 
 /// Whole texts.
-const TEXTS: [(&str, &str); 32] = [
+const TEXTS: [(&str, &str); 33] = [
     ("switches 0\nthread\nthread", "made"),
     ("\u{feff}switches 0\nthread\nthread", "made"),
     ("\u{feff} switch 0", "1:2"),
@@ -130,6 +130,7 @@ const TEXTS: [(&str, &str); 32] = [
     ("switches 0\rthread\r", "refusal 2 at 3:1"),
     ("switches 0\r\nthread\r\n", "refusal 2 at 3:1"),
     ("switches 0\nthread # one", "refusal 2 at 2:13"),
+    ("switches 0\nthread # ü", "refusal 2 at 2:11"),
     ("switches 0\n", "refusal 2 at 2:1"),
     ("\n", "2:1"),
     ("\r", "2:1"),

@@ -21,8 +21,8 @@ impl<'a> Statement<'a> {
     /// soon".
     pub fn place(&self) -> Place {
         match self.word() {
-            Some(word) => Place { line: self.line.number, column: word.column },
-            None => self.line.end(),
+            Some(word) => self.line.at(word.column),
+            None => self.line.end_of_words(),
         }
     }
 

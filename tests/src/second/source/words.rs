@@ -13,13 +13,23 @@ pub struct Word {
 pub struct Line {
     pub number: usize,
     pub words: Vec<Word>,
-    /// The column behind its last word.
-    pub end: usize,
+    /// The column behind its last character.
+    end: usize,
 }
 
 impl Line {
+    pub fn at(&self, column: usize) -> Place {
+        Place { line: self.number, column }
+    }
+
+    /// Where the line ends.
     pub fn end(&self) -> Place {
-        Place { line: self.number, column: self.end }
+        self.at(self.end)
+    }
+
+    /// Where its last word ends.
+    pub fn end_of_words(&self) -> Place {
+        self.at(self.words.last().map_or(1, |word| word.column + word.text.chars().count()))
     }
 }
 
@@ -40,18 +50,17 @@ pub fn lines(file: &[u8], wrong: Wrong) -> Option<Vec<Line>> {
 fn split(number: usize, line: &str, wrong: Wrong) -> Line {
     let characters: Vec<char> = line.chars().collect();
     let mut words = Vec::new();
-    let (mut place, mut end) = (0, 1);
+    let mut place = 0;
     // "`#` begins a comment, to the line's end."
     while place < characters.len() && characters[place] != '#' {
         let length = word_length(&characters[place..]);
         if !" \t".contains(characters[place]) {
             let text = characters[place..place + length].iter().collect();
             words.push(Word { text, column: column(&characters, place, wrong) });
-            end = column(&characters, place + length, wrong);
         }
         place += length;
     }
-    Line { number, end, words }
+    Line { number, words, end: column(&characters, characters.len(), wrong) }
 }
 
 /// "the line and column (from 1, in characters)"
