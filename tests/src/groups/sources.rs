@@ -19,6 +19,8 @@ use crate::write_source::written;
 const CASES: u64 = 2_000;
 /// How many sources are written in many ways, and made and printed.
 const WRITTEN: u64 = 1_000;
+/// How many of them are shown.
+const SHOWN: u64 = 100;
 /// How many sources are damaged.
 const DAMAGED: u64 = 3_000;
 
@@ -54,6 +56,7 @@ pub fn run(_: &dyn Calls, report: &mut Report) {
         print_and_make(&menduvo, &drafts, &mut asked, tally)
     });
     report.check("sources with names, written in many ways", |tally| make_written(&menduvo, &mut asked, tally));
+    report.check("names are shown", |tally| names_are_shown(&menduvo, tally));
     report.check("damaged sources", |tally| {
         let texts: Vec<Vec<u8>> = (0..DAMAGED).map(|number| some_damaged(82_000_000 + number)).collect();
         make_all(&menduvo, texts, &mut asked, tally)?;
@@ -176,6 +179,28 @@ fn make_written(menduvo: &Menduvo, asked: &mut Asked, tally: &mut Tally) -> Outc
         tally.same(kept, Ok(names.clone()), || shown(&text))?;
         asked.made.push((text, made));
         asked.printed.push((case, Some(names), printed));
+    }
+    Ok(())
+}
+
+/// Demands that `show` says of each line what the source says of it.
+fn names_are_shown(menduvo: &Menduvo, tally: &mut Tally) -> Outcome {
+    let sources: Vec<(Vec<u8>, Names, Draft)> = (0..SHOWN).map(|number| some_written(81_000_000 + number)).collect();
+    let shows = menduvo.each(&sources, |menduvo, (text, ..)| menduvo.print("show", text))?;
+    for ((text, names, draft), show) in sources.into_iter().zip(shows) {
+        let printed = source(&draft.bytes(), Some(&names), Wrong::Nothing).unwrap_or_default();
+        let written = printed.lines().filter(|line| line.starts_with("    ") && !line.starts_with("    local "));
+        let is_of_table =
+            |line: &&str| line.starts_with("  ") && line.trim_start().starts_with(|sign: char| sign.is_ascii_digit());
+        let rows: Vec<&str> = show.lines().filter(is_of_table).collect();
+        tally.same(rows.len(), written.clone().count(), || format!("the lines of {}", shown(&text)))?;
+        for (row, line) in rows.into_iter().zip(written) {
+            let line = line.trim_start();
+            let line = line.strip_prefix("record ").and_then(|line| line.split_once(": ")).map_or(line, |(_, line)| line);
+            let (guard, action) = line.strip_prefix("when ").and_then(|line| line.split_once(": ")).unwrap_or(("always", line));
+            let says = |words: &str| format!("{row}  ").contains(&format!("  {words}  "));
+            tally.holds(says(guard) && says(action), || format!("{row} does not say {line}"))?;
+        }
     }
     Ok(())
 }
