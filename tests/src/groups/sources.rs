@@ -189,20 +189,29 @@ fn names_are_shown(menduvo: &Menduvo, tally: &mut Tally) -> Outcome {
     let shows = menduvo.each(&sources, |menduvo, (text, ..)| menduvo.print("show", text))?;
     for ((text, names, draft), show) in sources.into_iter().zip(shows) {
         let printed = source(&draft.bytes(), Some(&names), Wrong::Nothing).unwrap_or_default();
-        let written = printed.lines().filter(|line| line.starts_with("    ") && !line.starts_with("    local "));
-        let is_of_table =
-            |line: &&str| line.starts_with("  ") && line.trim_start().starts_with(|sign: char| sign.is_ascii_digit());
-        let rows: Vec<&str> = show.lines().filter(is_of_table).collect();
-        tally.same(rows.len(), written.clone().count(), || format!("the lines of {}", shown(&text)))?;
-        for (row, line) in rows.into_iter().zip(written) {
-            let line = line.trim_start();
-            let line = line.strip_prefix("record ").and_then(|line| line.split_once(": ")).map_or(line, |(_, line)| line);
-            let (guard, action) = line.strip_prefix("when ").and_then(|line| line.split_once(": ")).unwrap_or(("always", line));
+        let in_threads = printed.lines().filter_map(|line| line.strip_prefix("    "));
+        let lines: Vec<&str> = in_threads.filter(|line| !line.starts_with("local ")).collect();
+        let begins_with_number = |row: &&str| row.trim_start().starts_with(|first: char| first.is_ascii_digit());
+        let rows: Vec<&str> = show.lines().filter(|row| row.starts_with("  ")).filter(begins_with_number).collect();
+        tally.same(rows.len(), lines.len(), || format!("the lines of {}", shown(&text)))?;
+        for (row, line) in rows.into_iter().zip(lines) {
+            let (guard, action) = guard_and_action(line);
             let says = |words: &str| format!("{row}  ").contains(&format!("  {words}  "));
             tally.holds(says(guard) && says(action), || format!("{row} does not say {line}"))?;
         }
     }
     Ok(())
+}
+
+/// The parts of a printed line, without its record.
+fn guard_and_action(line: &str) -> (&str, &str) {
+    let line = behind("record ", line).map_or(line, |(_, rest)| rest);
+    behind("when ", line).unwrap_or(("always", line))
+}
+
+/// What stands between this word and the colon, and what stands after it.
+fn behind<'a>(word: &str, line: &'a str) -> Option<(&'a str, &'a str)> {
+    line.strip_prefix(word)?.split_once(": ")
 }
 
 fn some_written(seed: u64) -> (Vec<u8>, Names, Draft) {

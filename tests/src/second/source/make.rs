@@ -146,8 +146,8 @@ impl Made {
             statement.take_word(":")?;
             return Ok(usize::from(given));
         }
-        let numbers = self.lines.iter().map(|line| line.number);
-        let before = if self.wrong == Wrong::RecordAfterLargest { numbers.max() } else { numbers.last() };
+        let mut numbers = self.lines.iter().map(|line| line.number);
+        let before = if self.wrong == Wrong::RecordAfterLargest { numbers.max() } else { numbers.next_back() };
         Ok(before.unwrap_or(0) + 1)
     }
 
@@ -175,7 +175,7 @@ impl Made {
     fn action(&self, statement: &mut Statement) -> Result<Record, Place> {
         if let Some(local) = statement.take_if(|word| self.a_local(word)) {
             statement.take_word("=")?;
-            return self.into_local(local, statement);
+            return self.set_local(local, statement);
         }
         if let Some(global) = statement.take_if(|word| self.names.global(word)) {
             statement.take_word("=")?;
@@ -195,7 +195,7 @@ impl Made {
         Ok(record(kind, mutex))
     }
 
-    fn into_local(&self, local: u16, statement: &mut Statement) -> Result<Record, Place> {
+    fn set_local(&self, local: u16, statement: &mut Statement) -> Result<Record, Place> {
         if statement.take_word_if("input") {
             return Ok(record(INPUT, local));
         }
@@ -228,8 +228,8 @@ impl Made {
         Ok((CONSTANT, Some(constant)))
     }
 
-    /// "In the whole source each of 1 to R, the number of lines, is given
-    /// once." And: "Next is the record of the thread's next line, or 0."
+    /// Refuses "the first line whose record is 0, over R, or that of a line
+    /// before it". And: "Next is the record of the thread's next line, or 0."
     fn link_lines(&mut self) -> Result<(), Place> {
         let mut given = vec![false; self.lines.len()];
         for line in &self.lines {
@@ -273,7 +273,7 @@ impl Made {
         match refusal {
             // "the 257th line"
             1 => self.lines.get(256).map(|line| line.place),
-            // "the fifth `thread` or the end"
+            // "the fifth `thread` or the text's end"
             2 => Some(self.threads.get(4).copied().unwrap_or(self.end)),
             // "the number after `switches`"
             3 => Some(self.switches_place),

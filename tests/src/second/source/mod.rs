@@ -13,7 +13,7 @@ pub use names::Names;
 use super::read::read;
 use super::Wrong;
 
-/// "the line and column (from 1, in characters)"
+/// "a line and column, from 1, in characters (the byte-order mark is none)"
 #[derive(Clone, Copy, Debug, Default, PartialEq, Eq)]
 pub struct Place {
     pub line: usize,

@@ -14,8 +14,8 @@ pub fn print(case: &Case, names: &Names) -> String {
     }
     let mut before = 0;
     for (chain, locals) in case.chains.iter().zip(&names.locals) {
-        // "for each thread an empty line, `thread`, the names of its locals by
-        // number, and its lines"
+        // "for each thread an empty line, `thread`, `local` for each new name,
+        // by the local's number, and its lines"
         text += "\nthread\n";
         text += &new_names(locals);
         if case.wrong == Wrong::RecordAtThread {

@@ -17,8 +17,8 @@ impl<'a> Statement<'a> {
         self.line.words.get(self.taken)
     }
 
-    /// Where the next word stands, "or [..] the line's end where it ends too
-    /// soon".
+    /// Where the next word stands; "where a statement ends too soon, the end of
+    /// its last word".
     pub fn place(&self) -> Place {
         match self.word() {
             Some(word) => self.line.at(word.column),

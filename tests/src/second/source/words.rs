@@ -42,7 +42,8 @@ pub fn lines(file: &[u8], wrong: Wrong) -> Option<Vec<Line>> {
     if text.chars().any(|character| character.is_control() && !"\t\n\r".contains(character)) {
         return None;
     }
-    // "A line ends with a line feed, a carriage return, or both".
+    // "A line ends with a line feed, a carriage return, or a carriage return and
+    // a line feed".
     let text = text.replace("\r\n", "\n").replace('\r', "\n");
     Some((1..).zip(text.split('\n')).map(|(number, line)| split(number, line, wrong)).collect())
 }
@@ -63,7 +64,7 @@ fn split(number: usize, line: &str, wrong: Wrong) -> Line {
     Line { number, words, end: column(&characters, characters.len(), wrong) }
 }
 
-/// "the line and column (from 1, in characters)"
+/// "a line and column, from 1, in characters"
 fn column(characters: &[char], place: usize, wrong: Wrong) -> usize {
     if wrong == Wrong::ColumnsInBytes {
         return 1 + characters[..place].iter().map(|character| character.len_utf8()).sum::<usize>();
@@ -71,9 +72,8 @@ fn column(characters: &[char], place: usize, wrong: Wrong) -> usize {
     1 + place
 }
 
-/// How long the word is that begins here. Names, keywords and numbers go as far
-/// as they can, and so do signs. Any other character is a word by itself: one
-/// that can stand nowhere.
+/// How long the word is that begins here: "A word goes as far as it can." Any
+/// other character is a word by itself, which can stand nowhere.
 fn word_length(rest: &[char]) -> usize {
     let in_name = |character: &&char| character.is_ascii_alphanumeric() || **character == '_';
     match rest {
