@@ -362,8 +362,37 @@ pictures() {
     result 'the title of standard input' grep -q '>case</text>' "$scratch/picture.svg"
 }
 
+# no_source NAME WORDS TEXT: what make says of this text, whose escapes are those of printf.
+no_source() {
+    printf '%b' "$3" >"$scratch/no.source"
+    says "$1" 2 "$2" "$menduvo" make "$scratch/no.source" -o -
+}
+
+no_sources() {
+    local told='it is no source either' head='switches 3\nthread\nthread\n' long
+    printf -v long '#%02000d\\n' 0 0 0
+    no_source 'a letter of another encoding' "$told: line 4, column 6: the byte fc is no UTF-8; save it as UTF-8" \
+        "$head# Sch\xfctz"
+    no_source 'two bytes for each letter' "$told: line 1, column 1: the byte ff is no UTF-8" '\xff\xfes\x00w\x00'
+    no_source 'a letter that is cut off' "$told: line 4, column 2: the byte c3 is no UTF-8" "$head#\xc3"
+    no_source 'a control character' "$told: line 1, column 11: the control character U+000C" 'switches 3\fthread'
+    no_source 'a control character after a mark' "$told: line 1, column 2: the control character U+0000" '\xef\xbb\xbf#\x00'
+    no_source 'one as long as a case' 'refusal 2, place 0' 'switches 3\nthread #\x01............'
+    result 'one as long as a case: that it is none' grep -qF "$told: line 2, column 9: " <<<"$out"
+    no_source 'one that is longer than a case' "$told: line 4, column 1: the byte ff" "$long\xff"
+    no_source 'nothing' 'it has 0 bytes' ''
+    result 'nothing: that alone' test "${out##*bytes}" = ''
+    says 'a case' 2 "cases/case-a.case: a case already; 'menduvo source' prints" "$menduvo" make cases/case-a.case -o -
+    local filled='printf "switches 3\nthread\nthread\n#"; head -c "$1" /dev/zero | tr "\\0" "#"'
+    says 'the longest source' 0 'switches 3' bash -c "{ $filled; } | $menduvo source -" - "$((1048576 - 26))"
+    says 'one that is longer' 2 'over 1048576 bytes of text' bash -c "{ $filled; } | $menduvo source -" - "$((1048576 - 25))"
+    says 'a case that is refused' 2 'refusal 1' bash -c "head -c 40 cases/case-a.case | $menduvo show -"
+    result 'a case that is refused: no word of sources' bash -c '! grep -q source <<<"$1"' - "$out"
+}
+
 run "$menduvo" --version
 result 'the command is built' test "$status" = 0
+no_sources
 texts
 files
 rows_of_case_a

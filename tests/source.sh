@@ -154,8 +154,8 @@ limits() {
     { echo 'switches 1'; lines 4 thread; lines 1 thread; } >"$scratch/gate.source" && refused 6:1 2
     { echo 'switches 1'; lines 1 thread; } >"$scratch/gate.source" && refused 3:1 2
     { echo 'switches 16'; lines 2 thread; } >"$scratch/gate.source" && refused 1:10 3
-    { echo 'switches 1'; for i in {0..8}; do echo "  global G$i = 0"; done; lines 2 thread; } >"$scratch/gate.source" && refused 10:10 4
-    { echo 'switches 1'; for i in {0..4}; do echo "mutex M$i"; done; lines 2 thread; } >"$scratch/gate.source" && refused 6:7 4
+    { echo 'switches 1'; for i in {0..8}; do echo "  global G$i = 0"; done; lines 2 thread; } >"$scratch/gate.source" && refused 10:3 4
+    { echo 'switches 1'; for i in {0..4}; do echo "mutex M$i"; done; lines 2 thread; } >"$scratch/gate.source" && refused 6:1 4
     { echo 'switches 1'; lines 1 thread; lines 1 thread; lines 65 ' L0 = 1'; } >"$scratch/gate.source" && refused 68:2 8
     { echo 'switches 1'; lines 2 thread; lines 257 'L0 = 1'; } >"$scratch/gate.source" && refused 260:1 1
     { echo 'switches 15'; for i in {0..7}; do echo "global G$i = 65535"; done; for i in {0..3}; do echo "mutex M$i"; done

@@ -8,8 +8,10 @@
 
 mod ask;
 mod calls;
+mod command;
 mod compare;
 mod damage;
+mod damage_source;
 mod demand3;
 mod determined;
 mod draft;
@@ -30,6 +32,7 @@ mod smt;
 mod solver;
 mod table;
 mod vary;
+mod write_source;
 
 use std::process::{exit, ExitCode};
 use std::sync::{Arc, Mutex};

@@ -54,13 +54,14 @@ impl Loaded {
     }
 
     fn named(name: String, stem: OsString, draft: Draft) -> Result<Loaded, Failure> {
-        let Draft { bytes, names, source } = draft;
+        let Draft { bytes, names, source, no_source } = draft;
         let mut room = [0; menduvo::MOST_TABLE_NUMBERS];
         let (constraints, variables) = match menduvo::encode(&bytes, &mut room) {
             Encoded::Table { constraints, variables } => (usize::from(constraints), usize::from(variables)),
             Encoded::Refused { number, place } => {
                 let refusal = Refusal { number, place };
-                let details = diagnosis::of_case(&bytes, refusal);
+                let mut details = diagnosis::of_case(&bytes, refusal);
+                details.extend(no_source);
                 return Err(match source {
                     None => Failure::of_refusal(refusal, &name, &details),
                     Some(source) => {

@@ -86,8 +86,9 @@ impl Source {
     fn draft(&self) -> Result<Draft, Failure> {
         let mut bytes = self.read(MOST_TEXT_BYTES + 1)?;
         if !source::is_text(&bytes) {
+            let no_source = source::no_source(&bytes);
             bytes.truncate(menduvo::MOST_CASE_BYTES + 1);
-            return Ok(Draft::of_bytes(bytes));
+            return Ok(Draft { no_source, ..Draft::of_bytes(bytes) });
         }
         let text = String::from_utf8(bytes).unwrap_or_default();
         match text.len() > MOST_TEXT_BYTES {

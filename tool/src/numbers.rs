@@ -75,8 +75,14 @@ pub fn read(text: &str, variables: usize) -> Result<Given, String> {
 /// The lines of a text, whichever system it comes from.
 pub fn lines(text: &str) -> Vec<Line<'_>> {
     // Some editors put a byte-order mark before the text.
-    let text = text.strip_prefix('\u{feff}').unwrap_or(text);
-    let lines = text.split('\n').flat_map(|line| line.strip_suffix('\r').unwrap_or(line).split('\r'));
+    let mut rest = text.strip_prefix('\u{feff}').unwrap_or(text);
+    let mut lines = Vec::new();
+    while let Some(end) = rest.find(['\n', '\r']) {
+        lines.push(&rest[..end]);
+        let after = &rest[end..];
+        rest = &after[if after.starts_with("\r\n") { 2 } else { 1 }..];
+    }
+    lines.push(rest);
     (1..).zip(lines).collect()
 }
 

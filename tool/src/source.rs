@@ -13,6 +13,8 @@ pub struct Draft {
     pub names: Names,
     /// Where its parts stand in the source, if it was made from one.
     pub source: Option<Written>,
+    /// Of bytes that are no case by the look of them: why they are no source either.
+    pub no_source: Option<String>,
 }
 
 /// A source, and where its parts stand.
@@ -29,7 +31,7 @@ pub struct Written {
 
 impl Draft {
     pub fn of_bytes(bytes: Vec<u8>) -> Draft {
-        Draft { bytes, names: Names::default(), source: None }
+        Draft { bytes, names: Names::default(), source: None, no_source: None }
     }
 }
 
@@ -49,10 +51,31 @@ impl Written {
     }
 }
 
+fn is_of_text(sign: char) -> bool {
+    !sign.is_control() || matches!(sign, '\t' | '\n' | '\r')
+}
+
 /// Whether these bytes are text. Those of a case that the library takes never are: their second is 0.
 pub fn is_text(bytes: &[u8]) -> bool {
-    let is_of_text = |sign: char| !sign.is_control() || matches!(sign, '\t' | '\n' | '\r');
     !bytes.is_empty() && std::str::from_utf8(bytes).is_ok_and(|text| text.chars().all(is_of_text))
+}
+
+/// Why bytes that are not all text are no source. Nothing where they may be meant as those of a case.
+pub fn no_source(bytes: &[u8]) -> Option<String> {
+    bytes.get(1).filter(|second| **second != 0)?;
+    let chunk = bytes.utf8_chunks().next()?;
+    let text = chunk.valid();
+    let (before, wrong) = match text.char_indices().find(|(_, sign)| !is_of_text(*sign)) {
+        Some((at, sign)) => (&text[..at], format!("the control character U+{:04X}", u32::from(sign))),
+        None => (text, format!("the byte {:02x} is no UTF-8; save it as UTF-8", chunk.invalid().first()?)),
+    };
+    Some(format!("it is no source either: {}: {wrong}", end_of(&lines(before))))
+}
+
+/// The place behind the last of these lines.
+fn end_of(lines: &[(usize, &str)]) -> Place {
+    let end = lines.last().map(|&(line, text)| Place { line, column: text.chars().count() + 1 });
+    end.unwrap_or(Place { line: 1, column: 1 })
 }
 
 /// Makes the bytes of a case from its source.
@@ -64,8 +87,7 @@ pub fn read(text: &str) -> Result<Draft, Problem> {
             reader.statement(&mut words)?;
         }
     }
-    let end = lines.last().map(|&(line, text)| Place { line, column: text.chars().count() + 1 });
-    reader.draft(text, end.unwrap_or(Place { line: 1, column: 1 }))
+    reader.draft(text, end_of(&lines))
 }
 
 #[derive(Default)]
@@ -127,8 +149,8 @@ impl Reader {
     }
 
     fn take_global(&mut self, words: &mut Words) -> Result<(), Problem> {
-        words.expect("global")?;
         let place = words.place();
+        words.expect("global")?;
         let plain = Name::Global(self.globals.len() as u16).plain();
         let word = self.scope().new_name(words, &plain)?;
         words.expect("=")?;
@@ -138,8 +160,8 @@ impl Reader {
     }
 
     fn take_mutex(&mut self, words: &mut Words) -> Result<(), Problem> {
-        words.expect("mutex")?;
         let place = words.place();
+        words.expect("mutex")?;
         let plain = Name::Mutex(self.mutexes.len() as u16).plain();
         let word = self.scope().new_name(words, &plain)?;
         self.mutexes.push(Item { word, value: 0, place });
@@ -208,7 +230,7 @@ impl Reader {
             lines: self.threads.iter().map(|thread| thread.lines.iter().map(|line| line.place).collect()).collect(),
             end,
         };
-        Ok(Draft { bytes: self.bytes(switches), names: self.names(), source: Some(source) })
+        Ok(Draft { names: self.names(), source: Some(source), ..Draft::of_bytes(self.bytes(switches)) })
     }
 
     /// That the records are 1 to as many as there are lines.

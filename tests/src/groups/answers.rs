@@ -9,6 +9,7 @@ use std::path::{Path, PathBuf};
 
 use crate::ask::reply;
 use crate::calls::{Calls, Replayed};
+use crate::command::PROGRAM;
 use crate::draft::Draft;
 use crate::enumerate::schedules;
 use crate::generate::{accepted, Shape, BUSY, FOUR_THREADS, SMALL};
@@ -17,9 +18,6 @@ use crate::program;
 use crate::random::Random;
 use crate::report::{Outcome, Report, Tally};
 use crate::second;
-
-/// The environment variable that names the command.
-pub const PROGRAM: &str = "MENDUVO_COMMAND";
 
 pub fn run(_: &dyn Calls, report: &mut Report) {
     report.check("small cases", |tally| {

@@ -2,7 +2,7 @@
 //! with the feature `proved`, else the second implementation itself. `mutants`
 //! leaves it aside and takes the second implementation with mistakes; `listing`
 //! holds it and the second implementation to what a program prints, and
-//! `answers`, `step` and `bounds` the command to the second implementation.
+//! `answers`, `step`, `bounds` and `sources` the command to the second implementation.
 
 pub mod answers;
 mod bounds;
@@ -21,10 +21,13 @@ mod refusals_of_calls;
 mod runs;
 mod slices;
 mod solvers;
+mod sources;
+mod sources_by_hand;
 mod step;
 mod tables;
 
 use crate::calls::Calls;
+use crate::command;
 use crate::report::Report;
 
 pub struct Group {
@@ -64,16 +67,20 @@ pub fn all() -> Vec<Group> {
         ..group("listing", "the program in MENDUVO_LISTING", listing::run)
     });
     groups.push(Group {
-        by_default: std::env::var_os(answers::PROGRAM).is_some(),
+        by_default: std::env::var_os(command::PROGRAM).is_some(),
         ..group("answers", "the command in MENDUVO_COMMAND", answers::run)
     });
     groups.push(Group {
-        by_default: std::env::var_os(answers::PROGRAM).is_some(),
+        by_default: std::env::var_os(command::PROGRAM).is_some(),
         ..group("step", "runs by hand in MENDUVO_COMMAND", step::run)
     });
     groups.push(Group {
-        by_default: std::env::var_os(answers::PROGRAM).is_some(),
+        by_default: std::env::var_os(command::PROGRAM).is_some(),
         ..group("bounds", "its --least, --each and --short", bounds::run)
+    });
+    groups.push(Group {
+        by_default: std::env::var_os(command::PROGRAM).is_some(),
+        ..group("sources", "its sources", sources::run)
     });
     groups
 }

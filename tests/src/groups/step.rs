@@ -4,7 +4,7 @@
 use std::env;
 use std::fs;
 
-use super::answers::{Folder, PROGRAM};
+use super::answers::{program, Folder};
 use crate::ask::replay;
 use crate::calls::{Calls, Replayed};
 use crate::draft::Draft;
@@ -32,7 +32,7 @@ pub fn run(_: &dyn Calls, report: &mut Report) {
 }
 
 fn compare(shape: Shape, cases: u64, tally: &mut Tally) -> Outcome {
-    let program = env::var(PROGRAM).map_err(|_| format!("{PROGRAM} does not name a program"))?;
+    let program = program()?;
     let folder = Folder(env::temp_dir().join(format!("menduvo-step-{}", std::process::id())));
     fs::create_dir_all(&folder.0).map_err(|error| error.to_string())?;
     let file = folder.0.join("one.case");

@@ -8,6 +8,7 @@ mod encode;
 mod listing;
 mod read;
 mod replay;
+pub mod source;
 mod wrong;
 
 pub use wrong::Wrong;

@@ -3,8 +3,9 @@
 //! The switch travels with the case that was read, so that each rule can look
 //! at it in one short line. `Wrong::Nothing` is the second implementation.
 
-#[derive(Clone, Copy, Debug, PartialEq, Eq)]
+#[derive(Clone, Copy, Debug, Default, PartialEq, Eq)]
 pub enum Wrong {
+    #[default]
     Nothing,
     /// Acceptance looks at next numbers only along the chains.
     StrayNextUnseen,
@@ -41,4 +42,16 @@ pub enum Wrong {
     /// A listing that is one byte too long for its slice is refused, and still
     /// written as far as it goes.
     WritesThoughShort,
+    /// Columns of a source are counted in bytes.
+    ColumnsInBytes,
+    /// A local that has a new name is still called by its plain one.
+    PlainNameStays,
+    /// A name may have 33 characters.
+    LongName,
+    /// Two numbers in an expression may differ; the second is the constant.
+    TwoNumbers,
+    /// A line's record is the largest before it and 1.
+    RecordAfterLargest,
+    /// The printed source counts a thread's records from 1.
+    RecordAtThread,
 }
