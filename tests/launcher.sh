@@ -101,7 +101,7 @@ building() {
     runs 'the library changed' "$whole" 'rt cargo' 'it is blue square' "$menduvo"
     : >"$tree/crates/new.rt"
     runs 'a file came, and the library is the same' "$whole" rt 'it is blue square' "$menduvo"
-    echo 1 >"$tree/cases/lost-update.case"
+    echo 1 >"$tree/cases/lost-update.source"
     runs 'the case of the demo changed' "$whole" cargo 'it is blue square' "$menduvo"
     mkdir "$tree/bindings/target" && : >"$tree/bindings/target/file"
     runs 'what cargo leaves beside the sources is no source' "$slow" '' 'it is blue square' "$menduvo"
@@ -330,7 +330,7 @@ standing() {
     says 'under another name' 3 'is not bin/menduvo in its own tree' "$home/other"
     result 'it wrote nothing' test "$(find "$home" | wc -l)" = 4
     plant
-    for name in crates crates.txt tool tool/Cargo.toml bindings cases/lost-update.case cases/lost-update.assignment; do
+    for name in crates crates.txt tool tool/Cargo.toml bindings cases/lost-update.source cases/lost-update.assignment; do
         mv "$tree/$name" "$scratch/away"
         says "there is no $name" 3 "is not in its own tree: there is no a tree/$name" "$menduvo"
         mv "$scratch/away" "$tree/$name"

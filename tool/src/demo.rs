@@ -22,7 +22,7 @@ pub fn tell(output: &mut Output) -> Result<Status, Failure> {
     let loaded = Loaded::of(&Source::new(OsStr::new(name)), draft)?;
     output.say(&format!(
         "1. A CASE. Two threads move one gate: an operator by an amount that is entered, and automatic control by 5.\n\
-         \x20  The operator's thread asserts that the gate, G0, moved by both where automatic control is done (G1).\n\n{}\n",
+         \x20  The operator's thread asserts that the position moved by both where automatic control is done.\n\n{}\n",
         show::text(&loaded)
     ))?;
     filed(&loaded, output)?;
@@ -45,7 +45,7 @@ pub fn tell(output: &mut Output) -> Result<Status, Failure> {
 }
 
 fn next(output: &mut Output) -> Result<Status, Failure> {
-    output.say("\nNext: bin/menduvo picture cases/lost-update.case cases/lost-update.schedule -o lost-update.svg\n")?;
+    output.say("\nNext: bin/menduvo picture cases/lost-update.source cases/lost-update.schedule -o lost-update.svg\n")?;
     Ok(Status::Done)
 }
 
