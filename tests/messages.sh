@@ -390,9 +390,31 @@ no_sources() {
     result 'a case that is refused: no word of sources' bash -c '! grep -q source <<<"$1"' - "$out"
 }
 
+# in_thread NAME WORDS LINES: what make says of these lines of a thread whose L0 is called old.
+in_thread() {
+    no_source "$1" "$2" "switches 3\nglobal up = 0\nthread\nlocal old = L0\n$3\nthread\n"
+}
+
+# What is advised must be right in the thread where it is advised.
+advice_in_sources() {
+    local alone="'up' is a global, and is loaded by a line of its own: old = up"
+    in_thread 'a global in a sum' "line 5, column 8: $alone" 'L1=1 + up'
+    in_thread 'a sum with a global' "line 5, column 7: $alone" 'L1=up + 1'
+    in_thread 'a global and another' "line 5, column 6: $alone" 'up = up'
+    in_thread 'a word after a global' "line 5, column 7: '1' cannot stand here" 'L1=up 1'
+    in_thread 'if' "line 5, column 1: 'if' is kept for a later form of threads; a guard is 'when old != 0:'" 'if L1: L1 = 1'
+    in_thread 'record 0' 'line 5, column 1: this line would be record 0, but records go from 1 to 1, the number of lines' \
+        'record 0: L1 = 1'
+    in_thread 'a record over R' 'line 6, column 1: this line would be record 3, but records go from 1 to 2, the number of lines' \
+        'L1 = 1\nrecord 3: L1 = 1'
+    in_thread 'a record given twice' 'line 6, column 1: this line would be record 1, but line 5 is that already' \
+        'L1 = 1\nrecord 1: L1 = 1'
+}
+
 run "$menduvo" --version
 result 'the command is built' test "$status" = 0
 no_sources
+advice_in_sources
 texts
 files
 rows_of_case_a

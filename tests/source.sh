@@ -122,7 +122,7 @@ errors() {
     at 3:6 "there is no 'M0' here" 'a mutex, and none is declared' 'switches 2' thread 'lock M0'
     at 5:1 "'M0' is a mutex: 'lock M0' and 'unlock M0' are its lines" "local, $actions, when, record, thread" "${head[@]}" thread 'M0 = 1'
     at 5:6 "there is no 'G1' here" "$local_or_global, $number, input" "${head[@]}" thread 'L0 = G1'
-    at 5:9 "'+' cannot stand here" 'the end of the line' "${head[@]}" thread 'L0 = G0 + 1'
+    at 5:9 "'G0' is a global, and is loaded by a line of its own: L0 = G0" 'the end of the line' "${head[@]}" thread 'L0 = G0 + 1'
     at 5:14 "'L3' cannot stand here" 'the end of the line' "${head[@]}" thread 'L0 = L1 + L2 L3'
     at 5:9 "'>' cannot stand here" '+, -, &, |, ==, <, the end of the line' "${head[@]}" thread 'L0 = L1 > 2'
     at 5:6 "'G0' is a global, and is loaded by a line of its own: L0 = G0" "a local (L0 to L15), $number" "${head[@]}" thread \
@@ -139,9 +139,9 @@ errors() {
         "${head[@]}" thread 'local x = L0' 'L0 = 1'
     at 4:1 "'G0' is called gate here" 'local, a local (L0 to L15), a global (gate), lock, unlock, assert, assume, when, record, thread' \
         'switches 2' 'global gate = 0' thread 'G0 = 1'
-    at 5:1 'this is record 0, but R is 1' 'record 1:' "${head[@]}" thread 'record 0: lock M0'
-    at 5:1 'this is record 3, but R is 2' 'record 1:' "${head[@]}" thread 'record 3: lock M0' 'unlock M0'
-    at 7:1 'this is record 1, which line 5 is already' 'record 2:' "${head[@]}" thread 'lock M0' thread \
+    at 5:1 'this line would be record 0, but records go from 1 to 1, the number of lines' 'record 1:' "${head[@]}" thread 'record 0: lock M0'
+    at 5:1 'this line would be record 3, but records go from 1 to 2, the number of lines' 'record 1:' "${head[@]}" thread 'record 3: lock M0' 'unlock M0'
+    at 7:1 'this line would be record 1, but line 5 is that already' 'record 2:' "${head[@]}" thread 'lock M0' thread \
         'record 1: lock M0'
     run "$menduvo" show "$scratch/gate.source"
     same source-error 2 "$menduvo" solve "$scratch/gate.source" --json

@@ -35,10 +35,7 @@ impl Menduvo {
     /// answers ten times as fast. Where it cannot be found, the launcher.
     pub fn find() -> Result<Menduvo, String> {
         let launcher = env::var(PROGRAM).map_err(|_| format!("{PROGRAM} does not name a program"))?;
-        let ended = run_to_its_end(&launcher, &["--version"])?;
-        if !ended {
-            return Err(format!("{launcher} --version failed"));
-        }
+        build(&launcher)?;
         Ok(Menduvo(program_behind(&launcher).unwrap_or(launcher)))
     }
 
@@ -78,10 +75,15 @@ impl Menduvo {
     }
 }
 
-/// Runs the launcher, which may have to build first.
-fn run_to_its_end(launcher: &str, arguments: &[&str]) -> Result<bool, String> {
-    let status = Command::new(launcher).args(arguments).stdout(Stdio::null()).status();
-    Ok(status.map_err(|error| format!("{launcher} cannot be started: {error}"))?.success())
+/// Runs the launcher once, so that it builds what it must. That may take longer
+/// than an answer.
+fn build(launcher: &str) -> Result<(), String> {
+    let status = Command::new(launcher).arg("--version").stdout(Stdio::null()).status();
+    match status {
+        Ok(status) if status.success() => Ok(()),
+        Ok(status) => Err(format!("{launcher} --version: {status}")),
+        Err(error) => Err(format!("{launcher} cannot be started: {error}")),
+    }
 }
 
 /// The program that the launcher becomes: it waits for its input, and the

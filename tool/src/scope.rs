@@ -156,6 +156,16 @@ impl Scope<'_> {
         }
     }
 
+    /// What the thread calls its L0, for advice.
+    fn first_local(&self) -> &str {
+        self.locals.iter().find(|local| local.number == 0).map_or("L0", |local| &local.word)
+    }
+
+    /// That a global is no operand.
+    fn loaded_alone(&self, global: &str) -> String {
+        format!("'{global}' is a global, and is loaded by a line of its own: {} = {global}", self.first_local())
+    }
+
     fn or_global(&self) -> String {
         match self.globals.is_empty() {
             true => String::new(),
@@ -219,7 +229,8 @@ impl Scope<'_> {
             Ok(Name::Mutex(_)) => Err(Some(format!("'{word}' is a mutex: 'lock {word}' and 'unlock {word}' are its lines"))),
             Ok(name) => Ok(name),
             Err(_) if matches!(word, "if" | "else" | "while" | "end") => {
-                Err(Some(format!("'{word}' is kept for a later form of threads; a guard is 'when L0 != 0:'")))
+                let local = self.first_local();
+                Err(Some(format!("'{word}' is kept for a later form of threads; a guard is 'when {local} != 0:'")))
             }
             Err(wrong) => Err(is_name(word).then_some(wrong)),
         })?;
@@ -238,7 +249,12 @@ impl Scope<'_> {
         let word = words.peek().unwrap_or_default();
         if let Ok(Name::Global(global)) = self.find(word) {
             words.expect(word)?;
-            return Ok([3, target, 0, global, 0, 0]);
+            return match words.peek() {
+                Some(sign) if OPS.contains(&sign) => {
+                    Err(Problem { wrong: self.loaded_alone(word), ..words.problem("the end of the line") })
+                }
+                _ => Ok([3, target, 0, global, 0, 0]),
+            };
         }
         let could = format!("{}{}, {NUMBER}, input", self.a_local(), self.or_global());
         self.expression_of(words, &could).map(|[op, a, b, c]| [1, target, op, a, b, c])
@@ -273,9 +289,7 @@ impl Scope<'_> {
             (Err(Some(wrong)), _) => Err(Some(wrong)),
             (Err(None), _) => match self.find(word) {
                 Ok(Name::Local(_, number)) => Ok((number, None)),
-                Ok(Name::Global(_)) => {
-                    Err(Some(format!("'{word}' is a global, and is loaded by a line of its own: L0 = {word}")))
-                }
+                Ok(Name::Global(_)) => Err(Some(self.loaded_alone(word))),
                 Ok(Name::Mutex(_)) => Err(Some(format!("'{word}' is a mutex, and has no value in a line"))),
                 Err(wrong) => Err(is_name(word).then_some(wrong)),
             },

@@ -239,9 +239,8 @@ impl Reader {
         let mut taken: Vec<Option<Place>> = vec![None; lines.len()];
         for Line { place, number, .. } in &lines {
             let wrong = match number.checked_sub(1).and_then(|index| taken.get_mut(index)) {
-                None => format!("this is record {number}, but R is {}", lines.len()),
-                Some(Some(other)) => format!("this is record {number}, which line {} is already", other.line),
-
+                None => format!("but records go from 1 to {}, the number of lines", lines.len()),
+                Some(Some(other)) => format!("but line {} is that already", other.line),
                 Some(free) => {
                     *free = Some(*place);
                     continue;
@@ -249,7 +248,7 @@ impl Reader {
             };
             let left = (1..=lines.len()).find(|left| !lines.iter().any(|line| line.number == *left));
             let could = format!("record {}:", left.unwrap_or_default());
-            return Err(Problem { place: *place, wrong, could });
+            return Err(Problem { place: *place, wrong: format!("this line would be record {number}, {wrong}"), could });
         }
         Ok(())
     }

@@ -80,7 +80,7 @@ pub fn all() -> Vec<Group> {
     });
     groups.push(Group {
         by_default: std::env::var_os(command::PROGRAM).is_some(),
-        ..group("sources", "its sources", sources::run)
+        ..group("sources", "sources, by the same command", sources::run)
     });
     groups
 }
