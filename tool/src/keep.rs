@@ -163,8 +163,27 @@ fn write(file: &Path, bytes: &[u8]) -> Result<(), Failure> {
     })
 }
 
+/// Writes files, or none of them: what is in the way is told before any is written, and where one fails the others go again.
+/// Where files are to be replaced, those before one that fails are.
+pub fn write_files(files: &[(OsString, String)], force: bool) -> Result<(), Failure> {
+    if let Some((file, _)) = files.iter().find(|(file, _)| !force && is_there(Path::new(file))) {
+        return Err(not_replaced(file));
+    }
+    for (number, (file, text)) in files.iter().enumerate() {
+        write_file(file, text, force).inspect_err(|_| {
+            let written = if force { &[] } else { &files[..number] };
+            written.iter().for_each(|(file, _)| drop(fs::remove_file(file)));
+        })?;
+    }
+    Ok(())
+}
+
+fn not_replaced(file: &OsStr) -> Failure {
+    Failure::Other(format!("{} is there already; --force replaces it", shown(file)))
+}
+
 /// Replaces a file only where that is asked for.
-pub fn write_file(file: &OsStr, text: &str, force: bool) -> Result<(), Failure> {
+fn write_file(file: &OsStr, text: &str, force: bool) -> Result<(), Failure> {
     let mut options = OpenOptions::new();
     match force {
         true => options.write(true).create(true).truncate(true),
@@ -172,9 +191,7 @@ pub fn write_file(file: &OsStr, text: &str, force: bool) -> Result<(), Failure> 
     };
     match options.open(file).and_then(|mut opened| opened.write_all(text.as_bytes())) {
         Ok(()) => Ok(()),
-        Err(error) if error.kind() == ErrorKind::AlreadyExists => {
-            Err(Failure::Other(format!("{} is there already; --force replaces it", shown(file))))
-        }
+        Err(error) if error.kind() == ErrorKind::AlreadyExists => Err(not_replaced(file)),
         Err(error) => Err(Failure::of_file(file, &error)),
     }
 }

@@ -3,7 +3,7 @@
 
 use crate::calls::Ending;
 use crate::case::{Case, Kind, Record, CONSTANT};
-use crate::names::Name;
+use crate::names::{Name, Names};
 use crate::words::item_name;
 
 /// What came of a line.
@@ -21,6 +21,18 @@ pub enum Event {
     CutOff(String),
 }
 
+impl Event {
+    pub fn words(&self, names: &Names) -> String {
+        match self {
+            Event::Set(name, value) => format!("{} = {value}", names.called(*name)),
+            Event::Holds(words) => format!("holds: {words}"),
+            Event::Broken(words) => format!("BROKEN: {words}"),
+            Event::Skipped(words) => format!("skipped: {words}"),
+            Event::CutOff(words) => format!("CUT OFF: {words}"),
+        }
+    }
+}
+
 /// A line that ran.
 #[derive(Clone, Debug)]
 pub struct Step {
@@ -29,6 +41,8 @@ pub struct Step {
     pub line: usize,
     pub record: u16,
     pub event: Event,
+    /// All items after the line.
+    pub items: Vec<u16>,
 }
 
 /// A run as this walk sees it.
@@ -89,7 +103,7 @@ impl Machine<'_> {
             }
             _ => self.run(thread, &record),
         };
-        Some(Step { block, line: self.lines[thread], record: number, event })
+        Some(Step { block, line: self.lines[thread], record: number, event, items: self.items.clone() })
     }
 
     /// Runs a line whose guard is true.
