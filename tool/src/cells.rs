@@ -74,7 +74,7 @@ impl Look {
     fn meaning(self) -> &'static str {
         match self {
             Look::Plain => "a line: its record, what it does, what came of it",
-            Look::Shared => "it reads or writes a shared item",
+            Look::Shared => "a line that reads or writes a shared item",
             Look::Skipped => "skipped: its guard is false",
             Look::Folded => "folded: lines without shared items",
             Look::CutOff => "cut off: the run ends here",
@@ -121,9 +121,16 @@ pub fn blocks(run: &Run) -> usize {
 pub fn blocks_left_out(case: &Case, run: &Run) -> Option<String> {
     let (first, last) = (blocks(run), case.switches);
     let (is, are) = if run.ended_before(last) { ("is not run", "are not run") } else { ("runs no line", "run no line") };
-    match last.checked_sub(first)? {
-        0 => Some(format!("block {last} {is}")),
-        _ => Some(format!("blocks {first} to {last} {are}")),
+    let words = blocks_in_words(first, last);
+    (first <= last).then(|| format!("{words} {}", if first == last { is } else { are }))
+}
+
+/// `block 4`, `blocks 4 and 5`, `blocks 4 to 6`.
+pub fn blocks_in_words(first: usize, last: usize) -> String {
+    match last.saturating_sub(first) {
+        0 => format!("block {last}"),
+        1 => format!("blocks {first} and {last}"),
+        _ => format!("blocks {first} to {last}"),
     }
 }
 
@@ -137,8 +144,9 @@ pub struct Legend {
 }
 
 impl Legend {
-    /// The legend of the looks that occur.
+    /// The legend of the looks that occur, and of a plain line, since that says what stands in a cell.
     pub fn of(case: &Case, mut looks: Vec<Look>, width: u32) -> Legend {
+        looks.push(Look::Plain);
         looks.sort();
         looks.dedup();
         let mut rows: Vec<Vec<(u32, Look)>> = Vec::new();

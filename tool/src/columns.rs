@@ -3,7 +3,7 @@
 
 use crate::calls::Ending;
 use crate::case::Case;
-use crate::cells::{blocks, blocks_left_out, head, values, Legend, Look, FAINT, HEAD, INDENT, SMALL, TITLE};
+use crate::cells::{blocks, blocks_in_words, blocks_left_out, head, values, Legend, Look, FAINT, HEAD, INDENT, SMALL, TITLE};
 use crate::folds::{fold_in_words, parts, Part};
 use crate::run::{verdict, Run};
 use crate::svg::{Style, Svg, PAGE};
@@ -27,8 +27,8 @@ const BOLD: Style = Style { bold: true, ..TEXT };
 
 /// What stands below one another on the pages.
 enum Row {
-    /// The head of a block.
-    Strip(usize),
+    /// The head of a block, or of several after one another that run no line: the first and the last.
+    Strip(usize, usize),
     /// A line, or several that are folded: its block, its words, and what stands at the right of the last of them.
     Cell { block: usize, look: Look, is_shared: bool, lines: Vec<String>, result: String },
     /// The items at a block's end.
@@ -90,13 +90,13 @@ impl Pages<'_> {
         let mut y = self.first_head(&mut Svg::new(0, 0), 0, None);
         let mut rows = self.rows().into_iter().peekable();
         while let Some(row) = rows.next() {
-            let after = rows.peek().filter(|_| matches!(row, Row::Strip(_)));
+            let after = rows.peek().filter(|_| matches!(row, Row::Strip(..)));
             let needed = self.height(&row) + after.map_or(0, |next| self.height(next));
             if y + needed > BOTTOM {
                 pages.push(std::mem::take(&mut page));
                 y = self.further_head(&mut Svg::new(0, 0), 0, 0);
                 if let Row::Cell { block, .. } | Row::Values(block) = row {
-                    page.push((y, Row::Strip(block)));
+                    page.push((y, Row::Strip(block, block)));
                     y += STRIP;
                 }
             }
@@ -110,13 +110,20 @@ impl Pages<'_> {
 
     fn rows(&self) -> Vec<Row> {
         let mut rows = Vec::new();
-        for block in 0..blocks(self.run) {
-            rows.push(Row::Strip(block));
-            rows.extend(parts(self.case, self.run, block).iter().map(|part| self.cell(block, part)));
-            rows.extend((self.case.items() > 0).then_some(Row::Values(block)));
+        let blocks: Vec<usize> = (0..blocks(self.run)).collect();
+        for stretch in blocks.chunk_by(|&one, &next| !self.runs(one) && !self.runs(next)) {
+            let (first, last) = (stretch[0], stretch[stretch.len() - 1]);
+            rows.push(Row::Strip(first, last));
+            rows.extend(parts(self.case, self.run, last).iter().map(|part| self.cell(last, part)));
+            rows.extend((self.case.items() > 0).then_some(Row::Values(last)));
         }
         rows.push(Row::Ending);
         rows
+    }
+
+    /// Whether a line runs in the block.
+    fn runs(&self, block: usize) -> bool {
+        self.run.steps.iter().any(|step| step.block == block)
     }
 
     fn cell(&self, block: usize, part: &Part) -> Row {
@@ -128,12 +135,10 @@ impl Pages<'_> {
             Part::Fold(steps) => (TEXT.lines(&fold_in_words(self.case, steps), width), String::new()),
         };
         let last = lines.last().map_or(0, |line| TEXT.width(line.trim_end()));
-        if last + TEXT.width("  ") + TEXT.width(&result) > width {
-            lines.push(String::new());
-        }
         if TEXT.width(&result) > width {
-            lines.pop();
             lines.extend(TEXT.lines(&std::mem::take(&mut result), width));
+        } else if !result.is_empty() && last + TEXT.width("  ") + TEXT.width(&result) > width {
+            lines.push(String::new());
         }
         Row::Cell { block, look, is_shared, lines, result }
     }
@@ -151,7 +156,7 @@ impl Pages<'_> {
 
     fn height(&self, row: &Row) -> u32 {
         match row {
-            Row::Strip(_) => STRIP,
+            Row::Strip(..) => STRIP,
             Row::Cell { lines, .. } => lines.len() as u32 * TEXT.leading() + 5 + GAP,
             Row::Values(_) => self.values_height(),
             Row::Ending => self.ending(&mut Svg::new(0, 0), 0),
@@ -231,7 +236,7 @@ impl Pages<'_> {
 
     fn row(&self, svg: &mut Svg, y: u32, row: &Row) {
         match row {
-            Row::Strip(block) => self.strip(svg, y, *block),
+            Row::Strip(first, last) => self.strip(svg, y, *first, *last),
             Row::Cell { block, look, is_shared, lines, result } => {
                 let (x, width) = self.columns[self.case.thread_of_block(*block)];
                 let (x, width) = (x + GAP, width - 2 * GAP);
@@ -253,7 +258,17 @@ impl Pages<'_> {
     }
 
     /// A block's head: its text stands above its thread's column, or as near to it as it fits.
-    fn strip(&self, svg: &mut Svg, y: u32, block: usize) {
+    fn strip(&self, svg: &mut Svg, y: u32, first: usize, last: usize) {
+        let words = match first == last {
+            true => self.block_in_words(last),
+            false => format!("{}: no line", blocks_in_words(first, last)),
+        };
+        let x = if first == last { self.columns[self.case.thread_of_block(last)].0 } else { MARGIN };
+        svg.rectangle([MARGIN, y, WIDTH, STRIP - GAP], "#e0e0e0", "");
+        svg.text((x + GAP + INDENT).min(RIGHT - BOLD.width(&words) - GAP), y + 12, BOLD, &words);
+    }
+
+    fn block_in_words(&self, block: usize) -> String {
         let steps: Vec<&Step> = self.run.steps.iter().filter(|step| step.block == block).collect();
         let thread = self.case.thread_of_block(block);
         let all = self.case.chains[thread].len();
@@ -262,10 +277,7 @@ impl Pages<'_> {
             [one] => format!("line {} of {all}", one.line),
             [first, .., last] => format!("lines {} to {} of {all}", first.line, last.line),
         };
-        let words = format!("block {block}: thread {thread}, {lines}");
-        let (x, _) = self.columns[thread];
-        svg.rectangle([MARGIN, y, WIDTH, STRIP - GAP], "#e0e0e0", "");
-        svg.text((x + GAP + INDENT).min(RIGHT - BOLD.width(&words) - GAP), y + 12, BOLD, &words);
+        format!("{}: thread {thread}, {lines}", blocks_in_words(block, block))
     }
 
     /// Items with their values, each in its own place, so that they stand below each other on the page.

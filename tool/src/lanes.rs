@@ -14,7 +14,7 @@ const GAP: u32 = 6;
 /// The width of a column that holds no line.
 const NARROW: u32 = 74;
 /// So wide that the texts around the lanes do not take many lines.
-const NARROWEST_PICTURE: u32 = 480;
+const NARROWEST_PICTURE: u32 = 600;
 
 /// Where the lanes and columns stand.
 struct Layout {

@@ -8,6 +8,9 @@ use crate::{columns, lanes};
 use std::ffi::{OsStr, OsString};
 use std::path::Path;
 
+#[cfg(test)]
+mod tests;
+
 /// The most lines of a run that is drawn in lanes.
 const MOST_IN_LANES: usize = 40;
 /// How far lanes are scaled down to fit on a page, in thousandths: their smallest text then has 7 points.
