@@ -7,7 +7,7 @@ use crate::cells::{blocks, blocks_in_words, blocks_left_out, head, values, Legen
 use crate::folds::{fold_in_words, parts, Part};
 use crate::run::{verdict, Run};
 use crate::svg::{Style, Svg, PAGE};
-use crate::walk::Step;
+use crate::walk::{Event, Step};
 use crate::words::item_name;
 
 const MARGIN: u32 = 8;
@@ -18,7 +18,7 @@ const COLUMN_HEAD: u32 = 22;
 const STRIP: u32 = 20;
 const GAP: u32 = 3;
 /// The width of the column of a thread that runs no line.
-const NARROW: u32 = 76;
+const NARROW: u32 = 86;
 /// The width of what stands before values, and of the page's number.
 const LABEL: u32 = 114;
 
@@ -131,7 +131,7 @@ impl Pages<'_> {
         let (_, width) = self.columns[self.case.thread_of_block(block)];
         let width = width - 2 * GAP - INDENT - 5;
         let (mut lines, mut result) = match part {
-            Part::Line(step) => (self.head(step, width), step.event.words(&self.case.names)),
+            Part::Line(step) => (self.head(step, width), self.result(step, width)),
             Part::Fold(steps) => (TEXT.lines(&fold_in_words(self.case, steps), width), String::new()),
         };
         let last = lines.last().map_or(0, |line| TEXT.width(line.trim_end()));
@@ -151,6 +151,15 @@ impl Pages<'_> {
                 TEXT.lines(guard, width).into_iter().chain(TEXT.lines(&action, width)).collect()
             }
             _ => TEXT.lines(&head, width),
+        }
+    }
+
+    /// What came of a line. Where that is a value and is too long, the name is left out, which the line has before.
+    fn result(&self, step: &Step, width: u32) -> String {
+        let words = step.event.words(&self.case.names);
+        match step.event {
+            Event::Set(_, value) if TEXT.width(&words) > width => format!("= {value}"),
+            _ => words,
         }
     }
 

@@ -3,7 +3,7 @@
 use crate::case::Case;
 use crate::cells::{blocks, blocks_left_out, head, is_shared, values, Legend, Look, FAINT, HEAD, INDENT, PLAIN, SMALL, TITLE};
 use crate::run::{verdict, Run};
-use crate::svg::{Style, Svg};
+use crate::svg::{Style, Svg, UNBROKEN};
 use crate::walk::Step;
 use crate::words::items_in_words;
 
@@ -68,7 +68,8 @@ fn columns(case: &Case, run: &Run) -> (Vec<(u32, u32)>, u32) {
 
 fn layout(case: &Case, name: &str, run: &Run, columns: Vec<(u32, u32)>, width: u32) -> Layout {
     let title = TITLE.lines(name, width);
-    let start = SMALL.lines(&format!("start: {}", items_in_words(case, &case.items_at_start())), width);
+    let start = items_in_words(case, &case.items_at_start()).replace(" = ", &format!("{UNBROKEN}={UNBROKEN}"));
+    let start = SMALL.lines(&format!("start: {start}"), width);
     let top = MARGIN + title.len() as u32 * TITLE.leading() + start.len() as u32 * SMALL.leading() + 36;
     let mut y = top;
     let mut lanes = Vec::new();

@@ -16,14 +16,14 @@ impl Dice {
         (self.0 >> 33) as usize % limit
     }
 
-    fn from_to(&mut self, least: usize, most: usize) -> usize {
+    fn between(&mut self, least: usize, most: usize) -> usize {
         least + self.below(most - least + 1)
     }
 }
 
 /// A record's kind, guard, target, op, a, b and c, of those that a case may have.
 fn line(dice: &mut Dice, globals: usize, mutexes: usize) -> [usize; 7] {
-    let guard = [0, dice.from_to(1, 32)][usize::from(dice.below(3) == 0)];
+    let guard = [0, dice.between(1, 32)][usize::from(dice.below(3) == 0)];
     let (local, op, constant) = (dice.below(16), dice.below(7), dice.below(65536));
     let kinds = [1, 1, 1, 2, 3, 4, 5, 6, 7, 8];
     match kinds[dice.below(10)] {
@@ -39,10 +39,10 @@ fn line(dice: &mut Dice, globals: usize, mutexes: usize) -> [usize; 7] {
 }
 
 fn case(dice: &mut Dice) -> Case {
-    let (threads, switches) = (dice.from_to(2, 4), dice.below(16));
+    let (threads, switches) = (dice.between(2, 4), dice.below(16));
     let (globals, mutexes) = (dice.below(9), dice.below(5));
     let most = [1, 8, 15, 64][dice.below(4)];
-    let lines: Vec<usize> = (0..threads).map(|_| dice.from_to(0, most)).collect();
+    let lines: Vec<usize> = (0..threads).map(|_| dice.between(0, most)).collect();
     let mut header = vec![threads, switches, globals, mutexes, 0, 0, 0, 0];
     header.extend((0..8).map(|global| if global < globals { 9 } else { 0 }));
     let mut records = Vec::new();
@@ -66,7 +66,7 @@ fn give_names(case: &mut Case, dice: &mut Dice) {
     let items = (0..8).map(Name::Global).chain((0..4).map(Name::Mutex));
     for name in locals.chain(items).filter(|_| length > 0) {
         let parts = ["upper_gate_", "waterlevelofthelowerbasin", "x"][dice.below(3)];
-        let word: String = parts.chars().cycle().take(length - 4).collect();
+        let word: String = parts.chars().cycle().take(length - 3).collect();
         case.names.give(name, &format!("{word}_{}", name.plain()));
     }
 }
@@ -76,7 +76,7 @@ fn schedule(case: &Case, dice: &mut Dice) -> Vec<u16> {
     let mut schedule = vec![0; case.switches + 1];
     for (thread, chain) in case.chains.iter().enumerate() {
         let blocks = case.blocks_of(thread);
-        let used = blocks.len().min(dice.from_to(1, 6));
+        let used = blocks.len().min(dice.between(1, 6));
         chain.iter().filter(|_| used > 0).for_each(|_| schedule[blocks[dice.below(used)]] += 1);
     }
     schedule.extend(case.inputs().iter().map(|_| dice.below(65536) as u16));
