@@ -163,12 +163,9 @@ fn write(file: &Path, bytes: &[u8]) -> Result<(), Failure> {
     })
 }
 
-/// Writes files, or none of them: what is in the way is told before any is written, and where one fails the others go again.
-/// Where files are to be replaced, those before one that fails are.
+/// Writes files, or none of them: where one fails, those before it go again. Where files are to be replaced they stay, since what
+/// they replaced is gone.
 pub fn write_files(files: &[(OsString, String)], force: bool) -> Result<(), Failure> {
-    if let Some((file, _)) = files.iter().find(|(file, _)| !force && is_there(Path::new(file))) {
-        return Err(not_replaced(file));
-    }
     for (number, (file, text)) in files.iter().enumerate() {
         write_file(file, text, force).inspect_err(|_| {
             let written = if force { &[] } else { &files[..number] };
@@ -178,20 +175,24 @@ pub fn write_files(files: &[(OsString, String)], force: bool) -> Result<(), Fail
     Ok(())
 }
 
-fn not_replaced(file: &OsStr) -> Failure {
-    Failure::Other(format!("{} is there already; --force replaces it", shown(file)))
-}
-
-/// Replaces a file only where that is asked for.
+/// Replaces a file only where that is asked for. A new one that cannot be written to its end goes again.
 fn write_file(file: &OsStr, text: &str, force: bool) -> Result<(), Failure> {
     let mut options = OpenOptions::new();
     match force {
         true => options.write(true).create(true).truncate(true),
         false => options.write(true).create_new(true),
     };
-    match options.open(file).and_then(|mut opened| opened.write_all(text.as_bytes())) {
-        Ok(()) => Ok(()),
-        Err(error) if error.kind() == ErrorKind::AlreadyExists => Err(not_replaced(file)),
-        Err(error) => Err(Failure::of_file(file, &error)),
-    }
+    let mut opened = match options.open(file) {
+        Ok(opened) => opened,
+        Err(error) if error.kind() == ErrorKind::AlreadyExists => {
+            return Err(Failure::Other(format!("{} is there already; --force replaces it", shown(file))));
+        }
+        Err(error) => return Err(Failure::of_file(file, &error)),
+    };
+    opened.write_all(text.as_bytes()).map_err(|error| {
+        if !force {
+            let _ = fs::remove_file(file);
+        }
+        Failure::of_file(file, &error)
+    })
 }
