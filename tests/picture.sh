@@ -1,14 +1,14 @@
 #!/usr/bin/env bash
-# Tests the pictures of runs: those of a short and of a long run (compared with tests/command/picture-*.expected), that pages fit A4
-# and cut nothing, that every line and every value at a block's end is told, and which files are written. With --store it writes the
-# expected pictures anew.
+# Tests the pictures of runs: those of a short and of a long run (compared with tests/command/picture-*.expected), that pages fit
+# A4 and cut nothing, that every line and every value at a block's end is told, and which files are written. With --store it
+# writes the expected pictures anew.
 set -u
 cd -- "$(dirname -- "${BASH_SOURCE[0]}")/.." || exit
 . tests/helpers.sh || exit
 
-# long NAME THREADS LINES SWITCHES LENGTH..: a case in the scratch folder whose threads have so many lines each, with 8 globals and 4
-# mutexes, and a schedule of blocks of these lengths. Each thread reads an input, works on its own and on shared items, and makes
-# lines that are skipped; the last line but one of thread 0 is a broken assertion.
+# long NAME THREADS LINES SWITCHES LENGTH..: a case in the scratch folder whose threads have so many lines each, with 8 globals
+# and 4 mutexes, and a schedule of blocks of these lengths. Each thread reads an input, works on its own and on shared items, and
+# has lines that are skipped; the last line but one of thread 0 is a broken assertion.
 long() {
     local name=$1 threads=$2 lines=$3 switches=$4 thread line next number=0 first=(0 0 0 0) records=() inputs=()
     shift 4
@@ -59,8 +59,14 @@ told() {
 # at_ends: from a replay on standard input, the items at each block's end: what its lines set, after those at the start.
 at_ends() {
     awk '
-        function told(   i, words) { for (i = 1; i <= items; i++) words = words (i > 1 ? ", " : "") name[i] " = " value[name[i]]; return words }
-        /^start: / { items = split(substr($0, 8), each, ", "); for (i = 1; i <= items; i++) { split(each[i], two, " = "); name[i] = two[1]; value[two[1]] = two[2] } }
+        function told(   i, words) {
+            for (i = 1; i <= items; i++) words = words (i > 1 ? ", " : "") name[i] " = " value[name[i]]
+            return words
+        }
+        /^start: / {
+            items = split(substr($0, 8), each, ", ")
+            for (i = 1; i <= items; i++) { split(each[i], two, " = "); name[i] = two[1]; value[two[1]] = two[2] }
+        }
         /^(block|end)/ && begun { print told() }
         /^block/ { begun = 1 }
         /^.. line/ && $(NF - 1) == "=" && ($(NF - 2) in value) { value[$(NF - 2)] = $NF }'
@@ -68,8 +74,8 @@ at_ends() {
 
 # drawn_ends: from the texts of a picture on standard input, the same. The items of a block that is drawn with others stand once.
 drawn_ends() {
-    awk '/^after block/ { if (words != "") print words; words = ""; on = 1; next } / = / && on && NF == 3 { words = words (words == "" ? "" : ", ") $0; next }
-        { on = 0 } END { print words }'
+    awk '/^after block/ { if (words != "") print words; words = ""; on = 1; next }
+        / = / && on && NF == 3 { words = words (words == "" ? "" : ", ") $0; next } { on = 0 } END { print words }'
 }
 
 # count FILE CONDITION: how many rectangles of a picture are so.
@@ -82,7 +88,8 @@ in_order() {
     local name=$1 pages=$2 page file threads
     run "$menduvo" picture "$scratch/$name.case" "$scratch/$name.schedule" -o "$scratch/$name.svg"
     result "$name is drawn" test "$status" = 0
-    result "$name has $pages pages" test "$(find "$scratch" -name "$name-*.svg" | wc -l), $(wc -l <"$scratch/out")" = "$pages, $pages"
+    result "$name has $pages files" test "$(find "$scratch" -name "$name-*.svg" | wc -l)" = "$pages"
+    result "$name has $pages pages" test "$(wc -l <"$scratch/out")" = "$pages"
     threads=$(od -An -tu2 -N2 "$scratch/$name.case" | tr -d ' ')
     : >"$scratch/texts"
     for ((page = 1; page <= pages; page++)); do
@@ -123,9 +130,10 @@ short_runs() {
         result "$name: every line is told" test "$(text "$scratch/$name.svg" | told)" = "$lines"
         lane_ends "$scratch/$name.svg" >"$scratch/drawn"
         # Those of the blocks at the end that are left out are the last ones.
-        result "$name: the items at each block's end" cmp -s <(head -n "$(wc -l <"$scratch/drawn")" "$scratch/ends") "$scratch/drawn"
+        head -n "$(wc -l <"$scratch/drawn")" "$scratch/ends" >"$scratch/wanted"
+        result "$name: the items at each block's end" cmp -s "$scratch/wanted" "$scratch/drawn"
         result "$name: the items at the end" test "$(tail -n 1 "$scratch/drawn")" = "$(tail -n 1 "$scratch/ends")"
-        result "$name: it fits on a page" eval '[ "$(size "$scratch/'"$name"'.svg")" = yes ]'
+        result "$name: it fits on a page" test "$(size "$scratch/$name.svg")" = yes
     done
     says 'blocks after a cut-off' 0 '>blocks 2 and 3 are not run<' \
         "$menduvo" picture cases/lock-order.case cases/lock-order.schedule -o -
@@ -166,7 +174,8 @@ long_runs() {
     result 'empty blocks between are told' grep -q '^blocks 4 to 7: no line$' "$scratch/texts"
     result 'empty blocks at the end are told' grep -q '^blocks 12 to 15 run no line$' "$scratch/texts"
     long forty 2 20 1 20 20
-    says 'a run of 40 lines that is too high for lanes' 0 'page 1 of' "$menduvo" picture "$scratch/forty.case" "$scratch/forty.schedule" -o -
+    says 'a run of 40 lines that is too high for lanes' 0 'page 1 of' \
+        "$menduvo" picture "$scratch/forty.case" "$scratch/forty.schedule" -o -
 }
 
 files() {
@@ -178,7 +187,8 @@ files() {
     says 'pages are replaced' 0 'files/a-2.svg: page 2 of 2: violated: record 19' "${picture[@]}" --force
     result 'both are there' cmp -s "$scratch/files/a-2.svg" "$scratch/medium-2.svg"
     echo old | tee "$scratch/files/a-3.svg" >"$scratch/files/a.svg"
-    says 'a page of another picture is told' 0 'files/a-3.svg is there too, and is no page of this picture' "${picture[@]}" --force
+    says 'a page of another picture is told' 0 'files/a-3.svg is there too, and is no page of this picture' \
+        "${picture[@]}" --force
     result 'so is one without a number' eval '[[ $out = *"files/a.svg is there too"* ]]'
     says 'of one page too' 0 'files/a-1.svg is there too' \
         "$menduvo" picture cases/case-a.case cases/case-a.schedule -o "$scratch/files/a.svg" --force
@@ -187,13 +197,15 @@ files() {
         "$menduvo" picture "$scratch/medium.case" "$scratch/files/b-2.svg" -o "$scratch/files/b.svg" --force
     result 'no page is left' test ! -e "$scratch/files/b-1.svg"
     mkdir "$scratch/files/c-2.svg"
-    says 'a page cannot be written' 3 'c-2.svg' "$menduvo" picture "$scratch/medium.case" "$scratch/medium.schedule" -o "$scratch/files/c.svg"
+    says 'a page cannot be written' 3 'c-2.svg' \
+        "$menduvo" picture "$scratch/medium.case" "$scratch/medium.schedule" -o "$scratch/files/c.svg"
     result 'no other is left' test ! -e "$scratch/files/c-1.svg"
 }
 
 filing() {
     says 'a long run is filed' 1 'violated: record 19' "$menduvo" file "$scratch/medium.case" "$scratch/filed" --solver z3
-    result 'its pages are filed' eval 'grep -q "picture-1.svg$" "$scratch/filed/MANIFEST" && [ -s "$scratch/filed/picture-2.svg" ]'
+    result 'its first page is filed' grep -q 'picture-1.svg$' "$scratch/filed/MANIFEST"
+    result 'its second page is filed' test -s "$scratch/filed/picture-2.svg"
     says 'the pages are made again' 0 'picture-2.svg     same' "$menduvo" verify "$scratch/filed"
     sed -i 's/thread 1/thread 2/' "$scratch/filed/picture-2.svg"
     says 'a changed page is told' 1 'picture-2.svg' "$menduvo" verify "$scratch/filed"

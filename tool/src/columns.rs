@@ -1,5 +1,5 @@
-//! A long run as pages: threads as columns, time running down, block after block. The columns' heads repeat on each page, stretches
-//! without shared items are folded, and no cell is cut by a page's end.
+//! A long run as pages: threads as columns, time running down, block after block. The columns' heads repeat on each page,
+//! stretches without shared items are folded, and no cell is cut by a page's end.
 
 use crate::calls::Ending;
 use crate::case::Case;
@@ -84,13 +84,14 @@ fn at_start(case: &Case) -> Vec<(String, bool)> {
 }
 
 impl Pages<'_> {
-    /// All rows, page by page. A block's head stays with what follows it, and is there again where a page begins within a block.
+    /// All rows, page by page. A block's head stays with what follows it, and is there again where a page begins within a block;
+    /// what is said at the end does not stand on a page alone.
     fn placed(&self) -> Vec<Vec<Placed>> {
         let (mut pages, mut page) = (Vec::new(), Vec::new());
         let mut y = self.first_head(&mut Svg::new(0, 0), 0, None);
         let mut rows = self.rows().into_iter().peekable();
         while let Some(row) = rows.next() {
-            let after = rows.peek().filter(|_| matches!(row, Row::Strip(..)));
+            let after = rows.peek().filter(|next| matches!(row, Row::Strip(..)) || matches!(next, Row::Ending));
             let needed = self.height(&row) + after.map_or(0, |next| self.height(next));
             if y + needed > BOTTOM {
                 pages.push(std::mem::take(&mut page));

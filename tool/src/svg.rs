@@ -103,7 +103,8 @@ impl Svg {
     pub fn file(&self, title: &str, scale: u32) -> String {
         let Svg { width, height, shapes } = self;
         let [above, beside] = MARGINS;
-        let sheet = match width > height {
+        let is_wide = width > height && *width > PAGE[0];
+        let sheet = match is_wide {
             true => format!("size: A4 landscape; margin: {beside} {above}"),
             false => format!("size: A4; margin: {above} {beside}"),
         };
