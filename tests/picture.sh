@@ -46,6 +46,16 @@ record() {
     esac
 }
 
+# loads NAME LENGTH LENGTH LENGTH LENGTH: a case in the scratch folder of two threads that load G0 in each line, and a schedule.
+loads() {
+    local number records=() first=$(($2 + $4)) all=$(($2 + $3 + $4 + $5))
+    for ((number = 1; number <= all; number++)); do
+        records+=("$((number == first || number == all ? 0 : number + 1))" 3 0 1 0 0 0 0)
+    done
+    fields 2 3 1 0 1 "$((first + 1))" 0 0 0 0 0 0 0 0 0 0 "${records[@]}" >"$scratch/$1.case"
+    echo "${@:2}" >"$scratch/$1.schedule"
+}
+
 # text FILE: its texts, one a line.
 text() {
     sed -n 's/<tspan[^>]*>//g; s|</tspan>||g; s|^<text[^>]*>\(.*\)</text>$|\1|p' "$1" | sed 's/&lt;/</g; s/&gt;/>/g; s/&amp;/\&/g'
@@ -138,6 +148,10 @@ short_runs() {
     says 'blocks after a cut-off' 0 '>blocks 2 and 3 are not run<' \
         "$menduvo" picture cases/lock-order.case cases/lock-order.schedule -o -
     result 'a cut-off is in the legend' eval '[[ $out = *">cut off: the run ends here<"* && $out != *">skipped: its guard"* ]]'
+    # Assert 0, then assume 0.
+    fields 2 0 0 0 1 0 0 0 0 0 0 0 0 0 0 0 2 5 0 0 0 16 0 0 0 6 0 0 0 16 0 0 >"$scratch/vain.case"
+    says 'what is broken before a cut-off is no violation' 0 '>record 1 is broken too, but a run that is cut off is not legal' \
+        "$menduvo" picture "$scratch/vain.case" <(echo 2) -o -
     # No record, no switch.
     fields 2 0 0 0 0 0 0 0 0 0 0 0 0 0 0 0 >"$scratch/empty.case"
     says 'a run without a line' 0 '>block 0 runs no line<' "$menduvo" picture "$scratch/empty.case" <(echo 0) -o -
@@ -173,9 +187,17 @@ long_runs() {
     in_order few 7
     result 'empty blocks between are told' grep -q '^blocks 4 to 7: no line$' "$scratch/texts"
     result 'empty blocks at the end are told' grep -q '^blocks 12 to 15 run no line$' "$scratch/texts"
-    long forty 2 20 1 20 20
-    says 'a run of 40 lines that is too high for lanes' 0 'page 1 of' \
-        "$menduvo" picture "$scratch/forty.case" "$scratch/forty.schedule" -o -
+    local lengths form
+    while read -r lengths form; do
+        # shellcheck disable=SC2086 # several lengths
+        loads loads ${lengths//,/ }
+        run "$menduvo" picture "$scratch/loads.case" "$scratch/loads.schedule" -o -
+        result "blocks of $lengths lines: $form" eval '[ "$(grep -c ">page 1 of " "$scratch/out")" = '"$((${#form} == 7))"' ]'
+    done <<'RUNS'
+10,10,10,10 lanes
+10,10,11,10 columns
+20,20,0,0 columns
+RUNS
 }
 
 files() {

@@ -117,20 +117,25 @@ pub fn blocks(run: &Run) -> usize {
     run.steps.last().map_or(0, |step| step.block + 1)
 }
 
-/// What is to be said of the blocks that are not drawn.
-pub fn blocks_left_out(case: &Case, run: &Run) -> Option<String> {
+/// What is said after the verdict: of a broken assertion that is no violation, and of the blocks that are not drawn.
+pub fn notes(case: &Case, run: &Run, width: u32) -> Vec<String> {
     let (first, last) = (blocks(run), case.switches);
-    let (is, are) = if run.ended_before(last) { ("is not run", "are not run") } else { ("runs no line", "run no line") };
-    let words = blocks_in_words(first, last);
-    (first <= last).then(|| format!("{words} {}", if first == last { is } else { are }))
+    let what = match (run.ended_before(last), first == last) {
+        (true, true) => "is not run",
+        (true, false) => "are not run",
+        (false, true) => "runs no line",
+        (false, false) => "run no line",
+    };
+    let left_out = (first <= last).then(|| format!("{} {what}", range_in_words("block", first, last)));
+    run.broken_in_vain().into_iter().chain(left_out).flat_map(|words| SMALL.lines(&words, width)).collect()
 }
 
 /// `block 4`, `blocks 4 and 5`, `blocks 4 to 6`.
-pub fn blocks_in_words(first: usize, last: usize) -> String {
+pub fn range_in_words(one: &str, first: usize, last: usize) -> String {
     match last.saturating_sub(first) {
-        0 => format!("block {last}"),
-        1 => format!("blocks {first} and {last}"),
-        _ => format!("blocks {first} to {last}"),
+        0 => format!("{one} {last}"),
+        1 => format!("{one}s {first} and {last}"),
+        _ => format!("{one}s {first} to {last}"),
     }
 }
 

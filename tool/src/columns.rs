@@ -3,7 +3,7 @@
 
 use crate::calls::Ending;
 use crate::case::Case;
-use crate::cells::{blocks, blocks_in_words, blocks_left_out, head, values, Legend, Look, FAINT, HEAD, INDENT, SMALL, TITLE};
+use crate::cells::{blocks, head, notes, range_in_words, values, Legend, Look, FAINT, HEAD, INDENT, SMALL, TITLE};
 use crate::folds::{fold_in_words, parts, Part};
 use crate::run::{verdict, Run};
 use crate::svg::{Style, Svg, PAGE};
@@ -249,13 +249,11 @@ impl Pages<'_> {
             Row::Strip(first, last) => self.strip(svg, y, *first, *last),
             Row::Cell { block, look, is_shared, lines, result } => {
                 let (x, width) = self.columns[self.case.thread_of_block(*block)];
-                let (x, width) = (x + GAP, width - 2 * GAP);
+                let [x, right] = [x + GAP, x + width - GAP];
                 let height = lines.len() as u32 * TEXT.leading() + 5;
-                look.frame(svg, [x, y, width, height], *is_shared);
+                look.frame(svg, [x, y, right - x, height], *is_shared);
                 svg.text_lines(x + INDENT, y + TEXT.leading(), look.style(TEXT), lines);
-                if !result.is_empty() {
-                    svg.text_to(x + width - 5, y + height - 5, look.style(TEXT), result);
-                }
+                svg.text_to(right - 5, y + height - 5, look.style(TEXT), result);
             }
             Row::Values(block) => {
                 svg.rectangle([MARGIN, y, WIDTH, self.values_height()], "white", "");
@@ -271,7 +269,7 @@ impl Pages<'_> {
     fn strip(&self, svg: &mut Svg, y: u32, first: usize, last: usize) {
         let words = match first == last {
             true => self.block_in_words(last),
-            false => format!("{}: no line", blocks_in_words(first, last)),
+            false => format!("{}: no line", range_in_words("block", first, last)),
         };
         let x = if first == last { self.columns[self.case.thread_of_block(last)].0 } else { MARGIN };
         svg.rectangle([MARGIN, y, WIDTH, STRIP - GAP], "#e0e0e0", "");
@@ -282,12 +280,11 @@ impl Pages<'_> {
         let steps: Vec<&Step> = self.run.steps.iter().filter(|step| step.block == block).collect();
         let thread = self.case.thread_of_block(block);
         let all = self.case.chains[thread].len();
-        let lines = match steps.as_slice() {
-            [] => "no line".to_string(),
-            [one] => format!("line {} of {all}", one.line),
-            [first, .., last] => format!("lines {} to {} of {all}", first.line, last.line),
+        let lines = match (steps.first(), steps.last()) {
+            (Some(first), Some(last)) => format!("{} of {all}", range_in_words("line", first.line, last.line)),
+            _ => "no line".to_string(),
         };
-        format!("{}: thread {thread}, {lines}", blocks_in_words(block, block))
+        format!("block {block}: thread {thread}, {lines}")
     }
 
     /// Items with their values, each in its own place, so that they stand below each other on the page.
@@ -302,12 +299,8 @@ impl Pages<'_> {
 
     /// What is said at the end. Gives its height.
     fn ending(&self, svg: &mut Svg, y: u32) -> u32 {
-        let mut height = 4;
-        if let Some(words) = blocks_left_out(self.case, self.run) {
-            svg.text(MARGIN, y + height + TEXT.size, TEXT, &words);
-            height += TEXT.leading();
-        }
-        let lines = HEAD.lines(&verdict(self.case, self.run.ending), WIDTH);
-        height + svg.text_lines(MARGIN, y + height + HEAD.size, HEAD, &lines) + GAP
+        let (lines, notes) = (HEAD.lines(&verdict(self.case, self.run.ending), WIDTH), notes(self.case, self.run, WIDTH));
+        let height = GAP + svg.text_lines(MARGIN, y + GAP + HEAD.size, HEAD, &lines);
+        height + svg.text_lines(MARGIN, y + height + SMALL.size, SMALL, &notes) + GAP
     }
 }

@@ -1,7 +1,7 @@
 //! A short run as a picture: threads as lanes, blocks as columns, lines as cells, and under each block the items' values.
 
 use crate::case::Case;
-use crate::cells::{blocks, blocks_left_out, head, is_shared, values, Legend, Look, FAINT, HEAD, INDENT, PLAIN, SMALL, TITLE};
+use crate::cells::{blocks, head, is_shared, notes, values, Legend, Look, FAINT, HEAD, INDENT, PLAIN, SMALL, TITLE};
 use crate::run::{verdict, Run};
 use crate::svg::{Style, Svg, UNBROKEN};
 use crate::walk::Step;
@@ -25,6 +25,7 @@ struct Layout {
     title: Vec<String>,
     start: Vec<String>,
     ending: Vec<String>,
+    notes: Vec<String>,
     legend: Legend,
     /// The upper edges of the lanes, the values and the foot.
     top: u32,
@@ -35,8 +36,7 @@ struct Layout {
 pub fn draw(case: &Case, name: &str, run: &Run) -> Svg {
     let (columns, width) = columns(case, run);
     let layout = layout(case, name, run, columns, width - 2 * MARGIN);
-    let left_out = blocks_left_out(case, run);
-    let told = left_out.iter().len() as u32 * SMALL.leading() + layout.ending.len() as u32 * HEAD.leading();
+    let told = layout.ending.len() as u32 * HEAD.leading() + layout.notes.len() as u32 * SMALL.leading();
     let mut svg = Svg::new(width, layout.foot + told + 12 + layout.legend.height() + MARGIN);
     let y = MARGIN + TITLE.size + svg.text_lines(MARGIN, MARGIN + TITLE.size, TITLE, &layout.title);
     svg.text_lines(MARGIN, y, SMALL, &layout.start);
@@ -48,7 +48,7 @@ pub fn draw(case: &Case, name: &str, run: &Run) -> Svg {
             svg.text(x, y + SMALL.size, if *changed { Style { bold: true, ..SMALL } } else { FAINT }, words);
         }
     }
-    foot(&mut svg, &layout, left_out);
+    foot(&mut svg, &layout);
     svg
 }
 
@@ -81,9 +81,9 @@ fn layout(case: &Case, name: &str, run: &Run, columns: Vec<(u32, u32)>, width: u
     }
     let looks = run.steps.iter().map(|step| Look::of(case, step)).collect();
     let legend = Legend::of(case, looks, width);
-    let ending = HEAD.lines(&verdict(case, run.ending), width);
+    let (ending, notes) = (HEAD.lines(&verdict(case, run.ending), width), notes(case, run, width));
     let foot = y + case.items() as u32 * SMALL.leading() + 12;
-    Layout { columns, lanes, title, start, ending, legend, top, under: y, foot }
+    Layout { columns, lanes, title, start, ending, notes, legend, top, under: y, foot }
 }
 
 fn steps_of(run: &Run, block: usize) -> impl Iterator<Item = &Step> {
@@ -124,12 +124,9 @@ fn cell(svg: &mut Svg, case: &Case, step: &Step, place: [u32; 4]) {
     svg.text(x + INDENT, y + 27, look.style(SMALL), &step.event.words(&case.names));
 }
 
-fn foot(svg: &mut Svg, layout: &Layout, left_out: Option<String>) {
+fn foot(svg: &mut Svg, layout: &Layout) {
     let mut y = layout.foot;
-    if let Some(words) = left_out {
-        svg.text(MARGIN, y + SMALL.size, SMALL, &words);
-        y += SMALL.leading();
-    }
     y += svg.text_lines(MARGIN, y + HEAD.size, HEAD, &layout.ending);
+    y += svg.text_lines(MARGIN, y + SMALL.size, SMALL, &layout.notes);
     layout.legend.draw(svg, MARGIN, y + 12);
 }

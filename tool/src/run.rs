@@ -55,10 +55,11 @@ impl Run {
         }
     }
 
-    /// An assertion that is broken in a run that is cut off later.
-    fn broken_in_vain(&self) -> Option<u16> {
+    /// What is to be said of an assertion that is broken in a run that is cut off later.
+    pub fn broken_in_vain(&self) -> Option<String> {
         let broken = self.steps.iter().find(|step| matches!(step.event, Event::Broken(_)));
-        broken.filter(|_| matches!(self.ending, Ending::CutOff(_))).map(|step| step.record)
+        let record = broken.filter(|_| matches!(self.ending, Ending::CutOff(_)))?.record;
+        Some(format!("record {record} is broken too, but a run that is cut off is not legal: no violation"))
     }
 
     pub fn text(&self, case: &Case, schedule: &[u16]) -> String {
@@ -76,8 +77,8 @@ impl Run {
             }
         }
         text.push_str(&format!("end: {}\n{}\n", items_in_words(case, &self.items), verdict(case, self.ending)));
-        if let Some(record) = self.broken_in_vain() {
-            text.push_str(&format!("record {record} is broken too, but a run that is cut off is not legal: no violation\n"));
+        if let Some(words) = self.broken_in_vain() {
+            text.push_str(&format!("{words}\n"));
         }
         text
     }

@@ -62,9 +62,11 @@ impl Svg {
         self.text_element(x, y, style, "", &escaped(text));
     }
 
-    /// A text that ends at x.
+    /// A text that ends at x; nothing where there is none.
     pub fn text_to(&mut self, x: u32, y: u32, style: Style, text: &str) {
-        self.text_element(x, y, style, " text-anchor=\"end\"", &escaped(text));
+        if !text.is_empty() {
+            self.text_element(x, y, style, " text-anchor=\"end\"", &escaped(text));
+        }
     }
 
     /// A text in lines, as one element. Gives the height of the lines.
