@@ -48,11 +48,11 @@ record() {
 
 # loads NAME LENGTH LENGTH LENGTH LENGTH: a case in the scratch folder of two threads that load G0 in each line, and a schedule.
 loads() {
-    local number records=() first=$(($2 + $4)) all=$(($2 + $3 + $4 + $5))
+    local number records=() half=$(($2 + $4)) all=$(($2 + $3 + $4 + $5))
     for ((number = 1; number <= all; number++)); do
-        records+=("$((number == first || number == all ? 0 : number + 1))" 3 0 1 0 0 0 0)
+        records+=("$((number == half || number == all ? 0 : number + 1))" 3 0 1 0 0 0 0)
     done
-    fields 2 3 1 0 1 "$((first + 1))" 0 0 0 0 0 0 0 0 0 0 "${records[@]}" >"$scratch/$1.case"
+    fields 2 3 1 0 1 "$((half + 1))" 0 0 0 0 0 0 0 0 0 0 "${records[@]}" >"$scratch/$1.case"
     echo "${@:2}" >"$scratch/$1.schedule"
 }
 
@@ -187,16 +187,17 @@ long_runs() {
     in_order few 7
     result 'empty blocks between are told' grep -q '^blocks 4 to 7: no line$' "$scratch/texts"
     result 'empty blocks at the end are told' grep -q '^blocks 12 to 15 run no line$' "$scratch/texts"
-    local lengths form
-    while read -r lengths form; do
+    # Up to 40 lines that fit are drawn in lanes, which have no number of a page.
+    local lengths pages
+    while read -r lengths pages; do
         # shellcheck disable=SC2086 # several lengths
         loads loads ${lengths//,/ }
         run "$menduvo" picture "$scratch/loads.case" "$scratch/loads.schedule" -o -
-        result "blocks of $lengths lines: $form" eval '[ "$(grep -c ">page 1 of " "$scratch/out")" = '"$((${#form} == 7))"' ]'
+        result "blocks of $lengths lines" test "$status, $(grep -c '>page . of ' "$scratch/out")" = "0, $pages"
     done <<'RUNS'
-10,10,10,10 lanes
-10,10,11,10 columns
-20,20,0,0 columns
+10,10,10,10 0
+10,10,11,10 2
+20,20,0,0 2
 RUNS
 }
 
