@@ -165,7 +165,7 @@ impl Legend {
             rows.last_mut().into_iter().for_each(|row| row.push((x, look)));
             x += needed;
         }
-        let values = "G0 = 1 under a block: an item's value at its end; bold: the block changed it";
+        let values = "under each block: the items' values at its end, bold where the block changed them";
         let values = if case.items() > 0 { SMALL.lines(values, width) } else { Vec::new() };
         Legend { rows, values }
     }
