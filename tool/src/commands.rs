@@ -2,18 +2,20 @@
 
 use crate::arguments::Call;
 use crate::calls::{listing, Loaded};
-use crate::failure::{Failure, Status};
+use crate::failure::{note, Failure, Status};
 use crate::input::Source;
 use crate::name::shown;
 use crate::output::Output;
+use crate::picture::{numbered, Picture};
 use crate::run::Run;
 use crate::solve::Asserts;
 use crate::words::{all, numbers_in_lines};
 use crate::{
-    completion, demands, demo, each, file, help, keep, least, make, manual, picture, report, run, said::Said, several, show,
-    step, told, verified,
+    completion, demands, demo, each, file, help, keep, least, make, manual, report, run, said::Said, several, show, step, told,
+    verified,
 };
 use std::ffi::OsStr;
+use std::path::Path;
 
 pub fn perform(call: Call, output: &mut Output) -> Result<Status, Failure> {
     match call {
@@ -139,11 +141,20 @@ fn draw(case: &Source, schedule: &Source, file: &OsStr, force: bool, output: &mu
     let loaded = Loaded::from(case)?;
     let numbers = loaded.schedule(schedule)?;
     let run = run::replay(&loaded, &schedule.name(), &numbers)?;
-    let svg = picture::svg(&loaded.case, &shown(&loaded.stem), &run);
+    let picture = Picture::of(&loaded.case, &shown(&loaded.stem), &run);
     if file == "-" {
-        return output.say(&svg).map(|()| Status::Done);
+        return output.say(&picture.one_file()).map(|()| Status::Done);
     }
-    keep::write_output(file, svg.as_bytes(), force, &[case, schedule])?;
-    output.say(&format!("{}: {}\n", shown(file), run::verdict(&loaded.case, run.ending)))?;
-    Ok(Status::Done)
+    let pages = picture.files(file);
+    keep::write_outputs(&pages, force, &[case, schedule])?;
+    let stale = if pages.len() == 1 { vec![numbered(file, 1)] } else { vec![file.into(), numbered(file, pages.len() + 1)] };
+    for other in stale.iter().filter(|other| Path::new(other).exists()) {
+        note(&format!("{} is there too, and is no page of this picture", shown(other)));
+    }
+    let verdict = run::verdict(&loaded.case, run.ending);
+    let told = pages.iter().zip(1..).map(|((name, _), page)| match pages.len() {
+        1 => format!("{}: {verdict}\n", shown(name)),
+        pages => format!("{}: page {page} of {pages}: {verdict}\n", shown(name)),
+    });
+    output.say(&told.collect::<String>()).map(|()| Status::Done)
 }

@@ -5,11 +5,13 @@ use crate::calls::{listing, Loaded};
 use crate::failure::Failure;
 use crate::manifest::{Entry, Made, Manifest, Question};
 use crate::meaning;
+use crate::picture::Picture;
 use crate::solve::{Solved, Verdict};
 use crate::solver::{Answer, Asked};
 use crate::source::{self, Draft};
 use crate::words::enumeration;
-use crate::{filed, picture, readme, sha256, show, solver, told};
+use crate::{filed, readme, sha256, show, solver, told};
+use std::ffi::OsStr;
 
 /// The names of the files that were given. The texts name the case by it, so that they do not depend on where it was read.
 pub const CASE: &str = "case.case";
@@ -17,6 +19,8 @@ pub const CASE_SOURCE: &str = "case.source";
 pub const SOURCE: &str = "source.txt";
 /// The first question, as text for solvers.
 pub const CONSTRAINTS: &str = "constraints.smt2";
+/// The run's picture; one of several pages has a file for each, with its number.
+const PICTURE: &str = "picture.svg";
 
 /// A filed case, with its names where its filed source makes it.
 pub fn draft(case: &[u8], source: &[u8]) -> Draft {
@@ -117,7 +121,9 @@ impl Folder {
         self.add("assignment.txt", about, filed::assignment(loaded, assignment));
         self.add("schedule.txt", "the schedule that the assignment stands for", filed::schedule(loaded, schedule));
         self.add("run.txt", "the run of that schedule, line by line", found.run.text(&loaded.case, schedule));
-        self.add("picture.svg", "that run, drawn", picture::svg(&loaded.case, "case", &found.run));
+        for (name, svg) in Picture::of(&loaded.case, "case", &found.run).files(OsStr::new(PICTURE)) {
+            self.add(&name.to_string_lossy(), "that run, drawn", svg);
+        }
     }
 
     fn give(&mut self, name: &str, about: &str, bytes: Vec<u8>) {

@@ -210,8 +210,20 @@ pub const PAGES: &[Page] = &[
         name: "picture",
         usage: "picture CASE SCHEDULE -o FILE.svg",
         summary: "draw the run of a schedule",
-        options: &[Choice { name: "-o", value: "FILE.svg", does: "the file; - is standard output" }, SWITCHES, FORCE],
-        more: "Threads are lanes, blocks are columns, lines are cells; a broken assertion is red.\n\
+        options: &[
+            Choice {
+                name: "-o",
+                value: "FILE.svg",
+                does: "the file, or FILE-1.svg, FILE-2.svg, .. where the picture has several pages;\n- is standard output, \
+                       and gets all pages in one picture, one below the other",
+            },
+            SWITCHES,
+            FORCE,
+        ],
+        more: "A run of at most 40 lines is drawn on one page where it fits: threads are lanes, blocks are columns, lines\n\
+               are cells. Any other is drawn downwards: threads are columns, and three or more lines after one another that\n\
+               touch no shared item are folded into one cell, unless they break, end the run or are inputs. Under each block\n\
+               stand the items' values at its end. Empty blocks at the end are left out. Pages fit A4, and cut no cell.\n\
                A solver's model in the place of the schedule is decoded first.\n\
                Exit status 0 where the picture is written, whatever the run comes to.\n",
     },

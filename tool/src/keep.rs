@@ -183,6 +183,19 @@ pub fn write_output(file: &OsStr, bytes: &[u8], force: bool, inputs: &[&Source])
     written.map_err(|error| Failure::of_file(file, &error))
 }
 
+/// Writes several files, or none of them: where one fails, those before it go again, but for such as were to be replaced, since
+/// what they replaced is gone.
+pub fn write_outputs(files: &[(OsString, String)], force: bool, inputs: &[&Source]) -> Result<(), Failure> {
+    files.iter().try_for_each(|(file, _)| may_write(file, force, inputs))?;
+    for (number, (file, text)) in files.iter().enumerate() {
+        write_output(file, text.as_bytes(), force, inputs).inspect_err(|_| {
+            let written = if force { &[] } else { &files[..number] };
+            written.iter().for_each(|(file, _)| drop(fs::remove_file(file)));
+        })?;
+    }
+    Ok(())
+}
+
 /// Fails where a file is there, and is not to be replaced: an input never is, and another only where that is asked for.
 pub fn may_write(file: &OsStr, force: bool, inputs: &[&Source]) -> Result<(), Failure> {
     let path = Path::new(file);

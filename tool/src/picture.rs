@@ -1,131 +1,65 @@
-//! A run as a picture: threads as lanes, blocks as columns, lines as cells. What is red is also framed and named, so that it is
-//! seen in print without colour.
+//! A run as a picture. Where it has few lines and fits on a page of A4, threads are lanes and time runs to the right; otherwise
+//! threads are columns and time runs down, over as many pages as it needs.
 
-use crate::case::{Case, Kind};
+use crate::case::Case;
 use crate::run::{verdict, Run};
-use crate::svg::{Style, Svg};
-use crate::walk::{Event, Step};
-use crate::words::items_in_words;
+use crate::svg::Svg;
+use crate::{columns, lanes};
+use std::ffi::{OsStr, OsString};
+use std::path::Path;
 
-const MARGIN: u32 = 16;
-const LANE_HEAD: u32 = 84;
-const TOP: u32 = 92;
-const CELL: u32 = 40;
-const GAP: u32 = 6;
-/// The width of a column that holds no line.
-const NARROW: u32 = 74;
-/// The width of a character at size 12.
-const CHARACTER: u32 = 8;
+#[cfg(test)]
+mod tests;
 
-const PLAIN: Style = Style { size: 12, colour: "black", bold: false };
-const SMALL: Style = Style { size: 11, colour: "#333333", bold: false };
-const FAINT: Style = Style { size: 11, colour: "#666666", bold: false };
-const HEAD: Style = Style { size: 13, colour: "black", bold: true };
-const ON_RED: Style = Style { size: 12, colour: "white", bold: true };
+/// The most lines of a run that is drawn in lanes.
+const MOST_IN_LANES: usize = 40;
+/// How far lanes are scaled down to fit on a page, in thousandths: their smallest text then has 7 points.
+const SMALLEST_SCALE: u32 = 900;
 
-/// Where the lanes and columns stand.
-struct Layout {
-    /// The left edge and width of each block's column.
-    columns: Vec<(u32, u32)>,
-    /// The upper edge and height of each thread's lane.
-    lanes: Vec<(u32, u32)>,
-    width: u32,
-    height: u32,
+pub struct Picture {
+    title: String,
+    pages: Vec<Svg>,
 }
 
-/// The picture of a run, as an SVG file.
-pub fn svg(case: &Case, name: &str, run: &Run) -> String {
-    let layout = layout(case, name, run);
-    let mut svg = Svg::new();
-    svg.text(MARGIN, 30, Style { size: 16, ..HEAD }, name);
-    svg.text(MARGIN, 52, SMALL, &format!("start: {}", items_in_words(case, &case.items_at_start())));
-    lanes(&mut svg, &layout);
-    for (block, &(x, width)) in layout.columns.iter().enumerate() {
-        svg.text(x, TOP - 10, PLAIN, &format!("block {block}"));
-        let (y, _) = layout.lanes[case.thread_of_block(block)];
-        let steps: Vec<&Step> = run.steps.iter().filter(|step| step.block == block).collect();
-        if steps.is_empty() {
-            let why = if run.ended_before(block) { "not run" } else { "no line" };
-            svg.text(x, y + GAP + 16, FAINT, why);
-        }
-        for (step, row) in steps.into_iter().zip(0..) {
-            cell(&mut svg, case, step, [x, y + GAP + row * CELL, width, CELL - 4]);
+impl Picture {
+    pub fn of(case: &Case, name: &str, run: &Run) -> Picture {
+        let lanes = (run.steps.len() <= MOST_IN_LANES).then(|| lanes::draw(case, name, run));
+        let lanes = lanes.filter(|lanes| lanes.scale_on_a_page() >= SMALLEST_SCALE);
+        let pages = lanes.map_or_else(|| columns::draw(case, name, run), |lanes| vec![lanes]);
+        Picture { title: format!("{name}: {}", verdict(case, run.ending)), pages }
+    }
+
+    /// The pages with the names of their files: one page has this name, several are numbered.
+    pub fn files(&self, name: &OsStr) -> Vec<(OsString, String)> {
+        let name_of = |page: usize| if self.pages.len() == 1 { name.to_os_string() } else { numbered(name, page) };
+        let title_of = |page: usize| match self.pages.len() {
+            1 => self.title.clone(),
+            pages => format!("{}, page {page} of {pages}", self.title),
+        };
+        self.pages
+            .iter()
+            .zip(1..)
+            .map(|(svg, page)| (name_of(page), svg.file(&title_of(page), svg.scale_on_a_page())))
+            .collect()
+    }
+
+    /// All pages in one file, one below the other.
+    pub fn one_file(&self) -> String {
+        match self.pages.as_slice() {
+            [page] => page.file(&self.title, page.scale_on_a_page()),
+            pages => Svg::stacked(pages).file(&self.title, 1000),
         }
     }
-    foot(&mut svg, case, &layout, run);
-    svg.file(layout.width, layout.height, &format!("{name}: {}", verdict(case, run.ending)))
 }
 
-fn layout(case: &Case, name: &str, run: &Run) -> Layout {
-    let steps_of = |block: usize| run.steps.iter().filter(move |step| step.block == block);
-    let mut x = MARGIN + LANE_HEAD;
-    let mut columns = Vec::new();
-    for block in 0..=case.switches {
-        let width = steps_of(block).map(|step| characters(&head(case, step)).max(characters(&result(case, step)))).max();
-        let width = width.map_or(NARROW, |width| width.max(NARROW));
-        columns.push((x, width));
-        x += width + 2 * GAP;
+/// `run.svg` as `run-2.svg`.
+pub fn numbered(name: &OsStr, page: usize) -> OsString {
+    let path = Path::new(name);
+    let mut file = path.file_stem().unwrap_or_default().to_os_string();
+    file.push(format!("-{page}"));
+    if let Some(extension) = path.extension() {
+        file.push(".");
+        file.push(extension);
     }
-    let mut y = TOP;
-    let mut lanes = Vec::new();
-    for thread in 0..case.threads {
-        let rows = case.blocks_of(thread).into_iter().map(|block| steps_of(block).count() as u32).max().unwrap_or(0);
-        let height = rows.max(1) * CELL + 2 * GAP;
-        lanes.push((y, height));
-        y += height + GAP;
-    }
-    let (start, end) = (items_in_words(case, &case.items_at_start()), items_in_words(case, &run.items));
-    let texts = [verdict(case, run.ending), start, end, LEGEND.to_string()];
-    // The title is larger than the rest.
-    let widest = texts.iter().map(|text| characters(text)).max().unwrap_or(0).max(characters(name) * 5 / 4);
-    Layout { columns, lanes, width: x.max(2 * MARGIN + widest) + MARGIN, height: y + 74 }
-}
-
-fn characters(text: &str) -> u32 {
-    text.chars().count() as u32 * CHARACTER + 16
-}
-
-fn lanes(svg: &mut Svg, layout: &Layout) {
-    for (thread, &(y, height)) in layout.lanes.iter().enumerate() {
-        svg.rectangle([MARGIN, y, layout.width - 2 * MARGIN, height], "#f4f4f4", "stroke=\"#999999\"");
-        svg.text(MARGIN + 8, y + GAP + 16, HEAD, &format!("thread {thread}"));
-    }
-    let bottom = layout.lanes.last().map_or(TOP, |&(y, height)| y + height);
-    for &(x, _) in &layout.columns {
-        svg.line((x - GAP, TOP), (x - GAP, bottom), "stroke=\"#bbbbbb\" stroke-dasharray=\"2 3\"");
-    }
-}
-
-/// The line's record and what it does.
-fn head(case: &Case, step: &Step) -> String {
-    format!("{}: {}", step.record, case.record(step.record).words(&case.names))
-}
-
-/// What came of the line.
-fn result(case: &Case, step: &Step) -> String {
-    step.event.words(&case.names)
-}
-
-fn cell(svg: &mut Svg, case: &Case, step: &Step, place: [u32; 4]) {
-    let shared = matches!(case.record(step.record).kind, Kind::Store | Kind::Load | Kind::Lock | Kind::Unlock);
-    let (fill, more, upper, lower) = match step.event {
-        Event::Broken(_) => ("#c00000", "stroke=\"black\" stroke-width=\"3\"", ON_RED, ON_RED),
-        Event::CutOff(_) => ("white", "stroke=\"black\" stroke-width=\"3\" stroke-dasharray=\"6 3\"", HEAD, SMALL),
-        Event::Skipped(_) => ("white", "stroke=\"#999999\" stroke-dasharray=\"3 3\"", FAINT, FAINT),
-        _ if shared => ("#dfe8f5", "stroke=\"#555555\"", PLAIN, SMALL),
-        _ => ("white", "stroke=\"#555555\"", PLAIN, SMALL),
-    };
-    let [x, y, ..] = place;
-    svg.rectangle(place, fill, more);
-    svg.text(x + 6, y + 15, upper, &head(case, step));
-    svg.text(x + 6, y + 30, lower, &result(case, step));
-}
-
-const LEGEND: &str = "A cell is a line: its record, what it does, what came of it. Shaded: it reads or writes a shared item.";
-
-fn foot(svg: &mut Svg, case: &Case, layout: &Layout, run: &Run) {
-    let bottom = layout.height - 74;
-    svg.text(MARGIN, bottom + 20, SMALL, &format!("end: {}", items_in_words(case, &run.items)));
-    svg.text(MARGIN, bottom + 40, HEAD, &verdict(case, run.ending));
-    svg.text(MARGIN, bottom + 60, FAINT, LEGEND);
+    path.with_file_name(file).into_os_string()
 }

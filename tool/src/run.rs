@@ -61,9 +61,10 @@ impl Run {
         }
     }
 
-    /// An assertion that is broken in a run that is cut off later.
-    fn broken_in_vain(&self) -> Option<u16> {
-        first_broken(&self.steps).filter(|_| matches!(self.ending, Ending::CutOff(_)))
+    /// What is to be said of an assertion that is broken in a run that is cut off later.
+    pub fn broken_in_vain(&self) -> Option<String> {
+        let record = first_broken(&self.steps).filter(|_| matches!(self.ending, Ending::CutOff(_)))?;
+        Some(format!("record {record} is broken too, but a run that is cut off is not legal: no violation"))
     }
 
     pub fn text(&self, case: &Case, schedule: &[u16]) -> String {
@@ -101,10 +102,8 @@ impl Run {
 
     /// What the run comes to, in lines.
     pub fn conclusion(&self, case: &Case) -> String {
-        let vain = self
-            .broken_in_vain()
-            .map(|record| format!("record {record} is broken too, but a run that is cut off is not legal: no violation\n"));
-        format!("{}\n{}", verdict(case, self.ending), vain.unwrap_or_default())
+        let lines = std::iter::once(verdict(case, self.ending)).chain(self.broken_in_vain());
+        lines.map(|line| line + "\n").collect()
     }
 
     /// Whether the run was cut off in an earlier block.
