@@ -58,6 +58,12 @@ switches() {
     says 'n = 16 is refused' 2 'refusal 3, place 0' "$menduvo" show "$broken" --switches 16
     says 'n = 16 is refused by solve' 2 'refusal 3, place 0' "$menduvo" solve "$broken" --switches 16
     says 'n = 65535 is refused' 2 'n 65535' "$menduvo" list "$broken" --switches 65535
+    local source=cases/interlock-broken.source
+    says 'a source has its names at another n' 0 'when other == 0: upper = 1' "$menduvo" list "$source" --words --switches 2
+    says 'a chosen n is not where a source is wrong' 2 "$source: refusal 3, place 0" "$menduvo" show "$source" --switches 16
+    says 'list: its object has the n' 0 '"switches":2,' "$menduvo" list "$broken" --switches 2 --json
+    says 'check: its object has the n' 0 '"switches":3,' "$menduvo" check "$broken" "${broken%.case}.assignment" --json
+    says 'replay: its object has the n' 1 '"switches":3,' "$menduvo" replay "$broken" "${broken%.case}.schedule" --json
     with_bound "$broken" 16
     says 'a file with n = 16 is taken with n = 3' 0 '2 threads, 3 switches' "$menduvo" show "$scratch/bound.case" --switches 3
     with_bound "$broken" 300

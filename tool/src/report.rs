@@ -12,16 +12,21 @@ use crate::walk::Step;
 use crate::words::item_name;
 
 /// An object: the fields that all have, and then its own.
-fn object(command: &str, case: &str, status: Status, answer: &str, own: Vec<(&'static str, Json)>) -> Json {
-    let status = status.number().into();
-    let all = [("command", command.into()), ("case", case.into()), ("status", status), ("answer", answer.into())];
+fn object(command: &str, loaded: &Loaded, status: Status, answer: &str, own: Vec<(&'static str, Json)>) -> Json {
+    let all = [
+        ("command", command.into()),
+        ("case", loaded.name.as_str().into()),
+        ("status", status.number().into()),
+        ("answer", answer.into()),
+        ("switches", loaded.case.switches.into()),
+    ];
     Json::Object(all.into_iter().chain(own).collect())
 }
 
 /// An assignment that meets all constraints.
 pub fn meets(loaded: &Loaded, assignment: &str) -> Json {
     let own = vec![("assignment", assignment.into()), ("constraints", loaded.table.rows.len().into())];
-    object("check", &loaded.name, Status::Done, "meets", own)
+    object("check", loaded, Status::Done, "meets", own)
 }
 
 /// An assignment that fails this constraint first, with what is to be said of it.
@@ -34,7 +39,7 @@ pub fn fails(loaded: &Loaded, assignment: &str, constraint: u16, words: &[String
         ("row", row.map_or(Json::Null, numbers)),
         ("words", list(words.iter().map(String::as_str))),
     ];
-    object("check", &loaded.name, Status::Found, "fails", own)
+    object("check", loaded, Status::Found, "fails", own)
 }
 
 /// A run; with `values` each of its steps has all items after the line.
@@ -51,7 +56,7 @@ pub fn replayed(loaded: &Loaded, schedule: &[u16], run: &Run, values: bool) -> J
         ("items", items(case, &run.items)),
         ("steps", list(run.steps.iter().map(|step| self::step(case, step, values)))),
     ];
-    object("replay", &loaded.name, run.status(), answer, own)
+    object("replay", loaded, run.status(), answer, own)
 }
 
 fn step(case: &Case, step: &Step, values: bool) -> Json {
@@ -80,14 +85,13 @@ pub fn listed(loaded: &Loaded, words: bool) -> Json {
         ("rows", list(loaded.table.rows.iter().map(numbers))),
     ];
     own.extend(words.then(|| ("words", list(in_words))));
-    object("list", &loaded.name, Status::Done, "listed", own)
+    object("list", loaded, Status::Done, "listed", own)
 }
 
 pub fn shown(loaded: &Loaded) -> Json {
     let case = &loaded.case;
     let own = vec![
         ("threads", list((0..case.threads).map(|thread| self::thread(loaded, thread)))),
-        ("switches", case.switches.into()),
         ("globals", case.globals.into()),
         ("mutexes", case.mutexes.into()),
         ("records", case.records.len().into()),
@@ -95,7 +99,7 @@ pub fn shown(loaded: &Loaded) -> Json {
         ("variables", loaded.table.variables.into()),
         ("start", items(case, &case.items_at_start())),
     ];
-    object("show", &loaded.name, Status::Done, "shown", own)
+    object("show", loaded, Status::Done, "shown", own)
 }
 
 fn thread(loaded: &Loaded, thread: usize) -> Json {
