@@ -122,7 +122,7 @@ completion() {
     local command all
     all=$(commands | paste -sd ' ')
     offers 'commands' "$all --help --version" menduvo ''
-    offers 'a command that was begun' 'solve' menduvo so
+    offers 'a command that was begun' 'solve' menduvo sol
     for command in $all; do
         offers "options of $command" "$(options "$command" | paste -sd ' ' | sed 's/..*/& /')--help" menduvo "$command" a -
     done

@@ -47,7 +47,7 @@ plant() {
     rm -rf "$tree" "$scratch"/{wait,half,go}
     mkdir -p "$tree"/{bin,crates,tool,bindings,cases}
     cp bin/menduvo "$tree/bin/"
-    touch "$tree"/{crates.txt,tool/Cargo.toml,bindings/lib.rs} "$tree"/cases/lost-update.{case,assignment}
+    touch "$tree"/{crates.txt,tool/Cargo.toml,bindings/lib.rs} "$tree"/cases/lost-update.{source,assignment}
     echo red >"$tree/tool/main.rs"
     echo round >"$tree/crates/lib.rt"
     : >"$scratch/calls"
