@@ -26,6 +26,12 @@ calling() {
     says 'the manual of a command' 3 "'list' is too much" "$menduvo" help --man list
     says 'an operand is missing' 3 'ASSIGNMENT is missing' "$menduvo" check cases/case-a.case
     says 'an operand too many' 3 "'x' is too much" "$menduvo" decode cases/case-a.case cases/case-a.assignment x
+    says 'numbers in the place of a file' 3 "'1' is too much: numbers come from one file" "$menduvo" replay cases/case-a.case 2 1 2
+    says 'a usage says where more is said' 3 "'menduvo replay --help' says more" "$menduvo" replay cases/case-a.case
+    says 'an assignment for a schedule' 2 "an assignment has so many; 'menduvo decode' makes a schedule" \
+        "$menduvo" replay cases/case-a.case cases/case-a.assignment
+    says 'a file for a filed folder' 3 "a folder that 'menduvo file' made has one" "$menduvo" verify README.md
+    says 'a folder that is not filed' 3 "a folder that 'menduvo file' made has one" "$menduvo" verify cases
     says 'an option twice' 3 '--solver is given twice' "$menduvo" solve cases/case-a.case --solver z3 --solver=z3
     says 'a value for an option that has none' 3 '--json takes no value' "$menduvo" list cases/case-a.case --json=yes
     says 'no seconds' 3 '--timeout needs seconds' "$menduvo" solve cases/case-a.case --timeout -1
@@ -33,7 +39,7 @@ calling() {
     says 'two ways to name a solver' 3 'exclude each other' "$menduvo" solve cases --solver z3 --solver-command z3
     says 'a solver without a name' 3 'names no program' "$menduvo" solve cases --solver-command ' '
     says 'a value is missing' 3 '--solver needs a value' "$menduvo" solve cases/case-a.case --solver
-    says 'an unknown solver' 3 "'yices' is not a solver" "$menduvo" solve cases/case-a.case --solver yices
+    says 'an unknown solver' 3 "'yices' is not a solver that this command knows; --solver-command takes any other" "$menduvo" solve cases/case-a.case --solver yices
     says 'picture without -o' 3 '-o FILE.svg is missing' "$menduvo" picture cases/case-a.case cases/case-a.schedule
     says 'standard input twice' 3 'only one input' "$menduvo" check - -
     says 'a missing file' 3 'none.case: ' "$menduvo" list "$scratch/none.case"

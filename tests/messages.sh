@@ -380,8 +380,8 @@ no_sources() {
     no_source 'one as long as a case' 'refusal 2, place 0' 'switches 3\nthread #\x01............'
     result 'one as long as a case: that it is none' grep -qF "$told: line 2, column 9: " <<<"$out"
     no_source 'one that is longer than a case' "$told: line 4, column 1: the byte ff" "$long\xff"
-    no_source 'nothing' 'it has 0 bytes' ''
-    result 'nothing: that alone' test "${out##*bytes}" = ''
+    no_source 'nothing' 'it is empty' ''
+    result 'nothing: that alone' test "${out##*it is empty}" = ''
     says 'a case' 2 "cases/case-a.case: a case already; 'menduvo source' prints" "$menduvo" make cases/case-a.case -o -
     local filled='printf "switches 3\nthread\nthread\n#"; head -c "$1" /dev/zero | tr "\\0" "#"'
     says 'the longest source' 0 'switches 3' bash -c "{ $filled; } | $menduvo source -" - "$((1048576 - 26))"
@@ -397,12 +397,12 @@ in_thread() {
 
 # What is advised must be right in the thread where it is advised.
 advice_in_sources() {
-    local alone="'up' is a global, and is loaded by a line of its own: old = up"
+    local alone="'up' is a global, and is loaded by a line of its own: L1 = up"
     in_thread 'a global in a sum' "line 5, column 8: $alone" 'L1=1 + up'
     in_thread 'a sum with a global' "line 5, column 7: $alone" 'L1=up + 1'
     in_thread 'a global and another' "line 5, column 6: $alone" 'up = up'
     in_thread 'a word after a global' "line 5, column 7: '1' cannot stand here" 'L1=up 1'
-    in_thread 'if' "line 5, column 1: 'if' is kept for a later form of threads; a guard is 'when old != 0:'" 'if L1: L1 = 1'
+    in_thread 'if' "line 5, column 1: 'if' is a word that is kept for later; a guard is 'when old != 0:'" 'if L1: L1 = 1'
     in_thread 'record 0' 'line 5, column 1: this line would be record 0, but records go from 1 to 1, the number of lines' \
         'record 0: L1 = 1'
     in_thread 'a record over R' 'line 6, column 1: this line would be record 3, but records go from 1 to 2, the number of lines' \

@@ -186,7 +186,7 @@ long_runs() {
     long few 4 64 15 60 64 64 60 0 0 0 0 4 0 0 4 0 0 0 0
     in_order few 7
     result 'empty blocks between are told' grep -q '^blocks 4 to 7: no line$' "$scratch/texts"
-    result 'empty blocks at the end are told' grep -q '^blocks 12 to 15 run no line$' "$scratch/texts"
+    result 'empty blocks at the end are told' grep -q '^blocks 12 to 15 run no line' "$scratch/texts"
     # Up to 40 lines that fit are drawn in lanes, which have no number of a page.
     local lengths pages
     while read -r lengths pages; do

@@ -297,7 +297,7 @@ folders() {
     says 'a refused case' 2 '1 refused' "$menduvo" solve "$scratch/folder"
     says 'cases and folders' 1 '4 cases: 1 violated' "$menduvo" solve cases/case-a.case "$scratch/folder" cases/lock-order.case
     mkdir "$scratch/hollow"
-    says 'a folder without cases' 3 'no file in it ends in .case' "$menduvo" solve "$scratch/hollow"
+    says 'a folder without cases' 3 'no file in it ends in .source or .case' "$menduvo" solve "$scratch/hollow"
     # One that hangs among others.
     fake z3 'case $(cat) in *"18 constraints"*) exec sleep 600 ;; *) echo unsat ;; esac'
     mkdir "$scratch/busy" && cp cases/{case-a,interlock,lock-order}.case "$scratch/busy"

@@ -98,7 +98,7 @@ errors() {
     at 2:1 "'lock' cannot stand here" 'global, mutex, thread' 'switches 2' 'lock M0'
     at 4:1 "'global' cannot stand here" 'mutex, thread' "${head[@]}" 'global G1 = 0'
     at 2:10 'the line ends too soon' = 'switches 2' 'global G0'
-    at 2:8 "'G1' is not what comes next, which is G0" "G0, or $name" 'switches 2' 'global G1 = 0'
+    at 2:8 "'G1' is no name for what is G0 here" "G0, or $name" 'switches 2' 'global G1 = 0'
     at 2:8 "'when' is a word of the language" "G0, or $name" 'switches 2' 'global when = 0'
     at 2:8 "'while' is a word of the language" "G0, or $name" 'switches 2' 'global while = 0'
     at 2:8 "'9th' cannot stand here" "G0, or $name" 'switches 2' 'global 9th = 0'
@@ -115,7 +115,7 @@ errors() {
     at 6:1 "'local' cannot stand after a thread's first line" "$actions, when, record, thread" "${head[@]}" thread 'lock M0' \
         'local x = L0'
     at 5:1 "'mutex' cannot stand here" "local, $actions, when, record, thread" "${head[@]}" thread 'mutex M1'
-    at 5:1 "'if' is kept for a later form of threads; a guard is 'when L0 != 0:'" "local, $actions, when, record, thread" \
+    at 5:1 "'if' is a word that is kept for later; a guard is 'when L0 != 0:'" "local, $actions, when, record, thread" \
         "${head[@]}" thread 'if L0 == 0'
     at 5:6 "'G0' cannot stand here" 'a mutex (M0)' "${head[@]}" thread 'lock G0'
     at 5:6 "there is no 'M1' here" 'a mutex (M0)' "${head[@]}" thread 'lock M1'
@@ -124,15 +124,26 @@ errors() {
     at 5:6 "there is no 'G1' here" "$local_or_global, $number, input" "${head[@]}" thread 'L0 = G1'
     at 5:9 "'G0' is a global, and is loaded by a line of its own: L0 = G0" 'the end of the line' "${head[@]}" thread 'L0 = G0 + 1'
     at 5:14 "'L3' cannot stand here" 'the end of the line' "${head[@]}" thread 'L0 = L1 + L2 L3'
-    at 5:9 "'>' cannot stand here" '+, -, &, |, ==, <, the end of the line' "${head[@]}" thread 'L0 = L1 > 2'
+    at 5:9 "'>' cannot stand here: a > b is b < a" '+, -, &, |, ==, <, the end of the line' "${head[@]}" thread 'L0 = L1 > 2'
     at 5:6 "'G0' is a global, and is loaded by a line of its own: L0 = G0" "a local (L0 to L15), $number" "${head[@]}" thread \
         'G0 = G0'
     at 5:8 "'M0' is a mutex, and has no value in a line" "a local (L0 to L15), $number" "${head[@]}" thread 'assert M0'
     at 5:12 'a line has one number, and 5 is it' 'a local (L0 to L15), 5' "${head[@]}" thread 'assert 5 + 6'
     at 5:8 "'input' cannot stand here" "a local (L0 to L15), $number" "${head[@]}" thread 'assert input'
-    at 5:9 "'<' cannot stand here" '!=, ==' "${head[@]}" thread 'when L0 < 0: lock M0'
-    at 5:12 "'1' cannot stand here" 0 "${head[@]}" thread 'when L0 != 1: lock M0'
+    at 5:9 "'<' cannot stand here: a guard compares a local with 0" '!=, ==' "${head[@]}" thread 'when L0 < 0: lock M0'
+    at 5:12 "'1' cannot stand here: a guard compares a local with 0" 0 "${head[@]}" thread 'when L0 != 1: lock M0'
     at 5:14 "'lock' cannot stand here" : "${head[@]}" thread 'when L0 != 0 lock M0'
+    at 5:9 "'<=' cannot stand here: a <= b is that b < a is 0" '+, -, &, |, ==, <, the end of the line' "${head[@]}" thread \
+        'L0 = L1 <= 2'
+    at 5:13 "';' cannot stand here: nothing ends a line but its end" 'the end of the line' "${head[@]}" thread 'L0 = L1 + L2;'
+    at 1:1 "'//' cannot stand here: a comment begins with #" switches '// n' 'switches 2'
+    at 1:1 "'2' cannot stand here: a list of numbers is no case" switches '2 1 2'
+    at 5:1 "'while' is a word that is kept for later; lines that are run again are written again" \
+        "local, $actions, when, record, thread" "${head[@]}" thread 'while L0 == 0'
+    at 5:6 "'G0' is a global, and is loaded by a line of its own: L0 = G0" 'a local (L0 to L15)' "${head[@]}" thread \
+        'when G0 != 0: lock M0'
+    at 6:8 "'G0' is a global, and is loaded by a line of its own: L1 = G0" 'a local (x, others of L0 to L15), '"$number" \
+        "${head[@]}" thread 'local x = L0' 'assume G0 < x'
     at 5:15 "'record' cannot stand here" "$actions" "${head[@]}" thread 'when L0 != 0: record 1: lock M0'
     at 5:11 "'record' cannot stand here" "$actions, when" "${head[@]}" thread 'record 1: record 1: lock M0'
     at 6:1 "'L0' is called x here" "local, a local (x, others of L0 to L15), a global (G0), lock, unlock, assert, assume, when, record, thread" \
@@ -172,7 +183,7 @@ names() {
     says 'solve has names' 1 'assert both == 0) is broken' "$menduvo" solve cases/interlock-broken.source
     says 'an assert is named' 0 'assert expected == after): reached' "$menduvo" solve cases/lock-order.source
     run "$menduvo" picture cases/lost-update.source cases/lost-update.schedule -o -
-    result 'a picture has names' eval '[[ $out = *"position = before + amount"* && $out = *"end: position = 10, done = 1"* ]]'
+    result 'a picture has names' eval '[[ $out = *"position = before + amount"* && $out = *">position = 10<"* && $out = *">done = 1<"* ]]'
     run "$menduvo" list cases/interlock.source
     result 'the list is the same' cmp -s "$scratch/out" <("$menduvo" list cases/interlock.case)
     says 'a failing constraint has names' 1 'needed: value 0 (lower = 0 at the start); found: 9' \

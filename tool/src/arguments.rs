@@ -60,6 +60,10 @@ pub fn parse(arguments: &[OsString]) -> Result<Call, Failure> {
         Some(mut parts) => {
             let call = call(&mut parts)?;
             match parts.operands.next() {
+                Some(extra) if extra.path().as_bytes().iter().all(u8::is_ascii_digit) => Err(usage(
+                    page,
+                    &format!("'{}' is too much: numbers come from one file, or from standard input by '-'", extra.name()),
+                )),
                 Some(extra) => Err(usage(page, &format!("'{}' is too much", extra.name()))),
                 None => Ok(call),
             }
@@ -159,7 +163,7 @@ fn help(parts: &mut Parts) -> Result<Call, Failure> {
 }
 
 /// Why nothing is kept where one assert is asked about.
-const OF_ANOTHER: &str = "an assignment of the case with one assert alone may be none of the case";
+const OF_ANOTHER: &str = "the other asserts are made 1, so an assignment that is found may fail on the case itself";
 
 /// Options of `solve` that exclude each other, and why.
 const EXCLUDED: [(&str, &str, &str); 6] = [
@@ -294,7 +298,8 @@ impl Parts {
         match (self.text("--solver"), self.value("--solver-command")) {
             (Some(_), Some(_)) => Err(self.usage("--solver and --solver-command exclude each other")),
             (Some(name), None) => {
-                Solver::named(&name).ok_or_else(|| self.usage(&format!("'{name}' is not a solver that this command knows")))
+                let unknown = || format!("'{name}' is not a solver that this command knows; --solver-command takes any other");
+                Solver::named(&name).ok_or_else(|| self.usage(&unknown()))
             }
             (None, Some(words)) => {
                 let solver = words.to_str().and_then(Solver::of_command);
@@ -359,5 +364,5 @@ impl Parts {
 }
 
 fn usage(page: &Page, problem: &str) -> Failure {
-    Failure::Other(format!("{problem}\nusage: menduvo {}", page.usage))
+    Failure::Other(format!("{problem}\nusage: menduvo {}\n'menduvo {} --help' says more", page.usage, page.name))
 }

@@ -66,7 +66,7 @@ impl Loaded {
                     None => Failure::of_refusal(refusal, &name, &details),
                     Some(source) => {
                         let place = source.place_of(refusal);
-                        let details = [pointed(&source.text, place), details].concat();
+                        let details = [pointed(&source.text, place), vec![source.size()]].concat();
                         Failure::of_refusal(refusal, &format!("{name}: {place}"), &details)
                     }
                 });

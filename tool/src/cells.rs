@@ -3,6 +3,7 @@
 
 use crate::case::{Case, Kind};
 use crate::run::Run;
+use crate::sha256;
 use crate::svg::{Style, Svg};
 use crate::walk::{Event, Step};
 use crate::words::item_name;
@@ -117,7 +118,8 @@ pub fn blocks(run: &Run) -> usize {
     run.steps.last().map_or(0, |step| step.block + 1)
 }
 
-/// What is said after the verdict: of a broken assertion that is no violation, and of the blocks that are not drawn.
+/// What is said after the verdict: of a broken assertion that is no violation, of the blocks that are not drawn, and which case
+/// it is, so that a printed page can be matched to it.
 pub fn notes(case: &Case, run: &Run, width: u32) -> Vec<String> {
     let (first, last) = (blocks(run), case.switches);
     let what = match (run.ended_before(last), first == last) {
@@ -127,7 +129,9 @@ pub fn notes(case: &Case, run: &Run, width: u32) -> Vec<String> {
         (false, false) => "run no line",
     };
     let left_out = (first <= last).then(|| format!("{} {what}", range_in_words("block", first, last)));
-    run.broken_in_vain().into_iter().chain(left_out).flat_map(|words| SMALL.lines(&words, width)).collect()
+    let of_case = format!("n = {last}; the case has SHA-256 {}", sha256::hex(&case.bytes));
+    let all = run.broken_in_vain().into_iter().chain(left_out).chain([of_case]);
+    all.flat_map(|words| SMALL.lines(&words, width)).collect()
 }
 
 /// `block 4`, `blocks 4 and 5`, `blocks 4 to 6`.

@@ -9,6 +9,7 @@ pub fn of_case(bytes: &[u8], refusal: Refusal) -> Vec<String> {
     let Some(case) = Case::of(bytes.to_vec()) else {
         return vec![match bytes.len() > menduvo::MOST_CASE_BYTES {
             true => format!("it has over {} bytes, the most that a case has", menduvo::MOST_CASE_BYTES),
+            false if bytes.is_empty() => "it is empty".to_string(),
             false => format!("it has {}", count(bytes.len(), "byte", "bytes")),
         }];
     };
@@ -162,7 +163,11 @@ pub fn of_schedule(case: &Case, schedule: &[u16], refusal: Refusal) -> Vec<Strin
         12 => {
             let inputs = count(case.inputs().len(), "input line", "input lines");
             let numbers = count(schedule.len(), "number", "numbers");
-            vec![format!("it has {numbers}; n + 1 is {}, and the case has {inputs}", case.switches + 1)]
+            let mut details = vec![format!("it has {numbers}; n + 1 is {}, and the case has {inputs}", case.switches + 1)];
+            if schedule.len() == case.variables() {
+                details.push("an assignment has so many; 'menduvo decode' makes a schedule of one that meets".to_string());
+            }
+            details
         }
         13 => sums(case, schedule),
         14 => {

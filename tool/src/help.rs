@@ -202,7 +202,8 @@ pub const PAGES: &[Page] = &[
                \x20 refused    the case is refused\n\
                \x20 failed     something else: a file, or a solver that talks nonsense, fails or is killed\n\
                --least, --each and --short ask many questions, so each has 60 seconds where --timeout is not given. They go\n\
-               together: --each --least says by assert the first n. What is kept at a chosen n is named NAME-nN.\n\
+               together: --each --least says by assert the first n. What is kept at a chosen n is named NAME-nN; with --short,\n\
+               text and reply are those of the first question, and assignment and schedule those of the short run.\n\
                Exit status 1 where a violation is found; 0 for unsat and vacuous; 2 refused; 3 for the others. Of several\n\
                cases, n or asserts: 1 where one of them has it, else 3, else 2.\n",
     },

@@ -23,7 +23,8 @@ impl Kept {
         let path = Path::new(folder);
         let place = path.join(NAME);
         let named = |problem: String| Failure::Other(format!("{}: {problem}", shown(place.as_os_str())));
-        let list = String::from_utf8(plain_file(&place).map_err(named)?).map_err(|_| named("not text".to_string()))?;
+        let missed = |problem: String| named(format!("{problem}; a folder that 'menduvo file' made has one"));
+        let list = String::from_utf8(plain_file(&place).map_err(missed)?).map_err(|_| named("not text".to_string()))?;
         let manifest = Manifest::read(&list).map_err(named)?;
         let names = manifest.files.iter().map(|entry| entry.name.clone());
         let files = names.map(|name| (name.clone(), plain_file(&path.join(name)))).collect();

@@ -85,7 +85,7 @@ impl Scope<'_> {
                 _ if !plain.is_empty() && word == plain => Ok(word.to_string()),
                 _ if KEYWORDS.contains(&word) => Err(Some(format!("'{quoted}' is a word of the language"))),
                 _ if is_plain(word) && plain.is_empty() => Err(Some(format!("'{quoted}' is no name of its own"))),
-                _ if is_plain(word) => Err(Some(format!("'{quoted}' is not what comes next, which is {plain}"))),
+                _ if is_plain(word) => Err(Some(format!("'{quoted}' is no name for what is {plain} here"))),
                 _ if !is_name(word) => Err(None),
                 _ if word.len() > MOST_OF_A_NAME => Err(Some(format!("'{quoted}' has {} characters", word.len()))),
                 _ => Ok(word.to_string()),
@@ -161,9 +161,11 @@ impl Scope<'_> {
         self.locals.iter().find(|local| local.number == 0).map_or("L0", |local| &local.word)
     }
 
-    /// That a global is no operand.
+    /// That a global stands in no expression and no guard. The advice names a local that has no name yet, and so may be free.
     fn loaded_alone(&self, global: &str) -> String {
-        format!("'{global}' is a global, and is loaded by a line of its own: {} = {global}", self.first_local())
+        let unnamed = (0..LOCALS).find(|&number| !self.locals.iter().any(|local| local.number == number));
+        let local = unnamed.map_or("a local".to_string(), |number| Name::Local(0, number).plain());
+        format!("'{global}' is a global, and is loaded by a line of its own: {local} = {global}")
     }
 
     fn or_global(&self) -> String {
@@ -176,12 +178,13 @@ impl Scope<'_> {
     /// Takes what follows `when`, up to its colon, and gives the guard.
     pub fn guard(&self, words: &mut Words) -> Result<u16, Problem> {
         let local = self.local(words)?;
+        let compared = |word: &str| Some(format!("'{}' cannot stand here: a guard compares a local with 0", shortened(word)));
         let zero = words.take("!=, ==", |word| match word {
             "!=" => Ok(false),
             "==" => Ok(true),
-            _ => Err(None),
+            _ => Err(compared(word)),
         })?;
-        words.expect("0")?;
+        words.take("0", |word| if word == "0" { Ok(()) } else { Err(compared(word)) })?;
         words.expect(":")?;
         Ok(1 + local + if zero { LOCALS } else { 0 })
     }
@@ -189,7 +192,8 @@ impl Scope<'_> {
     fn local(&self, words: &mut Words) -> Result<u16, Problem> {
         words.take(&self.a_local(), |word| match self.find(word) {
             Ok(Name::Local(_, number)) => Ok(number),
-            Ok(_) => Err(None),
+            Ok(Name::Global(_)) => Err(Some(self.loaded_alone(word))),
+            Ok(Name::Mutex(_)) => Err(None),
             Err(wrong) => Err(is_name(word).then_some(wrong)),
         })
     }
@@ -228,9 +232,12 @@ impl Scope<'_> {
         let target = words.take(could, |word| match self.find(word) {
             Ok(Name::Mutex(_)) => Err(Some(format!("'{word}' is a mutex: 'lock {word}' and 'unlock {word}' are its lines"))),
             Ok(name) => Ok(name),
-            Err(_) if matches!(word, "if" | "else" | "while" | "end") => {
+            Err(_) if matches!(word, "if" | "else") => {
                 let local = self.first_local();
-                Err(Some(format!("'{word}' is kept for a later form of threads; a guard is 'when {local} != 0:'")))
+                Err(Some(format!("'{word}' is a word that is kept for later; a guard is 'when {local} != 0:'")))
+            }
+            Err(_) if matches!(word, "while" | "end") => {
+                Err(Some(format!("'{word}' is a word that is kept for later; lines that are run again are written again")))
             }
             Err(wrong) => Err(is_name(word).then_some(wrong)),
         })?;

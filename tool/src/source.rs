@@ -2,9 +2,10 @@
 //! Whether a made case is taken is for the library to say.
 
 use crate::names::{Name, Names};
-use crate::numbers::lines;
+use crate::numbers::{lines, shortened};
 use crate::scope::{number, Item, Local, Scope};
 use crate::token::{Place, Problem, Words};
+use crate::words::{count, enumeration};
 use menduvo::Refusal;
 
 /// A case before the library has seen it.
@@ -36,6 +37,17 @@ impl Draft {
 }
 
 impl Written {
+    /// How much there is of what the library may find too much, or too little.
+    pub fn size(&self) -> String {
+        let counts = [
+            count(self.threads.len(), "thread", "threads"),
+            count(self.globals.len(), "global", "globals"),
+            count(self.mutexes.len(), "mutex", "mutexes"),
+            count(self.lines.iter().map(Vec::len).sum(), "line", "lines"),
+        ];
+        format!("the source has {}", enumeration(&counts))
+    }
+
     /// Where the fault of a refused case stands.
     pub fn place_of(&self, refusal: Refusal) -> Place {
         let all: Vec<Place> = self.lines.iter().flatten().copied().collect();
@@ -118,6 +130,10 @@ impl Reader {
         let before_threads = self.threads.is_empty();
         match (word, &self.switches) {
             ("switches", None) => self.take_switches(words)?,
+            (_, None) if word.starts_with(|sign: char| sign.is_ascii_digit()) => {
+                let wrong = format!("'{}' cannot stand here: a list of numbers is no case", shortened(word));
+                return Err(Problem { wrong, ..words.problem("switches") });
+            }
             (_, None) => return Err(words.problem("switches")),
             ("global", _) if before_threads && self.mutexes.is_empty() => self.take_global(words)?,
             ("mutex", _) if before_threads => self.take_mutex(words)?,

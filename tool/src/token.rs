@@ -56,9 +56,6 @@ pub fn pointed(text: &str, Place { line, column }: Place) -> Vec<String> {
     }
 }
 
-/// The signs, a longer one before its beginning.
-const SIGNS: [&str; 9] = ["==", "!=", "=", "<", "+", "-", "&", "|", ":"];
-
 fn is_of_word(sign: char) -> bool {
     sign.is_alphanumeric() || sign == '_'
 }
@@ -67,20 +64,13 @@ fn is_blank(sign: char) -> bool {
     sign == ' ' || sign == '\t'
 }
 
-/// The words of a line, up to its comment. What begins no word of the language is a word as far as the next blank.
+/// The words of a line, up to its comment: letters, digits and underscores that stand together, and other signs that do.
 pub fn tokens(line: &str) -> Vec<Token<'_>> {
     let line = line.split('#').next().unwrap_or_default();
     let (mut tokens, mut rest, mut column) = (Vec::new(), line, 1);
     while let Some(first) = rest.chars().next() {
-        let length = match first {
-            _ if is_blank(first) => 1,
-            _ if is_of_word(first) => rest.find(|sign| !is_of_word(sign)).unwrap_or(rest.len()),
-            _ => match SIGNS.iter().find(|sign| rest.starts_with(**sign)) {
-                Some(sign) => sign.len(),
-                None => rest.find(is_blank).unwrap_or(rest.len()),
-            },
-        };
-        let (text, after) = rest.split_at(length);
+        let is_other = |sign: char| is_blank(sign) != is_blank(first) || is_of_word(sign) != is_of_word(first);
+        let (text, after) = rest.split_at(rest.find(is_other).unwrap_or(rest.len()));
         if !is_blank(first) {
             tokens.push(Token { text, column });
         }
@@ -88,6 +78,24 @@ pub fn tokens(line: &str) -> Vec<Token<'_>> {
         rest = after;
     }
     tokens
+}
+
+/// What to write in the place of a word of other languages.
+fn hint(word: &str) -> Option<&'static str> {
+    Some(match word {
+        ">" => "a > b is b < a",
+        ">=" => "a >= b is that a < b is 0",
+        "<=" => "a <= b is that b < a is 0",
+        "!=" => "a != b is that a == b is 0; as a guard, 'when a != 0:'",
+        "!" | "not" => "not a is a == 0",
+        "&&" | "and" => "a & b, where both are 0 or 1",
+        "||" | "or" => "a | b, where both are 0 or 1",
+        "+=" | "-=" | "++" | "--" => "a = a + 1 is a line",
+        ":=" => "a = b is a line",
+        ";" => "nothing ends a line but its end",
+        "//" | "/*" => "a comment begins with #",
+        _ => return None,
+    })
 }
 
 /// The words of one line, taken one after the other.
@@ -160,9 +168,10 @@ impl<'a> Words<'a> {
 
     /// That the next word cannot stand where it is.
     pub fn problem(&self, could: &str) -> Problem {
-        let wrong = match self.peek() {
-            Some(word) => format!("'{}' cannot stand here", shortened(word)),
-            None => "the line ends too soon".to_string(),
+        let wrong = match (self.peek(), self.peek().and_then(hint)) {
+            (Some(word), Some(hint)) => format!("'{word}' cannot stand here: {hint}"),
+            (Some(word), None) => format!("'{}' cannot stand here", shortened(word)),
+            (None, _) => "the line ends too soon".to_string(),
         };
         Problem { place: self.place(), wrong, could: could.to_string() }
     }

@@ -126,7 +126,7 @@ fn unsat(loaded: &Loaded, solvers: &[&str]) -> String {
     let names = enumeration(solvers);
     let (say, word) = match solvers.len() {
         1 => ("says", format!("{names}'s own")),
-        _ => ("say", format!("that of {names}")),
+        _ => ("say", format!("{names}'s")),
     };
     format!(
         "{names} {say} unsat: nothing meets {constraints}.\n\
@@ -134,9 +134,10 @@ fn unsat(loaded: &Loaded, solvers: &[&str]) -> String {
          (0 to {switches}) belongs to thread i modulo {threads}, and a thread that runs no line still uses its turn. A run is\n\
          complete and legal when every thread ran all its lines, every assume held and every lock was free.\n\
          It does not mean: that {other} with more switches or in another order of threads; that\n\
-         anything was checked of an assert that no such run reaches; that the case says what the controller does.\n\
-         The word unsat is {word}: that the constraints say this is proved, that nothing meets them is\n\
-         not checked here.\n"
+         threads cannot wait for each other for ever: a run that comes to a taken lock or a failed assume does not\n\
+         count, also where an assertion broke before; that anything was checked of an assert that no such run\n\
+         reaches; that the case says what the controller does.\n\
+         What the constraints say is proved. That nothing meets them is {word} word, and is not checked here.\n"
     )
 }
 

@@ -73,12 +73,10 @@ fn column(characters: &[char], place: usize, wrong: Wrong) -> usize {
 }
 
 /// How long the word is that begins here: "Letters, digits and `_` that stand
-/// together are one word, of whichever script", and "A sign goes as far as it
-/// can." Any other character is a word by itself, which can stand nowhere.
+/// together are one word, of whichever script, and so are other signs that do."
 fn word_length(rest: &[char]) -> usize {
-    let in_name = |character: &&char| character.is_alphanumeric() || **character == '_';
-    match rest {
-        ['=' | '!', '=', ..] => 2,
-        _ => rest.iter().take_while(in_name).count().max(1),
-    }
+    let in_name = |character: char| character.is_alphanumeric() || character == '_';
+    let ends = |character: char| " \t#".contains(character);
+    let alike = |character: &&char| !ends(**character) && in_name(**character) == in_name(rest[0]);
+    rest.iter().take_while(alike).count().max(1)
 }
