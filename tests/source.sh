@@ -180,6 +180,12 @@ limits() {
 names() {
     same show-names 0 "$menduvo" show cases/interlock.source
     same replay-names 1 "$menduvo" replay cases/lost-update.source cases/lost-update.schedule
+    says 'a broken assertion is found in the source' 1 "that is line $(grep -n 'assert right' cases/lost-update.source | cut -d: -f1) of the source" \
+        "$menduvo" replay cases/lost-update.source cases/lost-update.schedule
+    says 'and a cut-off' 0 "that is line $(grep -n ' lock first' cases/lock-order.source | tail -n 1 | cut -d: -f1) of the source" \
+        "$menduvo" replay cases/lock-order.source cases/lock-order.schedule
+    run "$menduvo" replay cases/lost-update.case cases/lost-update.schedule
+    result 'a case has no line of a source' eval '[[ $out != *source* ]]'
     says 'solve has names' 1 'assert both == 0) is broken' "$menduvo" solve cases/interlock-broken.source
     says 'an assert is named' 0 'assert expected == after): reached' "$menduvo" solve cases/lock-order.source
     run "$menduvo" picture cases/lost-update.source cases/lost-update.schedule -o -

@@ -21,21 +21,33 @@ impl Name {
     }
 }
 
-/// The names that a source gives.
+/// The names that a source gives, and which of its lines each record is.
 #[derive(Clone, Debug, Default, PartialEq, Eq)]
-pub struct Names(BTreeMap<Name, String>);
+pub struct Names {
+    words: BTreeMap<Name, String>,
+    lines: BTreeMap<usize, usize>,
+}
 
 impl Names {
     pub fn give(&mut self, name: Name, word: &str) {
-        self.0.insert(name, word.to_string());
+        self.words.insert(name, word.to_string());
+    }
+
+    pub fn put(&mut self, record: usize, line: usize) {
+        self.lines.insert(record, line);
+    }
+
+    /// The line of the source that a record is.
+    pub fn line_of(&self, record: u16) -> Option<usize> {
+        self.lines.get(&usize::from(record)).copied()
     }
 
     /// The given names, locals by thread, then globals, then mutexes.
     pub fn given(&self) -> impl Iterator<Item = (Name, &str)> {
-        self.0.iter().map(|(&name, word)| (name, word.as_str()))
+        self.words.iter().map(|(&name, word)| (name, word.as_str()))
     }
 
     pub fn called(&self, name: Name) -> String {
-        self.0.get(&name).cloned().unwrap_or_else(|| name.plain())
+        self.words.get(&name).cloned().unwrap_or_else(|| name.plain())
     }
 }

@@ -102,7 +102,12 @@ impl Run {
 
     /// What the run comes to, in lines.
     pub fn conclusion(&self, case: &Case) -> String {
-        let lines = std::iter::once(verdict(case, self.ending)).chain(self.broken_in_vain());
+        let place = match self.ending {
+            Ending::Violated(record) | Ending::CutOff(record) => case.names.line_of(record),
+            Ending::Clean => None,
+        };
+        let place = place.map(|line| format!("that is line {line} of the source"));
+        let lines = std::iter::once(verdict(case, self.ending)).chain(place).chain(self.broken_in_vain());
         lines.map(|line| line + "\n").collect()
     }
 

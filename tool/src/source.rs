@@ -281,6 +281,7 @@ impl Reader {
         for (thread, number) in self.threads.iter().zip(0..) {
             thread.locals.iter().for_each(|local| give(Name::Local(number, local.number), &local.word));
         }
+        self.threads.iter().flat_map(|thread| &thread.lines).for_each(|line| names.put(line.number, line.place.line));
         names
     }
 
