@@ -66,21 +66,13 @@ pub fn all() -> Vec<Group> {
         by_default: std::env::var_os(listing::PROGRAM).is_some(),
         ..group("listing", "the program in MENDUVO_LISTING", listing::run)
     });
-    groups.push(Group {
-        by_default: std::env::var_os(command::PROGRAM).is_some(),
-        ..group("answers", "the command in MENDUVO_COMMAND", answers::run)
-    });
-    groups.push(Group {
-        by_default: std::env::var_os(command::PROGRAM).is_some(),
-        ..group("step", "runs by hand in MENDUVO_COMMAND", step::run)
-    });
-    groups.push(Group {
-        by_default: std::env::var_os(command::PROGRAM).is_some(),
-        ..group("bounds", "its --least, --each and --short", bounds::run)
-    });
-    groups.push(Group {
-        by_default: std::env::var_os(command::PROGRAM).is_some(),
-        ..group("sources", "sources, by the same command", sources::run)
-    });
+    let of_command = [
+        group("answers", "the command in MENDUVO_COMMAND", answers::run),
+        group("step", "runs by hand in MENDUVO_COMMAND", step::run),
+        group("bounds", "its --least, --each and --short", bounds::run),
+        group("sources", "sources, by the same command", sources::run),
+    ];
+    let by_default = std::env::var_os(command::PROGRAM).is_some();
+    groups.extend(of_command.map(|group| Group { by_default, ..group }));
     groups
 }
