@@ -384,8 +384,8 @@ no_sources() {
     result 'nothing: that alone' test "${out##*it is empty}" = ''
     says 'a case' 2 "cases/case-a.case: a case already; 'menduvo source' prints" "$menduvo" make cases/case-a.case -o -
     local filled='printf "switches 3\nthread\nthread\n#"; head -c "$1" /dev/zero | tr "\\0" "#"'
-    says 'the longest source' 0 'switches 3' bash -c "{ $filled; } | $menduvo source -" - "$((1048576 - 26))"
-    says 'one that is longer' 2 'over 1048576 bytes of text' bash -c "{ $filled; } | $menduvo source -" - "$((1048576 - 25))"
+    says 'the longest source' 0 'switches 3' bash -c "{ $filled; } | $menduvo source -" - "$((262144 - 26))"
+    says 'one that is longer' 2 'over 262144 bytes of text' bash -c "{ $filled; } | $menduvo source -" - "$((262144 - 25))"
     says 'a case that is refused' 2 'refusal 1' bash -c "head -c 40 cases/case-a.case | $menduvo show -"
     result 'a case that is refused: no word of sources' bash -c '! grep -q source <<<"$1"' - "$out"
 }

@@ -69,7 +69,7 @@ files() {
     says 'a full disk' 3 '/dev/full: ' "$menduvo" make "$scratch/gate.source" -o /dev/full --force
     says 'a case is no source' 2 'a case already' "$menduvo" make cases/case-a.case -o "$scratch/again.case"
     says 'numbers are no source' 2 'line 2, column 1' "$menduvo" show cases/case-a.schedule
-    says 'a source that never ends' 2 'over 1048576 bytes of text' bash -c "yes '# and on' | '$menduvo' show -"
+    says 'a source that never ends' 2 'over 262144 bytes of text' bash -c "yes '# and on' | '$menduvo' show -"
     printf '\xef\xbb\xbfswitches 1\r\nthread # one\r\n\tL0=0\r\nthread' >"$scratch/gate.source"
     run "$menduvo" source "$scratch/gate.source"
     result 'a mark before it, carriage returns, tabs, no last line end' eval \
@@ -173,6 +173,19 @@ limits() {
         for _ in {1..4}; do echo thread; lines 64 'when L15 == 0: L15 = 65535 - L14'; done; } >"$scratch/gate.source"
     says 'the largest case' 0 '4 threads, 15 switches, 8 globals, 4 mutexes, 256 records' \
         "$menduvo" make "$scratch/gate.source" -o "$scratch/gate.case"
+    # What is over every limit, as far as a source can be, ends soon and is refused.
+    local of statement
+    while read -r of number statement; do
+        { echo 'switches 1'; [ "$of" = items ] || lines 2 thread; lines 18000 "$statement" | awk '{ sub(/@/, NR); print }'; } \
+            >"$scratch/gate.source"
+        says "18,000 of '$statement'" 2 "refusal $number, place 0" timeout 10 "$menduvo" show "$scratch/gate.source"
+    done <<'MANY'
+items 2 mutex m@
+items 2 thread
+lines 1 L0=1
+MANY
+    { echo 'switches 1'; lines 2 thread; lines 18000 'L0=1'; echo 'record 1:L0=1'; } >"$scratch/gate.source"
+    says 'a record twice, and 18,000 others' 2 'could stand here: record 18001:' timeout 10 "$menduvo" show "$scratch/gate.source"
     result 'it has the most bytes' test "$(wc -c <"$scratch/gate.case")" = 4128
 }
 

@@ -7,6 +7,7 @@ use crate::scope::{number, Item, Local, Scope};
 use crate::token::{Place, Problem, Words};
 use crate::words::{count, enumeration};
 use menduvo::Refusal;
+use std::collections::HashSet;
 
 /// A case before the library has seen it.
 pub struct Draft {
@@ -262,7 +263,8 @@ impl Reader {
                     continue;
                 }
             };
-            let left = (1..=lines.len()).find(|left| !lines.iter().any(|line| line.number == *left));
+            let given: HashSet<usize> = lines.iter().map(|line| line.number).collect();
+            let left = (1..=lines.len()).find(|number| !given.contains(number));
             let could = format!("record {}:", left.unwrap_or_default());
             return Err(Problem { place: *place, wrong: format!("this line would be record {number}, {wrong}"), could });
         }
