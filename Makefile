@@ -16,9 +16,10 @@ SHELL = bash
 .SILENT:
 .PHONY: all install uninstall
 
-# All that is installed, from PREFIX.
+# All that is installed, from PREFIX; of docs, what the help names.
+documents = SOURCE.md FILING.md output.schema.json
 files = bin/menduvo lib/libmenduvo.a include/menduvo.h lib/pkgconfig/menduvo.pc share/man/man1/menduvo.1 \
-    share/bash-completion/completions/menduvo
+    share/bash-completion/completions/menduvo $(documents:%=share/doc/menduvo/%)
 
 # Sets prefix, which stands in menduvo.pc, and place, where files are written.
 define find_place
@@ -39,7 +40,7 @@ endef
 all:
 	version=$$(bin/menduvo --version)
 	commit=$${version#*'(commit '} && commit=$${commit%', library '*}
-	sources=$$(find tool bindings cases -name target -prune -o -type f -exec sha256sum {} + | LC_ALL=C sort | sha256sum)
+	sources=$$(find tool bindings cases docs -name target -prune -o -type f -exec sha256sum {} + | LC_ALL=C sort | sha256sum)
 	made_of=$$version$$'\n'$$sources
 	[ "$$(cat target/install/made_of 2>/dev/null)" != "$$made_of" ] || exit 0
 	echo 'compiling the command that is installed' >&2
@@ -47,11 +48,12 @@ all:
 	library=$$(readlink -e -- "$${MENDUVO_LIB_DIR:-target/staticlib}")
 	MENDUVO_BUILD_COMMIT=$$commit MENDUVO_LIB_DIR=$$library cargo build --release --offline --locked --quiet \
 		--manifest-path tool/Cargo.toml --target-dir target/install
-	mkdir -p target/install/files/{bin,lib,include,share/man/man1,share/bash-completion/completions}
+	mkdir -p target/install/files/{bin,lib,include,share/man/man1,share/bash-completion/completions,share/doc/menduvo}
 	cd target/install/files
 	cp ../release/menduvo bin/
 	cp -- "$$library/libmenduvo.a" lib/
 	cp ../../../bindings/menduvo.h include/
+	cp $(documents:%=../../../docs/%) share/doc/menduvo/
 	bin/menduvo help --man >share/man/man1/menduvo.1
 	bin/menduvo help --bash-completion >share/bash-completion/completions/menduvo
 	printf '%s\n' "$$made_of" >../made_of

@@ -10,7 +10,8 @@ unset PREFIX DESTDIR MAKEFLAGS MENDUVO_COMMIT MENDUVO_BUILD_COMMIT PKG_CONFIG_PA
 library=${MENDUVO_LIB_DIR:-$PWD/target/staticlib}/libmenduvo.a
 home=$scratch/home prefix=$scratch/home/.local installed=$scratch/home/.local/bin/menduvo
 files='bin/menduvo include/menduvo.h lib/libmenduvo.a lib/pkgconfig/menduvo.pc'
-files+=' share/bash-completion/completions/menduvo share/man/man1/menduvo.1'
+files+=' share/bash-completion/completions/menduvo share/doc/menduvo/FILING.md'
+files+=' share/doc/menduvo/SOURCE.md share/doc/menduvo/output.schema.json share/man/man1/menduvo.1'
 
 # there FOLDER: the files in it, in one line.
 there() {
@@ -44,9 +45,14 @@ installing() {
     seen=$scratch/fakes:$PATH readme "$(block Install)"
     result 'it installs what is built, and builds nothing' test "$status" = 0
     result 'it installs these files' test "$(there "$home/.local")" = "$files"
-    result 'with these rights' test "$(find "$prefix" -type f -printf '%m\n' | sort | paste -sd ' ')" = '644 644 644 644 644 755'
+    result 'with these rights' test "$(find "$prefix" -type f -printf '%m\n' | sort | paste -sd ' ')" = '644 644 644 644 644 644 644 644 755'
     result 'the library' cmp -s "$library" "$prefix/lib/libmenduvo.a"
     result 'the header' cmp -s bindings/menduvo.h "$prefix/include/menduvo.h"
+    local document
+    for document in $({ "$installed" help; for page in $("$installed" help | awk '/^  [a-z]/ { print $1 }'); do
+        "$installed" help "$page"; done; } 2>/dev/null | grep -oE '\bdocs/[A-Za-z.]+[a-z]' | sort -u); do
+        result "$document, which the help names" cmp -s "$document" "$prefix/share/doc/menduvo/${document#docs/}"
+    done
 }
 
 # The command without its tree, and without what bin/menduvo tells.
@@ -242,7 +248,7 @@ builds() {
 # When it builds. The fakes: bin/menduvo prints the version in a file, and cargo makes a command of what it was given.
 building() {
     local tree="$scratch/a tree" name
-    mkdir -p "$tree"/{bin,tool,cases,target/staticlib,by\ hand} && cp -r Makefile bindings "$tree/"
+    mkdir -p "$tree"/{bin,tool,cases,target/staticlib,by\ hand} && cp -r Makefile bindings docs "$tree/"
     echo one >"$tree/tool/main.rs" && echo tree >"$tree/target/staticlib/libmenduvo.a" && echo hand >"$tree/by hand/libmenduvo.a"
     echo 'menduvo 0.1.0 (commit abc with changes, library SHA-256 1)' >"$tree/version"
     fake menduvo 'cat version' && mv "$scratch/fakes/menduvo" "$tree/bin/"

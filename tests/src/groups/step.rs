@@ -1,7 +1,6 @@
 //! Random schedules, typed line by line into `menduvo step`: the same schedule
 //! comes back, with what the second implementation says of its run.
 
-use std::env;
 use std::fs;
 
 use super::answers::{program, Folder};
@@ -33,7 +32,7 @@ pub fn run(_: &dyn Calls, report: &mut Report) {
 
 fn compare(shape: Shape, cases: u64, tally: &mut Tally) -> Outcome {
     let program = program()?;
-    let folder = Folder(env::temp_dir().join(format!("menduvo-step-{}", std::process::id())));
+    let folder = Folder::new("step");
     fs::create_dir_all(&folder.0).map_err(|error| error.to_string())?;
     let file = folder.0.join("one.case");
     let name = file.to_str().ok_or("the folder's name is no text")?;
