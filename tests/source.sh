@@ -228,6 +228,13 @@ filing() {
     says 'it is the same again' 0 'the same' "$menduvo" verify "$scratch/filed"
     cp cases/interlock.source "$scratch/filed/case.source"
     says 'a source of another case' 1 'case.source       differs' "$menduvo" verify "$scratch/filed"
+    # Neither is a source, so no name is taken from it: one is longer than any, the other has a control character in a comment.
+    { echo 'switches 3'; lines 70000 'global a@=0' | awk '{ sub(/@/, NR); print }'; } >"$scratch/filed/case.source"
+    says 'a source that is too long' 1 'case.source       differs' timeout 10 "$menduvo" verify "$scratch/filed"
+    result 'a source that is too long: no panic' eval '[[ $out != *panicked* ]]'
+    { cat cases/interlock-broken.source; printf '# \001\n'; } >"$scratch/filed/case.source"
+    says 'a text that is no source' 1 'case.source       differs: its SHA-256 is not that of MANIFEST; this check has no such file' \
+        "$menduvo" verify "$scratch/filed"
     rm "$scratch/filed/case.source"
     says 'the source is gone' 1 'case.source       missing' "$menduvo" verify "$scratch/filed"
 }

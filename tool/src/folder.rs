@@ -24,8 +24,8 @@ const PICTURE: &str = "picture.svg";
 
 /// A filed case, with its names where its filed source makes it.
 pub fn draft(case: &[u8], source: &[u8]) -> Draft {
-    let made = std::str::from_utf8(source).ok().and_then(|text| source::read(text).ok());
-    made.filter(|draft| draft.bytes == case).unwrap_or_else(|| Draft::of_bytes(case.to_vec()))
+    let made = source::of_bytes(source).filter(|draft| draft.bytes == case);
+    made.unwrap_or_else(|| Draft::of_bytes(case.to_vec()))
 }
 
 /// What a folder is made from.

@@ -11,9 +11,6 @@ use std::path::Path;
 
 /// The most bytes of a text with numbers: a model of the largest case has about a tenth of it.
 const MOST_TEXT_BYTES: usize = 1 << 20;
-/// The most bytes of a source. The longest lines of the largest case have about a fifth of it; and what is over every limit of a
-/// case still has counts of 16 bits.
-const MOST_SOURCE_BYTES: usize = 1 << 18;
 /// The most bytes of a file that is kept as it is.
 const MOST_FILE_BYTES: usize = 1 << 26;
 
@@ -87,15 +84,16 @@ impl Source {
     }
 
     fn draft(&self) -> Result<Draft, Failure> {
-        let mut bytes = self.read(MOST_SOURCE_BYTES + 1)?;
+        let mut bytes = self.read(source::MOST_BYTES + 1)?;
         if !source::is_text(&bytes) {
             let no_source = source::no_source(&bytes);
             bytes.truncate(menduvo::MOST_CASE_BYTES + 1);
             return Ok(Draft { no_source, ..Draft::of_bytes(bytes) });
         }
         let text = String::from_utf8(bytes).unwrap_or_default();
-        match text.len() > MOST_SOURCE_BYTES {
-            true => Err(Failure::Refused(format!("{}: over {MOST_SOURCE_BYTES} bytes of text, which is no case", self.name()))),
+        let most = source::MOST_BYTES;
+        match text.len() > most {
+            true => Err(Failure::Refused(format!("{}: over {most} bytes of text, which is no case", self.name()))),
             false => source::read(&text).map_err(|problem| problem.failure(&self.name(), &text)),
         }
     }

@@ -9,6 +9,10 @@ use crate::words::{count, enumeration};
 use menduvo::Refusal;
 use std::collections::HashSet;
 
+/// The most bytes of a source. The longest lines of the largest case have about a fifth of it; and what is over every limit of a
+/// case still has counts of 16 bits.
+pub const MOST_BYTES: usize = 1 << 18;
+
 /// A case before the library has seen it.
 pub struct Draft {
     pub bytes: Vec<u8>,
@@ -91,7 +95,14 @@ fn end_of(lines: &[(usize, &str)]) -> Place {
     end.unwrap_or(Place { line: 1, column: 1 })
 }
 
-/// Makes the bytes of a case from its source.
+/// What these bytes make, where they are a source.
+pub fn of_bytes(bytes: &[u8]) -> Option<Draft> {
+    let is_source = bytes.len() <= MOST_BYTES && is_text(bytes);
+    let text = std::str::from_utf8(bytes).ok().filter(|_| is_source)?;
+    read(text).ok()
+}
+
+/// Makes the bytes of a case from its source, which has at most `MOST_BYTES`.
 pub fn read(text: &str) -> Result<Draft, Problem> {
     let mut reader = Reader::default();
     let lines = lines(text);
