@@ -1,0 +1,2 @@
+pub mod Assertions
+pub mod Text

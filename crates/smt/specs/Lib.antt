@@ -1,0 +1,4 @@
+pub mod Term
+pub mod Script
+pub mod Spelling
+pub mod Reader
