@@ -13,9 +13,6 @@ ghost use Rattle.laws.specs.Written.{numbersAt};
 ghost use Rattle.spell.specs.Spelt.{capped, Spelt};
 ghost use Rattle.spell.specs.Atoms.{atomTerm, twoAtoms, closing, longVariable};
 
-// The most sources that a case has.
-pub const SOURCES: usize = 6;
-
 // The highest place. Places beyond are not told apart.
 const TOP: usize = 18446744073709551615;
 
@@ -23,12 +20,6 @@ const TOP: usize = 18446744073709551615;
 pub enum Atom {
     Variable(u32),
     Constant(u16),
-}
-
-// The record numbers of the sources, so many of them.
-pub struct Sources {
-    pub count: usize,
-    pub records: [u16; SOURCES],
 }
 
 // The place after so many bytes.
