@@ -1,15 +1,15 @@
--- A script that was written is read back: its declarations, its assertions, and the whole.
--- Assumes nothing.
+-- A script that was written is read back: its declarations, its assertions, and the whole. So no two scripts have one text.
+-- Assumes nothing. `read-back` and `one-script` are what the crate is for.
 use mathlib.Core.Path.{_≡_, refl, ap, _∙_}
 use Prim.Native.Nat.{ℕ, zero, suc, _+_, _≤_, _<_}
 use mathlib.Core.List.{List, [], _∷_, _++_, append-assoc}
-use mathlib.Core.Option.{Option, none, some}
+use mathlib.Core.Option.{none, some}
 use native.Mathlib.Omega.{arith}
 use lib.ListN.{length, length-append}
 use Rattle.smt.specs.Term.{Formula}
 use Rattle.smt.specs.Script.{Script}
-use Rattle.smt.specs.Spelling.{formulaText, logicLine, declaration, declarations, assertion, assertionLines, questionLine, scriptText}
-use Rattle.smt.specs.Reader.{got, after, andThen, expect, readFormula, readDeclarations, readAssertions, ended, readScript}
+use Rattle.smt.specs.Spelling.{formulaText, declaration, declarations, assertion, assertionLines, questionLine, scriptText}
+use Rattle.smt.specs.Reader.{got, after, andThen, readDeclarations, readAssertions, ended, readScript}
 use Rattle.reading.specs.Spellable.{AllSpellable, ScriptSpellable}
 use Rattle.reading.proofs.Words.{after-itself}
 use Rattle.reading.proofs.Terms.{formula-read}
@@ -67,7 +67,7 @@ lines-read script most s enough more =
             ∙ ap (λ (k : ℕ). got k (assertionLines (script .assertions) ++ questionLine)) (omega arith) in
     rw (all-declared, assertions-read (script .variables) most (s .declared) (script .assertions) most (s .assertions) more (omega arith))
 
--- No line, and no depth, exceeds the bytes of the text.
+-- There are no more lines, and no deeper formulas, than the text has bytes.
 record Enough (script : Script) : Type 0 where
   lines : script .variables ≤ length (scriptText script)
   depth : length (assertionLines (script .assertions)) < length (scriptText script)
@@ -83,3 +83,6 @@ enough-bytes script =
 pub read-back : (script : Script) → ScriptSpellable script → readScript (scriptText script) ≡ some script
 unfolding readScript scriptText after
 read-back script s = ap ended (lines-read script (length (scriptText script)) s (enough-bytes script .lines) (enough-bytes script .depth))
+
+pub one-script : (a b : Script) → ScriptSpellable a → ScriptSpellable b → scriptText a ≡ scriptText b → a ≡ b
+one-script a b sa sb same = cc (read-back a sa, read-back b sb)

@@ -2,7 +2,7 @@
 -- bounded by the bytes of the text.
 -- Assumes nothing. Met where the assertions are read.
 use mathlib.Core.Path.{_≡_, refl, ap, _∙_}
-use Prim.Native.Nat.{ℕ, zero, suc, _+_, _-_, _≤_, _<_}
+use Prim.Native.Nat.{ℕ, zero, suc, _-_, _≤_, _<_}
 use mathlib.Core.Bool.{Bool, true, false}
 use mathlib.Core.List.{List, [], _∷_, _++_, append-assoc}
 use native.Mathlib.Omega.{arith}
@@ -10,7 +10,7 @@ use lib.ListN.{length, length-append}
 use Rattle.model.specs.Listing.{decimal}
 use Rattle.smt.specs.Term.{Operation, bvadd, bvsub, bvand, bvor, bvudiv, bvurem, Test, equals, bvult, bvule, Connective, conjunction, disjunction, exclusion, implication, Term, variable, constant, choice, apply, Formula, truth, test, negation, join, select}
 use Rattle.smt.specs.Spelling.{ascii, operationWord, testWord, connectiveWord, truthWord, fourHex, two, three, termText, formulaText}
-use Rattle.smt.specs.Reader.{Got, got, after, Head, aVariable, aConstant, aChoice, aNegation, anOperation, aTest, aConnective, aTruth, headAmong, readHead, readThree, termBy, formulaBy, readTerm, readFormula}
+use Rattle.smt.specs.Reader.{got, after, Head, aVariable, aConstant, aChoice, aNegation, anOperation, aTest, aConnective, aTruth, headAmong, readHead, termBy, formulaBy, readTerm, readFormula}
 use Rattle.reading.specs.Spellable.{TermSpellable, FormulaSpellable}
 use Rattle.reading.proofs.Words.{two-then, three-then, one-read, two-read, three-read}
 use Rattle.reading.proofs.Numbers.{NoDigit, number-read, four-read}
@@ -121,12 +121,14 @@ module _ (declared : ℕ) (small : declared ≤ 65536) where
         ap (λ (bytes : List ℕ). readTerm deep declared bytes) (three-then (ascii "(ite ") (formulaText f) (termText x) (termText y) rest)
         ∙ term-by deep _ (fit .some) (choice-read _)
           (three-read choice (readFormula (deep - 1) declared) (readTerm (deep - 1) declared) (readTerm (deep - 1) declared)
-            (formula-read f (deep - 1) _ (s .0) (fit .first)) (term-read x (deep - 1) _ (s .1) (fit .second) refl) (term-read y (deep - 1) _ (s .2) (fit .third) refl))
+            (formula-read f (deep - 1) _ (s .0) (fit .first)) (term-read x (deep - 1) _ (s .1) (fit .second) refl)
+            (term-read y (deep - 1) _ (s .2) (fit .third) refl))
     term-read (apply o x y) deep rest s h none =
         let fit = two-fit (operationWord o) (termText x) (termText y) h in
         ap (λ (bytes : List ℕ). readTerm deep declared bytes) (two-then (operationWord o) (termText x) (termText y) rest)
         ∙ term-by deep _ (fit .some) (operation-read o _)
-          (two-read (apply o) (readTerm (deep - 1) declared) (readTerm (deep - 1) declared) (term-read x (deep - 1) _ (s .0) (fit .first) refl) (term-read y (deep - 1) _ (s .1) (fit .second) refl))
+          (two-read (apply o) (readTerm (deep - 1) declared) (readTerm (deep - 1) declared)
+            (term-read x (deep - 1) _ (s .0) (fit .first) refl) (term-read y (deep - 1) _ (s .1) (fit .second) refl))
 
     pub formula-read :
         (f : Formula) (deep : ℕ) (rest : List ℕ) → FormulaSpellable declared f → length (formulaText f) ≤ deep
@@ -136,7 +138,8 @@ module _ (declared : ℕ) (small : declared ≤ 65536) where
         let fit = two-fit (testWord t) (termText x) (termText y) h in
         ap (λ (bytes : List ℕ). readFormula deep declared bytes) (two-then (testWord t) (termText x) (termText y) rest)
         ∙ formula-by deep _ (fit .some) (test-read t _)
-          (two-read (test t) (readTerm (deep - 1) declared) (readTerm (deep - 1) declared) (term-read x (deep - 1) _ (s .0) (fit .first) refl) (term-read y (deep - 1) _ (s .1) (fit .second) refl))
+          (two-read (test t) (readTerm (deep - 1) declared) (readTerm (deep - 1) declared)
+            (term-read x (deep - 1) _ (s .0) (fit .first) refl) (term-read y (deep - 1) _ (s .1) (fit .second) refl))
     formula-read (negation f) deep rest s h =
         let size = length-append (formulaText f) (41 ∷ []) in
         ap (λ (bytes : List ℕ). readFormula deep declared (ascii "(not " ++ bytes)) (append-assoc (formulaText f) (41 ∷ []) rest)
@@ -145,10 +148,12 @@ module _ (declared : ℕ) (small : declared ≤ 65536) where
         let fit = two-fit (connectiveWord c) (formulaText f) (formulaText g) h in
         ap (λ (bytes : List ℕ). readFormula deep declared bytes) (two-then (connectiveWord c) (formulaText f) (formulaText g) rest)
         ∙ formula-by deep _ (fit .some) (connective-read c _)
-          (two-read (join c) (readFormula (deep - 1) declared) (readFormula (deep - 1) declared) (formula-read f (deep - 1) _ (s .0) (fit .first)) (formula-read g (deep - 1) _ (s .1) (fit .second)))
+          (two-read (join c) (readFormula (deep - 1) declared) (readFormula (deep - 1) declared)
+            (formula-read f (deep - 1) _ (s .0) (fit .first)) (formula-read g (deep - 1) _ (s .1) (fit .second)))
     formula-read (select f g h) deep rest s fits =
         let fit = three-fit (ascii "(ite ") (formulaText f) (formulaText g) (formulaText h) fits in
         ap (λ (bytes : List ℕ). readFormula deep declared bytes) (three-then (ascii "(ite ") (formulaText f) (formulaText g) (formulaText h) rest)
         ∙ formula-by deep _ (fit .some) (choice-read _)
           (three-read select (readFormula (deep - 1) declared) (readFormula (deep - 1) declared) (readFormula (deep - 1) declared)
-            (formula-read f (deep - 1) _ (s .0) (fit .first)) (formula-read g (deep - 1) _ (s .1) (fit .second)) (formula-read h (deep - 1) _ (s .2) (fit .third)))
+            (formula-read f (deep - 1) _ (s .0) (fit .first)) (formula-read g (deep - 1) _ (s .1) (fit .second))
+            (formula-read h (deep - 1) _ (s .2) (fit .third)))
