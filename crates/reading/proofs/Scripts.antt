@@ -49,22 +49,24 @@ module _ (declared deep : ℕ) (small : declared ≤ 65536) where
   assertions-read (f ∷ fs) (suc most) s h deeper =
       let size = length-append (assertion f) (assertionLines fs) in
       let own = length-append (formulaText f) (41 ∷ (10 ∷ [])) in
-      rw (append-assoc (formulaText f) (41 ∷ (10 ∷ [])) (assertionLines fs),
-          append-assoc (formulaText f) (41 ∷ (10 ∷ assertionLines fs)) questionLine,
-          formula-read declared small f deep (41 ∷ (10 ∷ (assertionLines fs ++ questionLine))) (s .0) (omega arith),
-          assertions-read fs most (s .1) (omega arith) (omega arith))
+      rw (
+        append-assoc (formulaText f) (41 ∷ (10 ∷ [])) (assertionLines fs),
+        append-assoc (formulaText f) (41 ∷ (10 ∷ assertionLines fs)) questionLine,
+        formula-read declared small f deep (41 ∷ (10 ∷ (assertionLines fs ++ questionLine))) (s .0) (omega arith),
+        assertions-read fs most (s .1) (omega arith) (omega arith),
+      )
 
 -- With a bound on lines and depth that is large enough
 lines-read :
     (script : Script) (most : ℕ) → ScriptSpellable script → script .variables ≤ most → length (assertionLines (script .assertions)) < most
     → andThen (readDeclarations most 0 (declarations 0 (script .variables) ++ (assertionLines (script .assertions) ++ questionLine)))
-      (λ k rest. andThen (readAssertions most most k rest) (λ fs rest. got (record { variables = k; assertions = fs }) rest))
+    (λ k rest. andThen (readAssertions most most k rest) (λ fs rest. got (record { variables = k; assertions = fs }) rest))
     ≡ got script []
 lines-read script most s enough more =
     let all-declared : readDeclarations most 0 (declarations 0 (script .variables) ++ (assertionLines (script .assertions) ++ questionLine))
-            ≡ got (script .variables) (assertionLines (script .assertions) ++ questionLine)
-        = declarations-read (script .variables) most 0 (assertionLines (script .assertions) ++ questionLine) enough (no-declaration-left (script .assertions))
-            ∙ ap (λ (k : ℕ). got k (assertionLines (script .assertions) ++ questionLine)) (omega arith) in
+    ≡ got (script .variables) (assertionLines (script .assertions) ++ questionLine)
+    = declarations-read (script .variables) most 0 (assertionLines (script .assertions) ++ questionLine) enough (no-declaration-left (script .assertions))
+    ∙ ap (λ (k : ℕ). got k (assertionLines (script .assertions) ++ questionLine)) (omega arith) in
     rw (all-declared, assertions-read (script .variables) most (s .declared) (script .assertions) most (s .assertions) more (omega arith))
 
 -- There are no more lines, and no deeper formulas, than the text has bytes.

@@ -110,6 +110,7 @@ module _ (declared : ℕ) (small : declared ≤ 65536) where
 
   mutual
     unfolding termText formulaText
+
     pub term-read :
         (t : Term) (deep : ℕ) (rest : List ℕ) → TermSpellable declared t → length (termText t) ≤ deep → NoDigit rest
         → readTerm deep declared (termText t ++ rest) ≡ got t rest
@@ -120,15 +121,15 @@ module _ (declared : ℕ) (small : declared ≤ 65536) where
         let fit = three-fit (ascii "(ite ") (formulaText f) (termText x) (termText y) h in
         ap (λ (bytes : List ℕ). readTerm deep declared bytes) (three-then (ascii "(ite ") (formulaText f) (termText x) (termText y) rest)
         ∙ term-by deep _ (fit .some) (choice-read _)
-          (three-read choice (readFormula (deep - 1) declared) (readTerm (deep - 1) declared) (readTerm (deep - 1) declared)
-            (formula-read f (deep - 1) _ (s .0) (fit .first)) (term-read x (deep - 1) _ (s .1) (fit .second) refl)
-            (term-read y (deep - 1) _ (s .2) (fit .third) refl))
+        (three-read choice (readFormula (deep - 1) declared) (readTerm (deep - 1) declared) (readTerm (deep - 1) declared)
+        (formula-read f (deep - 1) _ (s .0) (fit .first)) (term-read x (deep - 1) _ (s .1) (fit .second) refl)
+        (term-read y (deep - 1) _ (s .2) (fit .third) refl))
     term-read (apply o x y) deep rest s h none =
         let fit = two-fit (operationWord o) (termText x) (termText y) h in
         ap (λ (bytes : List ℕ). readTerm deep declared bytes) (two-then (operationWord o) (termText x) (termText y) rest)
         ∙ term-by deep _ (fit .some) (operation-read o _)
-          (two-read (apply o) (readTerm (deep - 1) declared) (readTerm (deep - 1) declared)
-            (term-read x (deep - 1) _ (s .0) (fit .first) refl) (term-read y (deep - 1) _ (s .1) (fit .second) refl))
+        (two-read (apply o) (readTerm (deep - 1) declared) (readTerm (deep - 1) declared)
+        (term-read x (deep - 1) _ (s .0) (fit .first) refl) (term-read y (deep - 1) _ (s .1) (fit .second) refl))
 
     pub formula-read :
         (f : Formula) (deep : ℕ) (rest : List ℕ) → FormulaSpellable declared f → length (formulaText f) ≤ deep
@@ -138,8 +139,8 @@ module _ (declared : ℕ) (small : declared ≤ 65536) where
         let fit = two-fit (testWord t) (termText x) (termText y) h in
         ap (λ (bytes : List ℕ). readFormula deep declared bytes) (two-then (testWord t) (termText x) (termText y) rest)
         ∙ formula-by deep _ (fit .some) (test-read t _)
-          (two-read (test t) (readTerm (deep - 1) declared) (readTerm (deep - 1) declared)
-            (term-read x (deep - 1) _ (s .0) (fit .first) refl) (term-read y (deep - 1) _ (s .1) (fit .second) refl))
+        (two-read (test t) (readTerm (deep - 1) declared) (readTerm (deep - 1) declared)
+        (term-read x (deep - 1) _ (s .0) (fit .first) refl) (term-read y (deep - 1) _ (s .1) (fit .second) refl))
     formula-read (negation f) deep rest s h =
         let size = length-append (formulaText f) (41 ∷ []) in
         ap (λ (bytes : List ℕ). readFormula deep declared (ascii "(not " ++ bytes)) (append-assoc (formulaText f) (41 ∷ []) rest)
@@ -148,12 +149,12 @@ module _ (declared : ℕ) (small : declared ≤ 65536) where
         let fit = two-fit (connectiveWord c) (formulaText f) (formulaText g) h in
         ap (λ (bytes : List ℕ). readFormula deep declared bytes) (two-then (connectiveWord c) (formulaText f) (formulaText g) rest)
         ∙ formula-by deep _ (fit .some) (connective-read c _)
-          (two-read (join c) (readFormula (deep - 1) declared) (readFormula (deep - 1) declared)
-            (formula-read f (deep - 1) _ (s .0) (fit .first)) (formula-read g (deep - 1) _ (s .1) (fit .second)))
+        (two-read (join c) (readFormula (deep - 1) declared) (readFormula (deep - 1) declared)
+        (formula-read f (deep - 1) _ (s .0) (fit .first)) (formula-read g (deep - 1) _ (s .1) (fit .second)))
     formula-read (select f g h) deep rest s fits =
         let fit = three-fit (ascii "(ite ") (formulaText f) (formulaText g) (formulaText h) fits in
         ap (λ (bytes : List ℕ). readFormula deep declared bytes) (three-then (ascii "(ite ") (formulaText f) (formulaText g) (formulaText h) rest)
         ∙ formula-by deep _ (fit .some) (choice-read _)
-          (three-read select (readFormula (deep - 1) declared) (readFormula (deep - 1) declared) (readFormula (deep - 1) declared)
-            (formula-read f (deep - 1) _ (s .0) (fit .first)) (formula-read g (deep - 1) _ (s .1) (fit .second))
-            (formula-read h (deep - 1) _ (s .2) (fit .third)))
+        (three-read select (readFormula (deep - 1) declared) (readFormula (deep - 1) declared) (readFormula (deep - 1) declared)
+        (formula-read f (deep - 1) _ (s .0) (fit .first)) (formula-read g (deep - 1) _ (s .1) (fit .second))
+        (formula-read h (deep - 1) _ (s .2) (fit .third)))
