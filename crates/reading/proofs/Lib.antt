@@ -1,0 +1,5 @@
+pub mod Words
+pub mod Numbers
+pub mod Terms
+pub mod Scripts
+pub mod Examples
