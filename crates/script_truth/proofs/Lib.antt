@@ -1,2 +1,4 @@
 pub mod Links
 pub mod Reading
+pub mod Expressions
+pub mod Lines
