@@ -32,7 +32,7 @@ module _ (case : Case) (xs : List ℕ) where
   abbrev α : Assignment
   α = assignmentOf case xs
 
-  before-value : (i g : ℕ) → value (Assertions.valueBefore case i g) env ≡ valueBefore case α i g
+  pub before-value : (i g : ℕ) → value (Assertions.valueBefore case i g) env ≡ valueBefore case α i g
   unfolding Assertions.valueBefore valueBefore value assignmentOf
   before-value zero g = refl
   before-value (suc i) g = refl
