@@ -9,7 +9,7 @@ use native.Mathlib.Omega.{arith}
 use lib.Dec.{eqb, ltb}
 use borrow.Author.Tests.{lt-ltb, ne-eqb}
 use Rattle.model.specs.Word.{bit, nonzero}
-use Rattle.model.specs.Limits.{localCount, highestGuard, highestOp}
+use Rattle.model.specs.Limits.{localCount, highestOp}
 use Rattle.model.specs.CaseFile.{Kind, compute, store, load, input, assert, assume, lock, unlock, Line, Case}
 use Rattle.model.specs.Line.{localName, guardName, nameOfA, hasExpression, nameOfB, Reads, guardTrue, apply, operandValue, expression}
 use Rattle.model.specs.Assignment.{Assignment, assignmentOf}
@@ -20,15 +20,9 @@ use Rattle.smt.specs.Script.{environment}
 use Rattle.script.specs.Assertions.{equal, operand, comparison, operation, withFacts, isExpression, isTruth}
 use Rattle.script.specs.Assertions
 use Rattle.laws.proofs.Views.{EqView, same, diff, eq-view, LtView, below, above, lt-view}
+use Rattle.script_truth.proofs.Fields.{Fields}
 use Rattle.script_truth.proofs.Links.{same-value, with-facts}
 use Rattle.script_truth.proofs.Reading.{local-value}
-
--- What check 9 gives of a line's fields, whatever its kind.
-pub record Fields (l : Line) : Type 0 where
-  pub guard : l .guard ≤ highestGuard
-  pub op : l .op ≤ highestOp
-  pub a : l .a ≤ localCount
-  pub b : l .b ≤ localCount
 
 cond-is-bit : (p : Bool) → cond p 1 0 ≡ bit p
 cond-is-bit true = refl

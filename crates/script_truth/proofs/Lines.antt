@@ -16,8 +16,9 @@ use Rattle.smt.specs.Script.{environment}
 use Rattle.script.specs.Assertions.{guardedIn, guardedOut, lineAssertion, mutexFree, demandAssertion}
 use Rattle.script.specs.Assertions
 use Rattle.laws.proofs.Views.{EqView, same, diff, eq-view}
+use Rattle.script_truth.proofs.Fields.{Fields}
 use Rattle.script_truth.proofs.Reading.{OwnBlock, name-is-read}
-use Rattle.script_truth.proofs.Expressions.{Fields, expression-is, truth-is, guard-value, line-expression}
+use Rattle.script_truth.proofs.Expressions.{expression-is, truth-is, guard-value, line-expression}
 
 cond-of-eqb : (p : Bool) (v x y : ℕ) → cond p (eqb v x) (eqb v y) ≡ eqb v (cond p x y)
 cond-of-eqb true v x y = refl

@@ -22,7 +22,7 @@ use Rattle.laws.specs.Order.{AllLines, AllThreads}
 use Rattle.laws.proofs.Views.{EqView, same, diff, eq-view}
 use Rattle.script_truth.proofs.Links.{same-value}
 use Rattle.script_truth.proofs.Reading.{OwnBlock, before-value}
-use Rattle.script_truth.proofs.Expressions.{Fields}
+use Rattle.script_truth.proofs.Fields.{Fields}
 use Rattle.script_truth.proofs.Lines.{line-value, demand-value}
 
 -- A line that its number finds, with fields that check 9 lets pass, in one of its thread's blocks.
