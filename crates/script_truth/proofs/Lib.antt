@@ -5,3 +5,5 @@ pub mod Expressions
 pub mod Lines
 pub mod Rows
 pub mod Truth
+pub mod Spelled
+pub mod SpelledTable
