@@ -12,7 +12,7 @@ use lib.ListN.{getD}
 use borrow.Author.Tests.{eqb-false, ltb-true, leb-true}
 use Rattle.model.specs.Word.{wordSize}
 use Rattle.model.specs.Limits.{localCount}
-use Rattle.model.specs.CaseFile.{Kind, compute, store, load, input, assert, assume, lock, unlock, Line, Case, itemCount}
+use Rattle.model.specs.CaseFile.{Kind, compute, store, load, input, assert, assume, lock, unlock, Line, Case, itemCount, lineAt}
 use Rattle.model.specs.Line.{itemName, operandA, targetName}
 use Rattle.model.specs.Assignment.{variables}
 use Rattle.smt.specs.Term.{Test, Term, constant, Formula}
@@ -22,7 +22,7 @@ use Rattle.laws.specs.Order.{AllLines, AllThreads}
 use Rattle.script_truth.specs.Spellable.{TermSpellable, FormulaSpellable}
 
 -- What is so of what a test takes, either way.
-taken : {A : Type 0} (P : A → Type 0) (p : Bool) (x y : A) → (p ≡ true → P x) → (p ≡ false → P y) → P (cond p x y)
+pub taken : {A : Type 0} (P : A → Type 0) (p : Bool) (x y : A) → (p ≡ true → P x) → (p ≡ false → P y) → P (cond p x y)
 taken P true x y f g = f refl
 taken P false x y f g = g refl
 
@@ -31,8 +31,9 @@ abbrev pub AllRecords : ℕ → List ℕ → Type 0
 AllRecords R [] = Unit
 AllRecords R (s ∷ sources) = RecordNumber R s × AllRecords R sources
 
--- A line's own number is a record's, and its constant has 16 bits.
+-- A line's own number is a record's and finds it, and its constant has 16 bits.
 pub record Spells (case : Case) (l : Line) : Type 0 where
+  pub found : lineAt case (l .number) ≡ l
   pub number : RecordNumber (case .R) (l .number)
   pub constant : l .c < wordSize
 
