@@ -79,7 +79,8 @@ module _ (env : ℕ → ℕ) where
     unfolding isTruth meets value tested
     truth-is =
         with-facts env sources op x y _
-        ∙ ap (eqb (value v env)) (cond-is-not-bit (eqb (value (Assertions.expression op x y) env) 0) ∙ ap (λ (n : ℕ). bit (nonzero n)) (operation-value op x y few))
+        ∙ ap (eqb (value v env)) (cond-is-not-bit (eqb (value (Assertions.expression op x y) env) 0)
+        ∙ ap (λ (n : ℕ). bit (nonzero n)) (operation-value op x y few))
 
 module _ (case : Case) (xs : List ℕ) where
   abbrev env : ℕ → ℕ

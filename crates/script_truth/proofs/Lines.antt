@@ -1,7 +1,7 @@
 -- Constraints 4 and 5 of a line: the assertion is true exactly if the constraint holds, where the line is in one of its thread's blocks.
 -- Assumes nothing. Met again in Rows.
-use mathlib.Core.Path.{_≡_, refl, sym, ap, ap₂, _∙_}
-use Prim.Native.Nat.{ℕ, _<_}
+use mathlib.Core.Path.{_≡_, refl, sym, ap, _∙_}
+use Prim.Native.Nat.{ℕ}
 use mathlib.Core.Bool.{Bool, true, false, cond, not, _&&_, _||_}
 use mathlib.Core.List.{List}
 use lib.Dec.{eqb}
@@ -40,7 +40,8 @@ lock-reads-zero : (p : Bool) (n : ℕ) → (not p || eqb 0 n) ≡ not (p && nonz
 lock-reads-zero true n = not-nonzero n
 lock-reads-zero false n = refl
 
-module _ (case : Case) (xs sources : List ℕ) (l : Line) (fields : Fields l) (own : OwnBlock case (l .thread) (assignmentOf case xs .block (l .number))) where
+module _ (case : Case) (xs sources : List ℕ) (l : Line) (fields : Fields l)
+    (own : OwnBlock case (l .thread) (assignmentOf case xs .block (l .number))) where
   abbrev env : ℕ → ℕ
   env = environment xs
 
@@ -67,7 +68,8 @@ module _ (case : Case) (xs sources : List ℕ) (l : Line) (fields : Fields l) (o
         truth-is env sources (Assertions.valueOf (l .number)) (l .op) _ _ (fields .op)
         ∙ ap (λ (n : ℕ). eqb (α .value (l .number)) (bit (nonzero n))) (line-expression case xs l guard a b target fields has)
 
-    in-value : (kind : Kind) → l .kind ≡ kind → meets (guardedIn kind case sources l a b) env ≡ eqb (α .value (l .number)) (guardedInValue kind l reads)
+    in-value : (kind : Kind) → l .kind ≡ kind
+        → meets (guardedIn kind case sources l a b) env ≡ eqb (α .value (l .number)) (guardedInValue kind l reads)
     unfolding guardedIn guardedInValue meets value tested assignmentOf
     in-value compute e = is-line-expression (ap hasExpression e)
     in-value store e = is-line-expression (ap hasExpression e)
@@ -100,7 +102,8 @@ module _ (case : Case) (xs sources : List ℕ) (l : Line) (fields : Fields l) (o
         go : EqView (l .guard) 0 → meets (lineAssertion case sources l guard a b target) env ≡ eqb (α .value (l .number)) (valueOf l reads)
         go (same e q) = rw (q, guard-always l reads e) (in-value (l .kind) refl)
         go (diff some q) =
-            rw (q, guard-value case xs l guard reads fields some refl, in-value (l .kind) refl, out-value (l .kind)) (cond-of-eqb (guardTrue l reads) _ _ _)
+            rw (q, guard-value case xs l guard reads fields some refl, in-value (l .kind) refl, out-value (l .kind))
+            (cond-of-eqb (guardTrue l reads) _ _ _)
 
   module _ (guard target : ℕ) where
     abbrev demandReads : Reads
@@ -115,9 +118,12 @@ module _ (case : Case) (xs sources : List ℕ) (l : Line) (fields : Fields l) (o
 
         go : EqView (l .guard) 0 → meets (mutexFree case sources l guard target) env ≡ not (guardTrue l demandReads && nonzero (demandReads .target))
         go (same e q) = rw (q, guard-always l demandReads e) (free ∙ not-nonzero (demandReads .target))
-        go (diff some q) = rw (q, guard-value case xs l guard demandReads fields some refl, free) (lock-reads-zero (guardTrue l demandReads) (demandReads .target))
+        go (diff some q) =
+            rw (q, guard-value case xs l guard demandReads fields some refl, free)
+            (lock-reads-zero (guardTrue l demandReads) (demandReads .target))
 
-    pub demand-value : (kind : Kind) → meets (demandAssertion kind case sources l guard target) env ≡ demandMet kind l demandReads (α .value (l .number))
+    pub demand-value : (kind : Kind)
+        → meets (demandAssertion kind case sources l guard target) env ≡ demandMet kind l demandReads (α .value (l .number))
     unfolding demandAssertion demandMet meets value tested assignmentOf
     demand-value compute = refl
     demand-value store = refl

@@ -7,8 +7,8 @@ use mathlib.Core.List.{List, [], _∷_}
 use lib.Dec.{eqb, leb}
 use borrow.Author.Tests.{eqb-true}
 use Rattle.laws.proofs.Views.{EqView, same, diff, eq-view}
-use Rattle.smt.specs.Term.{Test, Term, Formula, test, tested, joined, value, meets}
-use Rattle.script.specs.Assertions.{valueOf, linked, isVariable, comparison, factOf, factsWith, facts, withFacts}
+use Rattle.smt.specs.Term.{Test, Term, Formula, tested, joined, value, meets}
+use Rattle.script.specs.Assertions.{valueOf, linked, isVariable, comparison, factsWith, facts, withFacts}
 use Rattle.script.specs.Assertions
 
 -- Two formulas that are both true or both false, beside one that gives that they are.

@@ -1,5 +1,5 @@
--- What a line reads: "x is what is read" is true exactly if x has the value that the model reads. A line of its thread's own blocks
--- needs no other.
+-- What a line reads: "x is what is read" is true exactly if x has the value that the model reads. Only the blocks of the line's own
+-- thread are tested, so the line has to be in one of them.
 -- Assumes nothing. Met again in Lines.
 use mathlib.Core.Path.{_≡_, refl, ap, _∙_}
 use Prim.Native.Nat.{ℕ, zero, suc, _+_, _-_, _*_, _/_, _%_, _≤_, _<_}
@@ -49,7 +49,8 @@ module _ (case : Case) (xs : List ℕ) where
     block-is-tested k g zero i q e few upto = absurd (omega arith)
     block-is-tested k g (suc most) i zero e few upto =
         let here : α .block k ≡ i = omega (arith, e, mul-zero (case .T)) in
-        rw (le-leb i (case .n) (omega arith), eq-eqb (α .block k) i here, here) (same-value env sources x _ ∙ ap (eqb (value x env)) (before-value i g))
+        rw (le-leb i (case .n) (omega arith), eq-eqb (α .block k) i here, here)
+        (same-value env sources x _ ∙ ap (eqb (value x env)) (before-value i g))
     block-is-tested k g (suc most) i (suc q) e few upto =
         rw (le-leb i (case .n) (omega arith)) (go (eq-view (α .block k) i)
         (block-is-tested k g most (i + case .T) q (omega (arith, e, mul-suc (case .T) q)) (omega arith) upto))
@@ -65,7 +66,8 @@ module _ (case : Case) (xs : List ℕ) where
 
     module _ (l : Line) (own : OwnBlock case (l .thread) (α .block (l .number))) where
       before-block : (g : ℕ)
-          → meets (readBefore case sources x (l .number) g (ownBlocks case (l .thread))) env ≡ eqb (value x env) (valueBefore case α (α .block (l .number)) g)
+          → meets (readBefore case sources x (l .number) g (ownBlocks case (l .thread))) env
+          ≡ eqb (value x env) (valueBefore case α (α .block (l .number)) g)
       before-block g =
           let i = α .block (l .number) in
           block-is-tested (l .number) g (suc (case .n)) (l .thread) (i / case .T)
@@ -76,7 +78,8 @@ module _ (case : Case) (xs : List ℕ) where
       item-is-read g p = go (eq-view p 0)
         where
           by-copy : (here : Bool)
-              → cond here (meets (Assertions.same sources x (Assertions.valueOf p)) env) (meets (readBefore case sources x (l .number) g (ownBlocks case (l .thread))) env)
+              → cond here (meets (Assertions.same sources x (Assertions.valueOf p)) env)
+              (meets (readBefore case sources x (l .number) g (ownBlocks case (l .thread))) env)
               ≡ eqb (value x env) (cond here (α .value p) (valueBefore case α (α .block (l .number)) g))
           by-copy true = same-value env sources x (Assertions.valueOf p)
           by-copy false = before-block g
@@ -85,7 +88,8 @@ module _ (case : Case) (xs : List ℕ) where
           go (same e q) = rw q (before-block g)
           go (diff e q) = rw q (by-copy (eqb (α .block p) (α .block (l .number))))
 
-      pub name-is-read : (name p : ℕ) → meets (Assertions.readName case sources x l name p) env ≡ eqb (value x env) (readName case α (α .block (l .number)) name p)
+      pub name-is-read : (name p : ℕ)
+          → meets (Assertions.readName case sources x l name p) env ≡ eqb (value x env) (readName case α (α .block (l .number)) name p)
       unfolding Assertions.readName readName meets tested value
       name-is-read name p = go (lt-view name localCount) (lt-view (name - localCount) (itemCount case))
         where

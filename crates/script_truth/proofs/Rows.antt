@@ -1,7 +1,7 @@
 -- The assertions of the rows, kind by kind: that of a 4 or a 5 is true exactly if the row holds where its line is in one of its
 -- thread's blocks, and the others whatever the assignment is.
 -- Assumes nothing. Met again in Truth.
-use mathlib.Core.Path.{_≡_, refl, sym, ap, ap₂, _∙_}
+use mathlib.Core.Path.{_≡_, refl, sym, ap, _∙_}
 use Prim.Native.Nat.{ℕ, zero, suc, _%_, _<_}
 use mathlib.Core.Bool.{Bool, true, false, cond, _||_, or-assoc}
 use mathlib.Core.List.{List, [], _∷_, _++_, reverse}
@@ -118,7 +118,8 @@ module _ (case : Case) (xs sources : List ℕ) where
   unfolding blockRows
   blocks-agree i zero = tt
   blocks-agree i (suc many) =
-      all-agree-append (itemRows case (reverse (linesOf case (i % case .T))) i 0 (itemCount case)) _ (items-agree _ i 0 (itemCount case)) (blocks-agree (suc i) many)
+      all-agree-append (itemRows case (reverse (linesOf case (i % case .T))) i 0 (itemCount case)) _
+      (items-agree _ i 0 (itemCount case)) (blocks-agree (suc i) many)
 
   -- ---- Constraint 7.
   or-break : (kind : Kind) (l : Line) (reads : Reads) (others : Formula)
@@ -133,13 +134,15 @@ module _ (case : Case) (xs sources : List ℕ) where
   or-break lock l reads others = refl
   or-break unlock l reads others = refl
 
-  some-break : (earlier ls : List Line) (others : Formula) → meets (Assertions.someBreaks ls others) env ≡ (someBreaks case α earlier ls || meets others env)
+  some-break : (earlier ls : List Line) (others : Formula)
+      → meets (Assertions.someBreaks ls others) env ≡ (someBreaks case α earlier ls || meets others env)
   unfolding Assertions.someBreaks someBreaks
   some-break earlier [] others = refl
   some-break earlier (l ∷ ls) others =
       or-break (l .kind) l (readsAfter case α earlier l) (Assertions.someBreaks ls others)
       ∙ ap (λ (p : Bool). breaks (l .kind) l (readsAfter case α earlier l) (α .value (l .number)) || p) (some-break (l ∷ earlier) ls others)
-      ∙ sym (or-assoc (breaks (l .kind) l (readsAfter case α earlier l) (α .value (l .number))) (someBreaks case α (l ∷ earlier) ls) (meets others env))
+      ∙ sym (or-assoc (breaks (l .kind) l (readsAfter case α earlier l) (α .value (l .number)))
+      (someBreaks case α (l ∷ earlier) ls) (meets others env))
 
   some-thread-break : (threads : List (List Line)) → meets (Assertions.someThreadBreaks threads) env ≡ someThreadBreaks case α threads
   unfolding Assertions.someThreadBreaks someThreadBreaks meets

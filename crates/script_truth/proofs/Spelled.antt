@@ -2,7 +2,7 @@
 -- blocks and items.
 -- Assumes nothing. Met again in SpelledTable.
 use mathlib.Core.Path.{_≡_, refl}
-use Prim.Native.Nat.{ℕ, zero, suc, _+_, _-_, _*_, _≤_, _<_}
+use Prim.Native.Nat.{ℕ, zero, suc, _+_, _-_, _≤_, _<_}
 use mathlib.Core.Bool.{Bool, true, false, cond, _&&_}
 use mathlib.Core.List.{List, [], _∷_}
 use native.Mathlib.Omega.{arith}
@@ -81,7 +81,8 @@ module _ (case : Case) (few : case .n < wordSize) (initials : (g : ℕ) → getD
         (((first, source), (second, source)), linked-spelled sources (all .1))
 
     module _ (t : Test) where
-      first-facts-spelled : (s : ℕ) (others : List ℕ) (base : Formula) → Known s → AllRecords (case .R) others → F base → F (factsWith t x y s others base)
+      first-facts-spelled : (s : ℕ) (others : List ℕ) (base : Formula) → Known s → AllRecords (case .R) others → F base
+          → F (factsWith t x y s others base)
       unfolding factsWith FormulaSpellable
       first-facts-spelled s [] base one all b = b
       first-facts-spelled s (u ∷ others) base one all b =
@@ -103,7 +104,8 @@ module _ (case : Case) (few : case .n < wordSize) (initials : (g : ℕ) → getD
 
     -- ---- Reads.
     module _ (x : Term) (spelled : T x) where
-      read-before-spelled : (k g most i : ℕ) → Known k → g < itemCount case → F (readBefore case sources x k g (blocksFrom (case .T) (case .n) most i))
+      read-before-spelled : (k g most i : ℕ) → Known k → g < itemCount case
+          → F (readBefore case sources x k g (blocksFrom (case .T) (case .n) most i))
       unfolding readBefore blocksFrom FormulaSpellable
       read-before-spelled k g zero i own h = tt
       read-before-spelled k g (suc most) i own h = go (read-before-spelled k g most (i + case .T) own h)
@@ -120,7 +122,8 @@ module _ (case : Case) (few : case .n < wordSize) (initials : (g : ℕ) → getD
       item-is-spelled l g p own h copy =
           let before = read-before-spelled (l .number) g (suc (case .n)) (l .thread) own h in
           taken F (eqb p 0) (readBefore case sources x (l .number) g (ownBlocks case (l .thread))) _ (λ q. before)
-          (λ q. ((block-spelled p (copy-known p copy q), block-spelled (l .number) own), same-spelled x (valueOf p) spelled (value-spelled p (copy-known p copy q)), before))
+          (λ q. let some = copy-known p copy q in
+          ((block-spelled p some, block-spelled (l .number) own), same-spelled x (valueOf p) spelled (value-spelled p some), before))
 
       name-spelled : (l : Line) (name p : ℕ) → Known (l .number) → p ≤ case .R → F (readName case sources x l name p)
       unfolding readName FormulaSpellable
@@ -206,15 +209,18 @@ module _ (case : Case) (few : case .n < wordSize) (initials : (g : ℕ) → getD
       unfolding lineAssertion FormulaSpellable
       line-spelled guard a b target g p q r =
           let inside = in-spelled (l .kind) a b p q in
-          taken F (eqb (l .guard) 0) (guardedIn (l .kind) case sources l a b) _ (λ e. inside) (λ e. (guard-spelled l guard g, inside, out-spelled (l .kind) target r))
+          taken F (eqb (l .guard) 0) (guardedIn (l .kind) case sources l a b) _ (λ e. inside)
+          (λ e. (guard-spelled l guard g, inside, out-spelled (l .kind) target r))
 
       free-spelled : (guard target : ℕ) → guard ≤ case .R → target ≤ case .R → F (mutexFree case sources l guard target)
       unfolding mutexFree FormulaSpellable TermSpellable
       free-spelled guard target g p =
           let free = name-spelled (constant 0) (omega arith) l (targetName (case .G) l) target (line .number) p in
-          taken F (eqb (l .guard) 0) (readName case sources (constant 0) l (targetName (case .G) l) target) _ (λ e. free) (λ e. (guard-spelled l guard g, free))
+          taken F (eqb (l .guard) 0) (readName case sources (constant 0) l (targetName (case .G) l) target) _ (λ e. free)
+          (λ e. (guard-spelled l guard g, free))
 
-      pub demand-spelled : (kind : Kind) (guard target : ℕ) → guard ≤ case .R → target ≤ case .R → F (demandAssertion kind case sources l guard target)
+      pub demand-spelled : (kind : Kind) (guard target : ℕ) → guard ≤ case .R → target ≤ case .R
+          → F (demandAssertion kind case sources l guard target)
       unfolding demandAssertion FormulaSpellable
       demand-spelled compute guard target g p = tt
       demand-spelled store guard target g p = tt
@@ -226,7 +232,8 @@ module _ (case : Case) (few : case .n < wordSize) (initials : (g : ℕ) → getD
       demand-spelled unlock guard target g p = tt
 
     -- ---- Constraints 6 and 7.
-    pub walk-spelled : (i g : ℕ) (ls : List Line) → i < case .n → g < itemCount case → AllLines (Spells case) ls → F (walkBack case sources i g ls)
+    pub walk-spelled : (i g : ℕ) (ls : List Line) → i < case .n → g < itemCount case → AllLines (Spells case) ls
+        → F (walkBack case sources i g ls)
     unfolding walkBack FormulaSpellable
     walk-spelled i g [] h k all = same-spelled (blockValue case i g) (valueBefore case i g) (item-spelled i g h k) (before-spelled i g (omega arith) k)
     walk-spelled i g (l ∷ ls) h k all = go (walk-spelled i g ls h k (all .1))

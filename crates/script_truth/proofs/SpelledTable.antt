@@ -2,7 +2,7 @@
 -- Assumes nothing. Met again where the text of a script is read back.
 use mathlib.Core.Path.{_≡_}
 use Prim.Native.Nat.{ℕ, zero, suc, _+_, _*_, _%_, _≤_, _<_}
-use mathlib.Core.Bool.{Bool, true, false, cond}
+use mathlib.Core.Bool.{Bool, true, false}
 use mathlib.Core.List.{List, [], _∷_, _++_, reverse, reverseAux}
 use native.Mathlib.Omega.{arith}
 use lib.Dec.{eqb, ltb}
@@ -27,7 +27,6 @@ use Rattle.laws.proofs.Below.{below-at}
 use Rattle.laws.proofs.Chains.{thread-count}
 use Rattle.laws.proofs.LineFound.{line-found}
 use Rattle.laws.proofs.Sizes.{assignment-numbers}
-use Rattle.correspondence.specs.Meaning.{WellFormed}
 use Rattle.correspondence.proofs.WellFormed.{field-below, all-lines-by, well-formed}
 use Rattle.script_truth.specs.Spellable.{FormulaSpellable, AllSpellable}
 use Rattle.script_truth.proofs.Spelled.{taken, AllRecords, Spells, block-spelled, line-spelled, demand-spelled, walk-spelled, goal-spelled}
@@ -85,7 +84,8 @@ module _ (case : Case) (few : case .n < wordSize) (initials : (g : ℕ) → getD
   rows-append [] us h g = g
   rows-append (w ∷ ws) us h g = (h .0, rows-append ws us (h .1) g)
 
-  order-spelled : (t : ℕ) (earlier ls : List Line) → t < wordSize → case .T < wordSize → AllLines (Spells case) ls → Rows (orderRows case t earlier ls)
+  order-spelled : (t : ℕ) (earlier ls : List Line) → t < wordSize → case .T < wordSize → AllLines (Spells case) ls
+      → Rows (orderRows case t earlier ls)
   unfolding orderRows lineOrderRows followRow assertionsOf assertionOf AllSpellable FormulaSpellable
   order-spelled t earlier [] small low all = tt
   order-spelled t earlier (l ∷ []) small low all =
@@ -101,9 +101,11 @@ module _ (case : Case) (few : case .n < wordSize) (initials : (g : ℕ) → getD
   unfolding allOrderRows assertionsOf AllSpellable
   orders-spelled t [] small low all = tt
   orders-spelled t (ls ∷ threads) small low all =
-      rows-append (orderRows case t [] ls) _ (order-spelled t [] ls (omega arith) low (all .0)) (orders-spelled (suc t) threads (omega arith) low (all .1))
+      rows-append (orderRows case t [] ls) _ (order-spelled t [] ls (omega arith) low (all .0))
+      (orders-spelled (suc t) threads (omega arith) low (all .1))
 
-  demand-row-spelled : (kind : Kind) (earlier : List Line) (l : Line) → Spells case l → AllLines (Spells case) earlier → Rows (demandRows kind case earlier l)
+  demand-row-spelled : (kind : Kind) (earlier : List Line) (l : Line) → Spells case l → AllLines (Spells case) earlier
+      → Rows (demandRows kind case earlier l)
   unfolding demandRows assertionsOf assertionOf AllSpellable
   demand-row-spelled compute earlier l line before = tt
   demand-row-spelled store earlier l line before = tt
@@ -112,9 +114,11 @@ module _ (case : Case) (few : case .n < wordSize) (initials : (g : ℕ) → getD
   demand-row-spelled assert earlier l line before = tt
   demand-row-spelled assume earlier l line before =
       (rw (line .found) (demand-spelled case few initials sources known l line (l .kind) 0 0 (omega arith) (omega arith)), tt)
-  demand-row-spelled lock earlier l line before =
-      (rw (line .found) (demand-spelled case few initials sources known l line (l .kind) _ _
-      (copy-low case (guardName l) earlier before) (copy-low case (targetName (case .G) l) earlier before)), tt)
+  demand-row-spelled lock earlier l line before = (
+    rw (line .found) (demand-spelled case few initials sources known l line (l .kind) _ _
+        (copy-low case (guardName l) earlier before) (copy-low case (targetName (case .G) l) earlier before)),
+    tt,
+  )
   demand-row-spelled unlock earlier l line before = tt
 
   values-spelled : (earlier ls : List Line) → AllLines (Spells case) earlier → AllLines (Spells case) ls → Rows (valueRows case earlier ls)
@@ -124,13 +128,15 @@ module _ (case : Case) (few : case .n < wordSize) (initials : (g : ℕ) → getD
     rw (all .0 .found) (line-spelled case few initials sources known l (all .0) _ _ _ _
         (copy-low case (guardName l) earlier before) (copy-low case (operandA l) earlier before)
         (copy-low case (operandB l) earlier before) (copy-low case (targetName (case .G) l) earlier before)),
-    rows-append (demandRows (l .kind) case earlier l) _ (demand-row-spelled (l .kind) earlier l (all .0) before) (values-spelled (l ∷ earlier) ls (all .0, before) (all .1)),
+    rows-append (demandRows (l .kind) case earlier l) _ (demand-row-spelled (l .kind) earlier l (all .0) before)
+        (values-spelled (l ∷ earlier) ls (all .0, before) (all .1)),
   )
 
   all-values-spelled : (threads : List (List Line)) → AllThreads (Spells case) threads → Rows (allValueRows case threads)
   unfolding allValueRows assertionsOf AllSpellable
   all-values-spelled [] all = tt
-  all-values-spelled (ls ∷ threads) all = rows-append (valueRows case [] ls) _ (values-spelled [] ls tt (all .0)) (all-values-spelled threads (all .1))
+  all-values-spelled (ls ∷ threads) all =
+      rows-append (valueRows case [] ls) _ (values-spelled [] ls tt (all .0)) (all-values-spelled threads (all .1))
 
   module _ (all : AllThreads (Spells case) (case .threads)) where
     lines-back : (i : ℕ) → AllLines (Spells case) (reverse (linesOf case (i % case .T)))
@@ -148,7 +154,8 @@ module _ (case : Case) (few : case .n < wordSize) (initials : (g : ℕ) → getD
     unfolding blockRows assertionsOf AllSpellable
     blocks-spelled i zero high = tt
     blocks-spelled i (suc many) high =
-        rows-append (itemRows case (reverse (linesOf case (i % case .T))) i 0 (itemCount case)) _ (items-spelled _ i 0 (itemCount case) (omega arith) (omega arith))
+        rows-append (itemRows case (reverse (linesOf case (i % case .T))) i 0 (itemCount case)) _
+        (items-spelled _ i 0 (itemCount case) (omega arith) (omega arith))
         (blocks-spelled (suc i) many (omega arith))
 
     table-spelled : length (case .threads) < wordSize → case .T < wordSize → Rows (table case)
@@ -181,7 +188,9 @@ module _ (bytes : List ℕ) (accepted : verdict bytes ≡ verdicts.Accepted) whe
   script-spelled small =
       let case = caseOf bytes in
       let wf = well-formed bytes small ok in
-      table-spelled case (omega (arith, ok .few-switches)) (below-at wordSize (case .initial) (omega arith) (wf .small-initial)) (sourcesOf case) (sources-known case)
+      table-spelled case (omega (arith, ok .few-switches)) (below-at wordSize (case .initial) (omega arith) (wf .small-initial))
+      (sourcesOf case) (sources-known case)
       (all-threads (Spells case) (case .threads) (λ t few. all-spell case (linesOf case t) (line-found case (wf .once) t)
-      (all-lines-by bytes ok (Small case) t (λ k low high. record { number = record { some = low; low = high }; constant = field-below bytes small (8 + 8 * k + 7) }))))
+      (all-lines-by bytes ok (Small case) t (λ k low high.
+      record { number = record { some = low; low = high }; constant = field-below bytes small (8 + 8 * k + 7) }))))
       (omega (arith, thread-count bytes, ok .few-threads)) (omega (arith, ok .few-threads))

@@ -3,8 +3,8 @@
 -- Assumes nothing. This is where the other modules lead, but for Spelled.
 use mathlib.Core.Path.{_≡_, refl, sym, _∙_}
 use mathlib.Core.Logic.{_↔_}
-use Prim.Native.Nat.{ℕ, zero, suc, _+_, _<_}
-use mathlib.Core.Bool.{Bool, true, false, cond, _&&_}
+use Prim.Native.Nat.{ℕ, suc}
+use mathlib.Core.Bool.{Bool, true, false, cond}
 use mathlib.Core.List.{List, [], _∷_, _++_, append-assoc}
 use native.Mathlib.Omega.{arith}
 use native.Mathlib.Nat.{zero-add}
@@ -26,7 +26,6 @@ use Rattle.laws.specs.Order.{AllLines, AllThreads, Ordered}
 use Rattle.laws.proofs.Accepted.{accepted-of}
 use Rattle.laws.proofs.AllHold.{none-fails, all-hold-none-fails}
 use Rattle.laws.proofs.AllLines.{all-threads}
-use Rattle.laws.proofs.Chains.{thread-count}
 use Rattle.laws.proofs.LineFound.{line-found}
 use Rattle.laws.proofs.Lines.{numbers-once}
 use Rattle.laws.proofs.OrderRows.{order-of-all-rows}
@@ -121,7 +120,8 @@ module _ (bytes : List ℕ) (accepted : verdict bytes ≡ verdicts.Accepted) (xs
       let values = allValueRows case (case .threads) in
       let blocks = blockRows case 0 (case .n) in
       rw (append-assoc orders (values ++ blocks) (goalRow ∷ []), append-assoc values blocks (goalRow ∷ []))
-      (each-then case xs sources orders (values ++ (blocks ++ (goalRow ∷ []))) (all-order-agrees case xs sources (omega (arith, ok .some-threads)) 0 (case .threads))
+      (each-then case xs sources orders (values ++ (blocks ++ (goalRow ∷ [])))
+      (all-order-agrees case xs sources (omega (arith, ok .some-threads)) 0 (case .threads))
       (λ hold. each-then case xs sources values (blocks ++ (goalRow ∷ [])) (all-values-agree case xs sources (case .threads) (placed-of-rows hold))
       (λ hold'. each-then case xs sources blocks (goalRow ∷ []) (blocks-agree case xs sources 0 (case .n))
       (λ hold''. (goal-agrees case xs sources, λ e. tt)))))
@@ -129,14 +129,14 @@ module _ (bytes : List ℕ) (accepted : verdict bytes ≡ verdicts.Accepted) (xs
   pub first-false-is-first-row : firstFalse (environment xs) 1 (scriptOf case .assertions) ≡ firstFailing case α 1 (table case)
   first-false-is-first-row = first-false-is-first-failing case α (environment xs) 1 (table case) (scriptOf case .assertions) each-assertion-agrees
 
-  pub true-is-every-row : scriptTrue (scriptOf case) xs ≡ true ↔ AllHold case α (table case)
+  pub true-is-every-row : (scriptTrue (scriptOf case) xs ≡ true) ↔ AllHold case α (table case)
   unfolding scriptTrue
   true-is-every-row = (
     all-hold-of-all-meet case α (environment xs) (table case) (scriptOf case .assertions) each-assertion-agrees,
     all-meet-of-all-hold case α (environment xs) (table case) (scriptOf case .assertions) each-assertion-agrees,
   )
 
-  pub true-is-yes : length xs ≡ variables case → scriptTrue (scriptOf case) xs ≡ true ↔ checked bytes xs ≡ Meets
+  pub true-is-yes : length xs ≡ variables case → (scriptTrue (scriptOf case) xs ≡ true) ↔ (checked bytes xs ≡ Meets)
   true-is-yes sized = (
     (λ told. meets-of-passes bytes xs (record {
       accepted = accepted;
