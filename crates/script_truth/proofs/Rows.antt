@@ -1,0 +1,155 @@
+-- The assertions of the rows, kind by kind: that of a 4 or a 5 is true exactly if the row holds where its line is in one of its
+-- thread's blocks, and the others whatever the assignment is.
+-- Assumes nothing. Met again in Truth.
+use mathlib.Core.Path.{_≡_, refl, sym, ap, _∙_}
+use Prim.Native.Nat.{ℕ, zero, suc, _%_, _<_}
+use mathlib.Core.Bool.{Bool, true, false, cond, _||_, or-assoc}
+use mathlib.Core.List.{List, [], _∷_, _++_, reverse}
+use native.Mathlib.Omega.{arith}
+use lib.Dec.{eqb}
+use borrow.Author.Tests.{ne-eqb}
+use Rattle.model.specs.CaseFile.{Kind, compute, store, load, input, assert, assume, lock, unlock, Line, Case, linesOf, itemCount, lineAt}
+use Rattle.model.specs.Line.{itemName, targetName, Reads, breaks}
+use Rattle.model.specs.Assignment.{Assignment, assignmentOf}
+use Rattle.model.specs.Copies.{readsAfter, walkBack}
+use Rattle.model.specs.Table.{Row, followRow, lineOrderRows, orderRows, valueRow, demandRows, valueRows, allOrderRows, allValueRows, itemRows, blockRows, goalRow}
+use Rattle.model.specs.Holds.{someBreaks, someThreadBreaks, holds}
+use Rattle.smt.specs.Term.{Formula, value, meets, tested, joined, resultOf}
+use Rattle.smt.specs.Script.{environment}
+use Rattle.script.specs.Assertions.{orBreaks, assertionOf}
+use Rattle.script.specs.Assertions
+use Rattle.laws.specs.Order.{AllLines, AllThreads}
+use Rattle.laws.proofs.Views.{EqView, same, diff, eq-view}
+use Rattle.script_truth.proofs.Links.{same-value}
+use Rattle.script_truth.proofs.Reading.{OwnBlock, before-value}
+use Rattle.script_truth.proofs.Fields.{Fields}
+use Rattle.script_truth.proofs.Lines.{line-value, demand-value}
+
+-- A line that its number finds, with fields that check 9 lets pass, in one of its thread's blocks.
+pub record Placed (case : Case) (α : Assignment) (l : Line) : Type 0 where
+  pub found : lineAt case (l .number) ≡ l
+  pub fields : Fields l
+  pub own : OwnBlock case (l .thread) (α .block (l .number))
+
+module _ (case : Case) (xs sources : List ℕ) where
+  abbrev env : ℕ → ℕ
+  env = environment xs
+
+  abbrev α : Assignment
+  α = assignmentOf case xs
+
+  abbrev pub Agrees : Row → Type 0
+  Agrees w = meets (assertionOf case sources w) env ≡ holds case α w
+
+  abbrev pub AllAgree : List Row → Type 0
+  AllAgree [] = Unit
+  AllAgree (w ∷ ws) = Agrees w × AllAgree ws
+
+  all-agree-append : (ws us : List Row) → AllAgree ws → AllAgree us → AllAgree (ws ++ us)
+  all-agree-append [] us h g = g
+  all-agree-append (w ∷ ws) us h g = (h .0, all-agree-append ws us (h .1) g)
+
+  -- ---- Constraints 1, 2 and 3.
+  module _ (some : 0 < case .T) where
+    order-agrees : (t : ℕ) (earlier ls : List Line) → AllAgree (orderRows case t earlier ls)
+    unfolding orderRows lineOrderRows followRow assertionOf holds meets value tested resultOf assignmentOf
+    order-agrees t earlier [] = tt
+    order-agrees t earlier (l ∷ []) = (rw (ne-eqb (case .T) 0 (λ e. omega arith)), (refl, tt))
+    order-agrees t earlier (l ∷ (l' ∷ ls)) = (rw (ne-eqb (case .T) 0 (λ e. omega arith)), (refl, order-agrees t (l ∷ earlier) (l' ∷ ls)))
+
+    pub all-order-agrees : (t : ℕ) (threads : List (List Line)) → AllAgree (allOrderRows case t threads)
+    unfolding allOrderRows
+    all-order-agrees t [] = tt
+    all-order-agrees t (ls ∷ threads) = all-agree-append (orderRows case t [] ls) _ (order-agrees t [] ls) (all-order-agrees (suc t) threads)
+
+  -- ---- Constraints 4 and 5.
+  value-agrees : (earlier : List Line) (l : Line) → Placed case α l → Agrees (valueRow case earlier l)
+  unfolding assertionOf holds
+  value-agrees earlier l placed = rw (placed .found) (line-value case xs sources l (placed .fields) (placed .own) _ _ _ _)
+
+  demand-agrees : (kind : Kind) (earlier : List Line) (l : Line) → Placed case α l → AllAgree (demandRows kind case earlier l)
+  unfolding demandRows assertionOf holds
+  demand-agrees compute earlier l placed = tt
+  demand-agrees store earlier l placed = tt
+  demand-agrees load earlier l placed = tt
+  demand-agrees input earlier l placed = tt
+  demand-agrees assert earlier l placed = tt
+  demand-agrees assume earlier l placed = (rw (placed .found) (demand-value case xs sources l (placed .fields) (placed .own) 0 0 (l .kind)), tt)
+  demand-agrees lock earlier l placed = (rw (placed .found) (demand-value case xs sources l (placed .fields) (placed .own) _ _ (l .kind)), tt)
+  demand-agrees unlock earlier l placed = tt
+
+  values-agree : (earlier ls : List Line) → AllLines (Placed case α) ls → AllAgree (valueRows case earlier ls)
+  unfolding valueRows
+  values-agree earlier [] all = tt
+  values-agree earlier (l ∷ ls) all = (
+    value-agrees earlier l (all .0),
+    all-agree-append (demandRows (l .kind) case earlier l) _ (demand-agrees (l .kind) earlier l (all .0)) (values-agree (l ∷ earlier) ls (all .1)),
+  )
+
+  pub all-values-agree : (threads : List (List Line)) → AllThreads (Placed case α) threads → AllAgree (allValueRows case threads)
+  unfolding allValueRows
+  all-values-agree [] all = tt
+  all-values-agree (ls ∷ threads) all = all-agree-append (valueRows case [] ls) _ (values-agree [] ls (all .0)) (all-values-agree threads (all .1))
+
+  -- ---- Constraint 6.
+  walk-value : (i g : ℕ) (ls : List Line) → meets (Assertions.walkBack case sources i g ls) env ≡ eqb (α .blockValue i g) (walkBack case α i g ls)
+  unfolding Assertions.walkBack walkBack meets value tested assignmentOf
+  walk-value i g [] = same-value env sources (Assertions.blockValue case i g) _ ∙ ap (eqb (α .blockValue i g)) (before-value case xs i g)
+  walk-value i g (l ∷ ls) = go (eq-view (targetName (case .G) l) (itemName g)) (walk-value i g ls)
+    where
+      by-block : (here : Bool) (f : Formula) (n : ℕ) → meets f env ≡ eqb (α .blockValue i g) n
+          → cond here (meets (Assertions.same sources (Assertions.blockValue case i g) (Assertions.valueOf (l .number))) env) (meets f env)
+          ≡ eqb (α .blockValue i g) (cond here (α .value (l .number)) n)
+      by-block true f n rest = same-value env sources (Assertions.blockValue case i g) (Assertions.valueOf (l .number))
+      by-block false f n rest = rest
+
+      go : EqView (targetName (case .G) l) (itemName g)
+          → meets (Assertions.walkBack case sources i g ls) env ≡ eqb (α .blockValue i g) (walkBack case α i g ls)
+          → meets (Assertions.walkBack case sources i g (l ∷ ls)) env ≡ eqb (α .blockValue i g) (walkBack case α i g (l ∷ ls))
+      go (same e q) rest = rw q (by-block (eqb (α .block (l .number)) i) (Assertions.walkBack case sources i g ls) (walkBack case α i g ls) rest)
+      go (diff e q) rest = rw q rest
+
+  items-agree : (lines : List Line) (i g many : ℕ) → AllAgree (itemRows case lines i g many)
+  unfolding itemRows assertionOf holds
+  items-agree lines i g zero = tt
+  items-agree lines i g (suc many) = (walk-value i g _, items-agree lines i (suc g) many)
+
+  pub blocks-agree : (i many : ℕ) → AllAgree (blockRows case i many)
+  unfolding blockRows
+  blocks-agree i zero = tt
+  blocks-agree i (suc many) =
+      all-agree-append (itemRows case (reverse (linesOf case (i % case .T))) i 0 (itemCount case)) _
+      (items-agree _ i 0 (itemCount case)) (blocks-agree (suc i) many)
+
+  -- ---- Constraint 7.
+  or-break : (kind : Kind) (l : Line) (reads : Reads) (others : Formula)
+      → meets (orBreaks kind l others) env ≡ (breaks kind l reads (α .value (l .number)) || meets others env)
+  unfolding orBreaks breaks meets value tested joined assignmentOf
+  or-break compute l reads others = refl
+  or-break store l reads others = refl
+  or-break load l reads others = refl
+  or-break input l reads others = refl
+  or-break assert l reads others = refl
+  or-break assume l reads others = refl
+  or-break lock l reads others = refl
+  or-break unlock l reads others = refl
+
+  some-break : (earlier ls : List Line) (others : Formula)
+      → meets (Assertions.someBreaks ls others) env ≡ (someBreaks case α earlier ls || meets others env)
+  unfolding Assertions.someBreaks someBreaks
+  some-break earlier [] others = refl
+  some-break earlier (l ∷ ls) others =
+      or-break (l .kind) l (readsAfter case α earlier l) (Assertions.someBreaks ls others)
+      ∙ ap (λ (p : Bool). breaks (l .kind) l (readsAfter case α earlier l) (α .value (l .number)) || p) (some-break (l ∷ earlier) ls others)
+      ∙ sym (or-assoc (breaks (l .kind) l (readsAfter case α earlier l) (α .value (l .number)))
+      (someBreaks case α (l ∷ earlier) ls) (meets others env))
+
+  some-thread-break : (threads : List (List Line)) → meets (Assertions.someThreadBreaks threads) env ≡ someThreadBreaks case α threads
+  unfolding Assertions.someThreadBreaks someThreadBreaks meets
+  some-thread-break [] = refl
+  some-thread-break (ls ∷ threads) =
+      some-break [] ls (Assertions.someThreadBreaks threads) ∙ ap (λ (p : Bool). someBreaks case α [] ls || p) (some-thread-break threads)
+
+  pub goal-agrees : Agrees goalRow
+  unfolding assertionOf holds
+  goal-agrees = some-thread-break (case .threads)

@@ -1,0 +1,196 @@
+-- The script of an accepted case can be spelled: its variables are those that it declares, and its constants have 16 bits.
+-- Assumes nothing. Met again where the text of a script is read back.
+use mathlib.Core.Path.{_≡_}
+use Prim.Native.Nat.{ℕ, zero, suc, _+_, _*_, _%_, _≤_, _<_}
+use mathlib.Core.Bool.{Bool, true, false}
+use mathlib.Core.List.{List, [], _∷_, _++_, reverse, reverseAux}
+use native.Mathlib.Omega.{arith}
+use lib.Dec.{eqb, ltb}
+use lib.ListN.{getD, length}
+use Rattle.model.specs.Word.{wordSize, AllBelow}
+use Rattle.model.specs.CaseFile.{Kind, compute, store, load, input, assert, assume, lock, unlock, Line, Case, caseOf, linesOf, itemCount, lineAt}
+use Rattle.model.specs.Line.{noName, guardName, operandA, operandB, targetName, isInput}
+use Rattle.model.specs.Accept.{verdict}
+use Rattle.model.specs.Assignment.{variables}
+use Rattle.model.specs.Copies.{latest, copyOf}
+use Rattle.model.specs.Holds.{fromRecord}
+use Rattle.model.specs.Table.{Row, followRow, lineOrderRows, orderRows, demandRows, valueRows, allOrderRows, allValueRows, itemRows, blockRows, runRows, goalRow, table}
+use Rattle.model.specs.declared.Verdict.the-variants as verdicts
+use Rattle.smt.specs.Term.{bitVectors}
+use Rattle.script.specs.Assertions.{mostSources, source, sourcesFrom, sourcesOf, assertionOf, assertionsOf, scriptOf}
+use Rattle.laws.specs.Accepted.{Accepted}
+use Rattle.laws.specs.Order.{AllLines, AllThreads}
+use Rattle.laws.specs.RecordNumber.{RecordNumber}
+use Rattle.laws.proofs.Accepted.{accepted-of}
+use Rattle.laws.proofs.AllLines.{all-threads, each-thread}
+use Rattle.laws.proofs.Below.{below-at}
+use Rattle.laws.proofs.Chains.{thread-count}
+use Rattle.laws.proofs.LineFound.{line-found}
+use Rattle.laws.proofs.Sizes.{assignment-numbers}
+use Rattle.correspondence.proofs.WellFormed.{field-below, all-lines-by, well-formed}
+use Rattle.script_truth.specs.Spellable.{FormulaSpellable, AllSpellable}
+use Rattle.script_truth.proofs.Spelled.{taken, AllRecords, Spells, block-spelled, line-spelled, demand-spelled, walk-spelled, goal-spelled}
+
+-- ---- The sources are records.
+sources-from-known : (case : Case) (many k room : ℕ) → 0 < k → k + many ≤ suc (case .R) → AllRecords (case .R) (sourcesFrom case many k room)
+unfolding sourcesFrom
+sources-from-known case zero k room low high = tt
+sources-from-known case (suc many) k room low high =
+    go (isInput (lineAt case k .kind)) room (λ r. sources-from-known case many (suc k) r (omega arith) (omega arith))
+  where
+    go : (p : Bool) (r : ℕ) → ((r' : ℕ) → AllRecords (case .R) (sourcesFrom case many (suc k) r'))
+        → AllRecords (case .R) (source p k (sourcesFrom case many (suc k)) r)
+    go true zero rest = tt
+    go true (suc r) rest = (record { some = low; low = omega arith }, rest r)
+    go false r rest = rest r
+
+sources-known : (case : Case) → AllRecords (case .R) (sourcesOf case)
+unfolding sourcesOf
+sources-known case = sources-from-known case (case .R) 1 mostSources (omega arith) (omega arith)
+
+-- ---- Lines given latest first, and copies among them.
+all-reversed : (P : Line → Type 0) (ls earlier : List Line) → AllLines P ls → AllLines P earlier → AllLines P (reverseAux ls earlier)
+all-reversed P [] earlier all before = before
+all-reversed P (l ∷ ls) earlier all before = all-reversed P ls (l ∷ earlier) (all .1) (all .0, before)
+
+all-from-record : (P : Line → Type 0) (k : ℕ) (ls : List Line) → AllLines P ls → AllLines P (fromRecord k ls)
+unfolding fromRecord
+all-from-record P k [] all = tt
+all-from-record P k (l ∷ ls) all = go (all-from-record P k ls (all .1))
+  where
+    go : AllLines P (fromRecord k ls) → AllLines P (fromRecord k (l ∷ ls))
+    go rest = taken (AllLines P) (eqb (l .number) k) (l ∷ ls) (fromRecord k ls) (λ e. all) (λ e. rest)
+
+latest-low : (case : Case) (name : ℕ) (earlier : List Line) → AllLines (Spells case) earlier → latest (case .G) name earlier ≤ case .R
+unfolding latest
+latest-low case name [] all = omega arith
+latest-low case name (l ∷ earlier) all = go (latest-low case name earlier (all .1))
+  where
+    go : latest (case .G) name earlier ≤ case .R → latest (case .G) name (l ∷ earlier) ≤ case .R
+    go rest = taken (λ p. p ≤ case .R) (eqb (targetName (case .G) l) name) (l .number) _ (λ e. all .0 .number .low) (λ e. rest)
+
+copy-low : (case : Case) (name : ℕ) (earlier : List Line) → AllLines (Spells case) earlier → copyOf (case .G) name earlier ≤ case .R
+unfolding copyOf
+copy-low case name earlier all = taken (λ p. p ≤ case .R) (ltb name noName) _ 0 (λ e. latest-low case name earlier all) (λ e. omega arith)
+
+-- ---- The rows.
+module _ (case : Case) (few : case .n < wordSize) (initials : (g : ℕ) → getD (case .initial) g 0 < wordSize)
+    (sources : List ℕ) (known : AllRecords (case .R) sources) where
+  abbrev Rows : List Row → Type 0
+  Rows ws = AllSpellable (variables case) (assertionsOf case sources ws)
+
+  rows-append : (ws us : List Row) → Rows ws → Rows us → Rows (ws ++ us)
+  unfolding assertionsOf AllSpellable
+  rows-append [] us h g = g
+  rows-append (w ∷ ws) us h g = (h .0, rows-append ws us (h .1) g)
+
+  order-spelled : (t : ℕ) (earlier ls : List Line) → t < wordSize → case .T < wordSize → AllLines (Spells case) ls
+      → Rows (orderRows case t earlier ls)
+  unfolding orderRows lineOrderRows followRow assertionsOf assertionOf AllSpellable FormulaSpellable
+  order-spelled t earlier [] small low all = tt
+  order-spelled t earlier (l ∷ []) small low all =
+      let own = block-spelled case few initials (l .number) (all .0 .number) in
+      (((own, low), small), ((own, few), tt))
+  order-spelled t earlier (l ∷ (l' ∷ ls)) small low all =
+      let own = block-spelled case few initials (l .number) (all .0 .number) in
+      let next = block-spelled case few initials (l' .number) (all .1 .0 .number) in
+      (((own, low), small), ((own, next), order-spelled t (l ∷ earlier) (l' ∷ ls) small low (all .1)))
+
+  orders-spelled : (t : ℕ) (threads : List (List Line)) → t + length threads < wordSize → case .T < wordSize → AllThreads (Spells case) threads
+      → Rows (allOrderRows case t threads)
+  unfolding allOrderRows assertionsOf AllSpellable
+  orders-spelled t [] small low all = tt
+  orders-spelled t (ls ∷ threads) small low all =
+      rows-append (orderRows case t [] ls) _ (order-spelled t [] ls (omega arith) low (all .0))
+      (orders-spelled (suc t) threads (omega arith) low (all .1))
+
+  demand-row-spelled : (kind : Kind) (earlier : List Line) (l : Line) → Spells case l → AllLines (Spells case) earlier
+      → Rows (demandRows kind case earlier l)
+  unfolding demandRows assertionsOf assertionOf AllSpellable
+  demand-row-spelled compute earlier l line before = tt
+  demand-row-spelled store earlier l line before = tt
+  demand-row-spelled load earlier l line before = tt
+  demand-row-spelled input earlier l line before = tt
+  demand-row-spelled assert earlier l line before = tt
+  demand-row-spelled assume earlier l line before =
+      (rw (line .found) (demand-spelled case few initials sources known l line (l .kind) 0 0 (omega arith) (omega arith)), tt)
+  demand-row-spelled lock earlier l line before = (
+    rw (line .found) (demand-spelled case few initials sources known l line (l .kind) _ _
+        (copy-low case (guardName l) earlier before) (copy-low case (targetName (case .G) l) earlier before)),
+    tt,
+  )
+  demand-row-spelled unlock earlier l line before = tt
+
+  values-spelled : (earlier ls : List Line) → AllLines (Spells case) earlier → AllLines (Spells case) ls → Rows (valueRows case earlier ls)
+  unfolding valueRows assertionsOf assertionOf AllSpellable
+  values-spelled earlier [] before all = tt
+  values-spelled earlier (l ∷ ls) before all = (
+    rw (all .0 .found) (line-spelled case few initials sources known l (all .0) _ _ _ _
+        (copy-low case (guardName l) earlier before) (copy-low case (operandA l) earlier before)
+        (copy-low case (operandB l) earlier before) (copy-low case (targetName (case .G) l) earlier before)),
+    rows-append (demandRows (l .kind) case earlier l) _ (demand-row-spelled (l .kind) earlier l (all .0) before)
+        (values-spelled (l ∷ earlier) ls (all .0, before) (all .1)),
+  )
+
+  all-values-spelled : (threads : List (List Line)) → AllThreads (Spells case) threads → Rows (allValueRows case threads)
+  unfolding allValueRows assertionsOf AllSpellable
+  all-values-spelled [] all = tt
+  all-values-spelled (ls ∷ threads) all =
+      rows-append (valueRows case [] ls) _ (values-spelled [] ls tt (all .0)) (all-values-spelled threads (all .1))
+
+  module _ (all : AllThreads (Spells case) (case .threads)) where
+    lines-back : (i : ℕ) → AllLines (Spells case) (reverse (linesOf case (i % case .T)))
+    lines-back i = all-reversed (Spells case) (linesOf case (i % case .T)) [] (each-thread (Spells case) (case .threads) all (i % case .T)) tt
+
+    items-spelled : (lines : List Line) (i g many : ℕ) → i < case .n → g + many ≤ itemCount case → Rows (itemRows case lines i g many)
+    unfolding itemRows assertionsOf assertionOf AllSpellable
+    items-spelled lines i g zero low high = tt
+    items-spelled lines i g (suc many) low high = (
+      walk-spelled case few initials sources known i g _ low (omega arith) (all-from-record (Spells case) _ _ (lines-back i)),
+      items-spelled lines i (suc g) many low (omega arith),
+    )
+
+    blocks-spelled : (i many : ℕ) → i + many ≤ case .n → Rows (blockRows case i many)
+    unfolding blockRows assertionsOf AllSpellable
+    blocks-spelled i zero high = tt
+    blocks-spelled i (suc many) high =
+        rows-append (itemRows case (reverse (linesOf case (i % case .T))) i 0 (itemCount case)) _
+        (items-spelled _ i 0 (itemCount case) (omega arith) (omega arith))
+        (blocks-spelled (suc i) many (omega arith))
+
+    table-spelled : length (case .threads) < wordSize → case .T < wordSize → Rows (table case)
+    unfolding table runRows assertionsOf assertionOf AllSpellable
+    table-spelled small low =
+        rows-append (allOrderRows case 0 (case .threads) ++ (allValueRows case (case .threads) ++ blockRows case 0 (case .n))) (goalRow ∷ [])
+        (rows-append (allOrderRows case 0 (case .threads)) _ (orders-spelled 0 (case .threads) (omega arith) low all)
+        (rows-append (allValueRows case (case .threads)) _ (all-values-spelled (case .threads) all) (blocks-spelled 0 (case .n) (omega arith))))
+        (goal-spelled case few initials (case .threads) all, tt)
+
+-- ---- An accepted case.
+record Small (case : Case) (l : Line) : Type 0 where
+  number : RecordNumber (case .R) (l .number)
+  constant : l .c < wordSize
+
+all-spell : (case : Case) (ls : List Line) → AllLines (λ l. lineAt case (l .number) ≡ l) ls → AllLines (Small case) ls → AllLines (Spells case) ls
+all-spell case [] found small = tt
+all-spell case (l ∷ ls) found small =
+    (record { found = found .0; number = small .0 .number; constant = small .0 .constant }, all-spell case ls (found .1) (small .1))
+
+module _ (bytes : List ℕ) (accepted : verdict bytes ≡ verdicts.Accepted) where
+  ok : Accepted bytes
+  ok = accepted-of bytes accepted
+
+  pub few-variables : variables (caseOf bytes) ≤ bitVectors
+  few-variables = omega (arith, assignment-numbers bytes ok)
+
+  pub script-spelled : AllBelow 256 bytes → AllSpellable (variables (caseOf bytes)) (scriptOf (caseOf bytes) .assertions)
+  unfolding scriptOf
+  script-spelled small =
+      let case = caseOf bytes in
+      let wf = well-formed bytes small ok in
+      table-spelled case (omega (arith, ok .few-switches)) (below-at wordSize (case .initial) (omega arith) (wf .small-initial))
+      (sourcesOf case) (sources-known case)
+      (all-threads (Spells case) (case .threads) (λ t few. all-spell case (linesOf case t) (line-found case (wf .once) t)
+      (all-lines-by bytes ok (Small case) t (λ k low high.
+      record { number = record { some = low; low = high }; constant = field-below bytes small (8 + 8 * k + 7) }))))
+      (omega (arith, thread-count bytes, ok .few-threads)) (omega (arith, ok .few-threads))
