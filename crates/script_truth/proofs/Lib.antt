@@ -7,3 +7,4 @@ pub mod Rows
 pub mod Truth
 pub mod Spelled
 pub mod SpelledTable
+pub mod Filed
