@@ -4,11 +4,10 @@
 use mathlib.Core.Path.{_≡_, refl, sym, ap, _∙_}
 use mathlib.Core.Logic.{_↔_}
 use Prim.Native.Nat.{ℕ, suc, _≤_, _<_}
-use mathlib.Core.Bool.{true}
 use mathlib.Core.List.{List, [], _∷_}
 use mathlib.Core.Option.{some}
 use native.Mathlib.Omega.{arith}
-use lib.ListN.{length, take, drop}
+use lib.ListN.{length, drop}
 use lib.Seq.{take-append-seam}
 use borrow.Author.Tests.{le-leb, lt-leb}
 use Rattle.model.specs.Word.{AllBelow}
@@ -17,10 +16,8 @@ use Rattle.model.specs.CaseFile.{Case, caseOf}
 use Rattle.model.specs.Accept.{verdict}
 use Rattle.model.specs.Assignment.{variables, assignmentOf}
 use Rattle.model.specs.Table.{Row, table}
-use Rattle.model.specs.Answers.{checked}
 use Rattle.model.specs.declared.Verdict.the-variants.{Accepted}
-use Rattle.model.specs.declared.Checked.the-variants.{Fails}
-use Rattle.smt.specs.Script.{Script, environment, firstFalse, scriptTrue}
+use Rattle.smt.specs.Script.{Script}
 use Rattle.smt.specs.Reader.{readScript}
 use Rattle.script.specs.Assertions.{assertionsOf, sourcesOf, scriptOf}
 use Rattle.script.specs.Text.{smtText, measured, spelled, spelledInto}
@@ -31,7 +28,7 @@ use Rattle.correspondence.specs.Demand3.{Yes, Demand3}
 use Rattle.correspondence.proofs.Replies.{passes-of-meets}
 use Rattle.correspondence.proofs.FirstFailing.{first-fails, failing-of-first, checker-names-the-first, fails-of-first}
 use Rattle.correspondence.proofs.Demand3.{demand-3}
-use Rattle.script_truth.specs.Filed.{textRoom, writtenText, Found, TextTrue, Model, Filed, ForEveryText}
+use Rattle.script_truth.specs.Filed.{textRoom, writtenText, Found, Model, Filed, ForEveryText}
 use Rattle.script_truth.proofs.SpelledTable.{script-spelled}
 use Rattle.script_truth.proofs.Truth.{each-assertion-agrees, first-false-is-first-row, true-is-every-row, true-is-yes}
 
@@ -82,7 +79,7 @@ module _ (bytes : List ℕ) (small : AllBelow 256 bytes) (accepted : verdict byt
   models xs = (
     (λ model. let told = found _ .0 model in (told .0, true-is-yes bytes accepted xs (told .1) .0 (told .2))),
     (λ yes. let sized = passes-of-meets bytes xs (yes .1) .has-size in
-    found _ .1 (yes .0, sized, true-is-yes bytes accepted xs sized .1 (yes .1))),
+        found _ .1 (yes .0, sized, true-is-yes bytes accepted xs sized .1 (yes .1))),
   )
 
   corresponds : Demand3 bytes
@@ -112,7 +109,7 @@ module _ (bytes : List ℕ) (small : AllBelow 256 bytes) (accepted : verdict byt
         first-false-is-first-row bytes accepted xs ∙ failing-of-first case (assignmentOf case xs) 1 (table case) j (named .1),
       )),
       (λ first. fails-of-first bytes xs j accepted (first .0)
-      (first-fails case (assignmentOf case xs) 1 (table case) j (sym (first-false-is-first-row bytes accepted xs) ∙ first .2) (first .1))),
+          (first-fails case (assignmentOf case xs) 1 (table case) j (sym (first-false-is-first-row bytes accepted xs) ∙ first .2) (first .1))),
     );
     model-is-yes = models;
     some-model-is-some-violating-run = (

@@ -8,3 +8,4 @@ pub mod Truth
 pub mod Spelled
 pub mod SpelledTable
 pub mod Filed
+pub mod Examples

@@ -187,10 +187,10 @@ module _ (bytes : List ℕ) (accepted : verdict bytes ≡ verdicts.Accepted) whe
       record {
         declared = omega (arith, assignment-numbers bytes ok);
         assertions =
-          table-spelled case (omega (arith, ok .few-switches)) (below-at wordSize (case .initial) (omega arith) (wf .small-initial))
-          (sourcesOf case) (sources-known case)
-          (all-threads (Spells case) (case .threads) (λ t few. all-spell case (linesOf case t) (line-found case (wf .once) t)
-          (all-lines-by bytes ok (Small case) t (λ k low high.
-          record { number = record { some = low; low = high }; constant = field-below bytes small (8 + 8 * k + 7) }))))
-          (omega (arith, thread-count bytes, ok .few-threads)) (omega (arith, ok .few-threads));
+            table-spelled case (omega (arith, ok .few-switches)) (below-at wordSize (case .initial) (omega arith) (wf .small-initial))
+            (sourcesOf case) (sources-known case)
+            (all-threads (Spells case) (case .threads) (λ t few. all-spell case (linesOf case t) (line-found case (wf .once) t)
+            (all-lines-by bytes ok (Small case) t (λ k low high.
+            record { number = record { some = low; low = high }; constant = field-below bytes small (8 + 8 * k + 7) }))))
+            (omega (arith, thread-count bytes, ok .few-threads)) (omega (arith, ok .few-threads));
       }
