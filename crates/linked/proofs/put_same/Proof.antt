@@ -20,13 +20,13 @@ same-length : tie.Need-same-length
 same-length c = search needs
 
 returns : tie.Need-returns
-returns c = λ case s. same-variable _ _ _ (c .before .before .before .before .before .x .given .1) (c .before .before .put-variable-same .ensures case s)
+returns c = λ case s. same-variable _ (c .before .before .before .before .before .before .before .before .args .y) _ (c .before .before .before .before .before .x .given .1) (c .before .before .put-variable-same .ensures case s)
 
 same-length-2 : tie.Need-same-length-2
 same-length-2 c = search needs
 
 returns-2 : tie.Need-returns-2
-returns-2 c = λ case s. same-constant _ _ _ (c .before .before .before .before .before .x2 .given .1) (c .before .before .put-equal .ensures)
+returns-2 c = λ case s. same-constant _ (c .before .before .before .before .before .before .before .before .args .y) _ (c .before .before .before .before .before .x2 .given .1) (c .before .before .put-equal .ensures)
 
 pub put-same-spec : {M : Type 1} → statement M
 put-same-spec =
