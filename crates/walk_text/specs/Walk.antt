@@ -1,0 +1,48 @@
+-- The assertion of a 6 over record numbers: the copies of an item from its last one back, each asked whether it is in the block.
+-- Assumes nothing.
+use Prim.Native.Nat.{ℕ, zero, suc, _%_, _<_}
+use mathlib.Core.Bool.{cond}
+use mathlib.Core.List.{List, [], _∷_, _++_, reverse}
+use lib.Dec.{eqb}
+use lib.ListN.{getD}
+use Rattle.model.specs.CaseFile.{Line, Case, linesOf}
+use Rattle.model.specs.Line.{itemName}
+use Rattle.model.specs.Copies.{latest}
+use Rattle.smt.specs.Term.{constant, Formula, select}
+use Rattle.smt.specs.Spelling.{ascii, formulaText}
+use Rattle.script.specs.Assertions.{equal, blockOf, valueOf, blockValue, valueBefore, same}
+use Rattle.copies.specs.CopyChains.{HasBefore}
+
+-- `previous` has for each line of a case, by record number, the copy of its target before it.
+abbrev pub PreviousCopies : Case → List ℕ → Type 0
+PreviousCopies case previous = (t : ℕ) → t < case .T → HasBefore (case .G) previous (reverse (linesOf case t))
+
+-- The last copy of item g in the thread of block i, whose lines are given latest first.
+abbrev pub linesBack : Case → ℕ → List Line
+linesBack case i = reverse (linesOf case (i % case .T))
+
+abbrev pub lastCopy : Case → ℕ → ℕ → ℕ
+lastCopy case i g = latest (case .G) (itemName g) (linesBack case i)
+
+-- Copy p, the copy before it, and so on to the first; so many at most.
+unfoldable pub copiesBack : List ℕ → ℕ → ℕ → List ℕ
+copiesBack previous zero p = []
+copiesBack previous (suc most) p = cond (eqb p 0) [] (p ∷ copiesBack previous most (getD previous p 0))
+
+-- The value of item g at the end of block i is that of the first of these copies which is in the block; if none is, the one before it.
+unfoldable pub walkOver : Case → List ℕ → ℕ → ℕ → List ℕ → Formula
+walkOver case sources i g [] = same sources (blockValue case i g) (valueBefore case i g)
+walkOver case sources i g (p ∷ ps) =
+    select (equal (blockOf p) (constant i)) (same sources (blockValue case i g) (valueOf p)) (walkOver case sources i g ps)
+
+abbrev pub walkCopies : Case → List ℕ → ℕ → ℕ → List ℕ → ℕ → ℕ → Formula
+walkCopies case sources i g previous most p = walkOver case sources i g (copiesBack previous most p)
+
+-- The text of the walk as the code writes it: a head for each copy, then the value before the block, and the closing parentheses.
+unfoldable pub copyHead : Case → List ℕ → ℕ → ℕ → ℕ → List ℕ
+copyHead case sources i g p =
+    ascii "(ite " ++ (formulaText (equal (blockOf p) (constant i)) ++ (ascii " " ++ (formulaText (same sources (blockValue case i g) (valueOf p)) ++ ascii " ")))
+
+unfoldable pub copyHeads : Case → List ℕ → ℕ → ℕ → List ℕ → List ℕ
+copyHeads case sources i g [] = []
+copyHeads case sources i g (p ∷ ps) = copyHead case sources i g p ++ copyHeads case sources i g ps
