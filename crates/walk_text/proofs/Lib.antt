@@ -1,1 +1,2 @@
 pub mod WalkBack
+pub mod Previous

@@ -1,6 +1,6 @@
 -- The assertion of a 6 over record numbers, as the code writes it, is its assertion over lines.
 -- Assumes nothing. Met again where the text of a 6 is written.
-use mathlib.Core.Path.{_≡_, refl, sym, ap, _∙_}
+use mathlib.Core.Path.{_≡_, refl, sym, _∙_}
 use Prim.Native.Nat.{ℕ, zero, suc, _%_, _≤_, _<_}
 use mathlib.Core.Bool.{false}
 use mathlib.Core.List.{List, [], _∷_, reverse, reverseAux}
