@@ -1,2 +1,3 @@
 pub mod WalkBack
 pub mod Previous
+pub mod Noting
