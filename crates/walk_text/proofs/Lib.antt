@@ -1,3 +1,4 @@
 pub mod WalkBack
 pub mod Previous
 pub mod Noting
+pub mod CopyHeads

@@ -6,7 +6,7 @@ use mathlib.Core.List.{List, [], _∷_, _++_, reverse, reverseAux}
 use native.Mathlib.Omega.{arith}
 use lib.ListN.{length, getD, replicate}
 use Rattle.model.specs.Limits.{mostThreads, recordPlaces}
-use Rattle.model.specs.CaseFile.{Kind, compute, store, load, input, assert, assume, lock, unlock, Line, Case, threadCount, caseOf, linesOf, itemCount}
+use Rattle.model.specs.CaseFile.{Kind, compute, store, load, input, assert, assume, lock, unlock, Line, Case, caseOf, linesOf, itemCount}
 use Rattle.model.specs.Line.{noName, targetName}
 use Rattle.model.specs.Table.{Row, followRow, lineOrderRows, orderRows, demandRows, valueRows, allOrderRows, allValueRows, itemRows, blockRows, runRows, goalRow, table, numbersOf}
 use Rattle.laws.specs.Accepted.{Accepted}
