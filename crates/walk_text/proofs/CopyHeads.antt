@@ -21,7 +21,7 @@ use Rattle.linked.specs.Shape.{HasShape, HasSources, blockValueNumber}
 use Rattle.linked.specs.declared.Shape.{Shape}
 use Rattle.linked.specs.declared.Sources.{Sources}
 use Rattle.linked.proofs.Nesting.{closing-none, nested, head-of-three}
-use Rattle.walk_text.specs.Walk.{copiesBack, walkOver, copyHead, copyHeads}
+use Rattle.walk_text.specs.Walk.{copiesBack, walkOver, copyHead, copyHeads, HeadsPut}
 
 -- ---- Copies back from p
 
@@ -35,7 +35,8 @@ module _ (previous : List ℕ) where
   unfolding copiesBack
   copies-spent most p e = rw e
 
-  copies-go-on : (j p : ℕ) → j < mostLines → p ≢ 0 → copiesBack previous (mostLines - j) p ≡ p ∷ copiesBack previous (mostLines - (j + 1)) (getD previous p 0)
+  copies-go-on : (j p : ℕ) → j < mostLines → p ≢ 0
+      → copiesBack previous (mostLines - j) p ≡ p ∷ copiesBack previous (mostLines - (j + 1)) (getD previous p 0)
   unfolding copiesBack
   copies-go-on j p h n = let z : mostLines - j ≡ suc (mostLines - (j + 1)) = omega arith in rw (z, ne-eqb p 0 n)
 
@@ -44,7 +45,8 @@ module _ (previous : List ℕ) where
 ending : (case : Case) (shape : Shape) → HasShape case shape → (i g : ℕ) {x : ℕ} → x ≡ blockValueNumber shape i g → variable x ≡ blockValue case i g
 ending case shape s i g e = rw (e, s .base, s .items)
 
-module _ (case : Case) (shape : Shape) (s : HasShape case shape) (sources : List ℕ) (i g p : ℕ) {d a b e f h : List ℕ} {start k l m n r : ℕ} where
+module _ (case : Case) (shape : Shape) (s : HasShape case shape) (sources : List ℕ) (i g p : ℕ)
+    {d a b e f h : List ℕ} {start k l m n r : ℕ} where
   pub copy-spelt : {block value x : ℕ} → block ≡ 2 * (p - 1) → value ≡ 2 * (p - 1) + 1 → x ≡ blockValueNumber shape i g
       → Spelt (ascii "(ite ") d start a k → Spelt (formulaText (equal (variable block) (constant i))) a k b l → Spelt (ascii " ") b l e m
       → Spelt (formulaText (same sources (variable x) (variable value))) e m f n → Spelt (ascii " ") f n h r → Spelt (copyHead case sources i g p) d start h r
@@ -52,23 +54,29 @@ module _ (case : Case) (shape : Shape) (s : HasShape case shape) (sources : List
   copy-spelt eb ev ex word asked blank alike behind =
       spelt-then word (spelt-then (rw eb at asked) (spelt-then blank (spelt-then (rw (ev, ending case shape s i g ex) at alike) behind)))
 
-walk-text : (case : Case) (sources : List ℕ) (i g : ℕ) (ps : List ℕ)
-    → formulaText (walkOver case sources i g ps) ≡ copyHeads case sources i g ps ++ (formulaText (same sources (blockValue case i g) (valueBefore case i g)) ++ closing (length ps))
-unfolding formulaText walkOver copyHeads copyHead
-walk-text case sources i g [] = rw closing-none (sym (append-nil (formulaText (same sources (blockValue case i g) (valueBefore case i g)))))
-walk-text case sources i g (p ∷ ps) =
-    head-of-three (ascii "(ite ") (formulaText (equal (blockOf p) (constant i))) (formulaText (same sources (blockValue case i g) (valueOf p))) (formulaText (walkOver case sources i g ps))
-    ∙ nested (copyHead case sources i g p) (copyHeads case sources i g ps) (formulaText (same sources (blockValue case i g) (valueBefore case i g))) (length ps) (walk-text case sources i g ps)
+module _ (case : Case) (sources : List ℕ) (i g : ℕ) where
+  abbrev innermost : List ℕ
+  innermost = formulaText (same sources (blockValue case i g) (valueBefore case i g))
+
+  walk-text : (ps : List ℕ) → formulaText (walkOver case sources i g ps) ≡ copyHeads case sources i g ps ++ (innermost ++ closing (length ps))
+  unfolding formulaText walkOver copyHeads copyHead
+  walk-text [] = rw closing-none (sym (append-nil innermost))
+  walk-text (p ∷ ps) =
+      head-of-three (ascii "(ite ") (formulaText (equal (blockOf p) (constant i))) (formulaText (same sources (blockValue case i g) (valueOf p)))
+      (formulaText (walkOver case sources i g ps))
+      ∙ nested (copyHead case sources i g p) (copyHeads case sources i g ps) innermost (length ps) (walk-text ps)
 
 -- ---- The loop over the copies, at copy p, after so many
 
-pub record Walking (shape : Shape) (sources : Sources) (previous : List ℕ) (i g last : ℕ) (before : List ℕ) (start : ℕ) (out : List ℕ) (at p many : ℕ) : Type 0 where
+pub record Walking (shape : Shape) (sources : Sources) (previous : List ℕ) (i g last : ℕ)
+    (before : List ℕ) (start : ℕ) (out : List ℕ) (at p many : ℕ) : Type 0 where
   pub upto : many ≤ mostLines
   pub small : p < wordSize
   pub size : length out ≡ length before
   pub count : many + length (copiesBack previous (mostLines - many) p) ≡ length (copiesBack previous mostLines last)
   pub left : (case : Case) → HasShape case shape → HasSources case sources
-      → Left (copyHeads case (sourcesOf case) i g (copiesBack previous mostLines last)) before start out at (copyHeads case (sourcesOf case) i g (copiesBack previous (mostLines - many) p))
+      → Left (copyHeads case (sourcesOf case) i g (copiesBack previous mostLines last)) before start out at
+      (copyHeads case (sourcesOf case) i g (copiesBack previous (mostLines - many) p))
 
 module _ {shape : Shape} {sources : Sources} {previous : List ℕ} {i g last : ℕ} {before : List ℕ} {start : ℕ} where
   pub walking-start : last < wordSize → start ≤ top → Walking shape sources previous i g last before start before start last 0
@@ -87,26 +95,25 @@ module _ {shape : Shape} {sources : Sources} {previous : List ℕ} {i g last : �
       left = λ case s o. rw e (left-more (v .left case s o) (ap (copyHeads case (sourcesOf case) i g) (copies-go-on previous many p h n)) (put case s o));
     }
 
-    none-left : copiesBack previous (mostLines - many) p ≡ [] → many ≡ length (copiesBack previous mostLines last)
-    none-left e = omega (arith, v .count, ap length e)
-
-    all-put : copiesBack previous (mostLines - many) p ≡ [] → (case : Case) → HasShape case shape → HasSources case sources
-        → Spelt (copyHeads case (sourcesOf case) i g (copiesBack previous mostLines last)) before start out at
+    -- Where none is left all are put, so many.
+    all-put : copiesBack previous (mostLines - many) p ≡ [] → HeadsPut shape sources previous i g last before start out at many
     unfolding copyHeads
-    all-put e case s o = left-end (v .left case s o) (ap (copyHeads case (sourcesOf case) i g) e)
+    all-put e = record {
+      count = omega (arith, v .count, ap length e);
+      text = λ case s o. left-end (v .left case s o) (ap (copyHeads case (sourcesOf case) i g) e);
+    }
 
-    pub walking-first : p ≡ 0 → (many ≡ length (copiesBack previous mostLines last)) × ((case : Case) → HasShape case shape → HasSources case sources
-        → Spelt (copyHeads case (sourcesOf case) i g (copiesBack previous mostLines last)) before start out at)
-    walking-first h = let e = copies-end previous (mostLines - many) p h in (none-left e, all-put e)
+    pub walking-first : p ≡ 0 → HeadsPut shape sources previous i g last before start out at many
+    walking-first h = all-put (copies-end previous (mostLines - many) p h)
 
-    pub walking-spent : mostLines ≤ many → (many ≡ length (copiesBack previous mostLines last)) × ((case : Case) → HasShape case shape → HasSources case sources
-        → Spelt (copyHeads case (sourcesOf case) i g (copiesBack previous mostLines last)) before start out at)
-    walking-spent h = let e = copies-spent previous (mostLines - many) p (omega arith) in (none-left e, all-put e)
+    pub walking-spent : mostLines ≤ many → HeadsPut shape sources previous i g last before start out at many
+    walking-spent h = all-put (copies-spent previous (mostLines - many) p (omega arith))
 
 -- ---- The whole walk
 
-pub walk-spelt : (case : Case) (shape : Shape) → HasShape case shape → (sources : List ℕ) (i g : ℕ) (ps : List ℕ) {d a b e : List ℕ} {start k l r many x : ℕ} {y : Term}
-    → many ≡ length ps → x ≡ blockValueNumber shape i g → y ≡ valueBefore case i g → Spelt (copyHeads case sources i g ps) d start a k
-    → Spelt (formulaText (same sources (variable x) y)) a k b l → Spelt (closing many) b l e r → Spelt (formulaText (walkOver case sources i g ps)) d start e r
+pub walk-spelt : (case : Case) (shape : Shape) → HasShape case shape → (sources : List ℕ) (i g : ℕ) (ps : List ℕ)
+    {d a b e : List ℕ} {start k l r many x : ℕ} {y : Term} → many ≡ length ps → x ≡ blockValueNumber shape i g → y ≡ valueBefore case i g
+    → Spelt (copyHeads case sources i g ps) d start a k → Spelt (formulaText (same sources (variable x) y)) a k b l → Spelt (closing many) b l e r
+    → Spelt (formulaText (walkOver case sources i g ps)) d start e r
 walk-spelt case shape s sources i g ps em ex ey heads base close =
     spelt-as (sym (walk-text case sources i g ps)) (spelt-then heads (spelt-then (rw (ending case shape s i g ex, ey) at base) (rw em at close)))

@@ -56,7 +56,11 @@ module _ {xs : List ℕ} {count j : ℕ} {previous : List ℕ} (v : Noting xs co
   unfolding notedFrom
   noting-more h e =
       let z : count - j ≡ suc (count - (j + 1)) = omega arith in
-      record { upto = omega arith; places = ap length e ∙ row-places xs previous j ∙ v .places; left = rw (add-one j, e) (rw (z, add-one j) at (v .left)) }
+      record {
+        upto = omega arith;
+        places = ap length e ∙ row-places xs previous j ∙ v .places;
+        left = rw (add-one j, e) (rw (z, add-one j) at (v .left));
+      }
 
   pub noting-end : count ≤ j → (bytes : List ℕ) → Accepted bytes → HasTable (caseOf bytes) xs count → PreviousCopies (caseOf bytes) previous
   unfolding notedFrom

@@ -48,7 +48,8 @@ module _ (w : Row) (xs : List ℕ) where
 numbers-noted : (rows : List Row) (rest previous : List ℕ) → notedFrom (numbersOf rows ++ rest) 0 (length rows) previous ≡ notedRows rows previous
 unfolding notedFrom notedRow notedRows numbersOf
 numbers-noted [] rest previous = refl
-numbers-noted (w ∷ ws) rest previous = rows-behind w (numbersOf ws ++ rest) 0 (length ws) _ ∙ numbers-noted ws rest (noted (w .kind) (w .one) (w .five) previous)
+numbers-noted (w ∷ ws) rest previous =
+    rows-behind w (numbersOf ws ++ rest) 0 (length ws) _ ∙ numbers-noted ws rest (noted (w .kind) (w .one) (w .five) previous)
 
 -- ---- Only 4s are noted
 
@@ -83,7 +84,8 @@ module _ (case : Case) where
       rows-append (itemRows case lines i 0 (itemCount case)) (blockRows case (suc i) many) previous
       ∙ ap (notedRows (blockRows case (suc i) many)) (items-none lines i 0 (itemCount case) previous) ∙ blocks-none (suc i) many previous
 
-  demand-none : (kind : Kind) (earlier : List Line) (l : Line) (ws : List Row) (previous : List ℕ) → notedRows (demandRows kind case earlier l ++ ws) previous ≡ notedRows ws previous
+  demand-none : (kind : Kind) (earlier : List Line) (l : Line) (ws : List Row) (previous : List ℕ)
+      → notedRows (demandRows kind case earlier l ++ ws) previous ≡ notedRows ws previous
   unfolding notedRows noted demandRows
   demand-none compute earlier l ws previous = refl
   demand-none store earlier l ws previous = refl
@@ -131,7 +133,8 @@ module _ {bytes : List ℕ} (ok : Accepted bytes) where
       }))
 
   threads-noted : (threads : List (List Line)) (t : ℕ) (previous : List ℕ) → t + length threads ≤ mostThreads
-      → ((u : ℕ) → getD threads u [] ≡ linesOf case (t + u)) → Chained case previous t [] → Chained case (notedRows (allValueRows case threads) previous) (t + length threads) []
+      → ((u : ℕ) → getD threads u [] ≡ linesOf case (t + u)) → Chained case previous t []
+      → Chained case (notedRows (allValueRows case threads) previous) (t + length threads) []
   unfolding notedRows allValueRows
   threads-noted [] t previous few are v = let z : t + 0 ≡ t = omega arith in rw z v
   threads-noted (ls ∷ threads) t previous few are v =
@@ -144,7 +147,8 @@ module _ {bytes : List ℕ} (ok : Accepted bytes) where
   pub table-noted : {xs : List ℕ} {count : ℕ} → HasTable case xs count → (previous : List ℕ) → previous ≡ replicate recordPlaces 0
       → PreviousCopies case (notedFrom xs 0 count previous)
   table-noted {xs} {count} h previous e t below =
-      rw (h .numbers, h .rows, numbers-noted (table case) (h .rest) previous, table-values case previous) (all .chains .done t (omega (arith, thread-count bytes)))
+      rw (h .numbers, h .rows, numbers-noted (table case) (h .rest) previous, table-values case previous)
+      (all .chains .done t (omega (arith, thread-count bytes)))
     where
       all : Chained case (notedRows (allValueRows case (case .threads)) previous) (0 + length (case .threads)) []
       all = threads-noted (case .threads) 0 previous (omega (arith, thread-count bytes, ok .few-threads)) (λ u. ap (linesOf case) (omega arith))

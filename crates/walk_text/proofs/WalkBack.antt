@@ -44,7 +44,8 @@ module _ (case : Case) (sources previous : List ℕ) (i g : ℕ) where
     walked most [] has positive h = none-before most
     walked zero (l ∷ d) has positive h = absurd (omega arith)
     walked (suc most) (l ∷ d) has positive h =
-        go (eq-view (targetName (case .G) l) (itemName g)) (walked most d (has .1) (positive .1) (omega arith)) (walked (suc most) d (has .1) (positive .1) (omega arith))
+        go (eq-view (targetName (case .G) l) (itemName g)) (walked most d (has .1) (positive .1) (omega arith))
+        (walked (suc most) d (has .1) (positive .1) (omega arith))
       where
         some : eqb (l .number) 0 ≡ false
         some = ne-eqb (l .number) 0 (λ e. omega (arith, positive .0))

@@ -1,16 +1,22 @@
 -- The assertion of a 6 over record numbers: the copies of an item from its last one back, each asked whether it is in the block.
 -- Assumes nothing.
+use mathlib.Core.Path.{_≡_}
 use Prim.Native.Nat.{ℕ, zero, suc, _%_, _<_}
 use mathlib.Core.Bool.{cond}
 use mathlib.Core.List.{List, [], _∷_, _++_, reverse}
 use lib.Dec.{eqb}
-use lib.ListN.{getD}
+use lib.ListN.{length, getD}
+use Rattle.model.specs.Limits.{mostLines}
 use Rattle.model.specs.CaseFile.{Line, Case, linesOf}
 use Rattle.model.specs.Line.{itemName}
 use Rattle.model.specs.Copies.{latest}
 use Rattle.smt.specs.Term.{constant, Formula, select}
 use Rattle.smt.specs.Spelling.{ascii, formulaText}
-use Rattle.script.specs.Assertions.{equal, blockOf, valueOf, blockValue, valueBefore, same}
+use Rattle.script.specs.Assertions.{equal, blockOf, valueOf, blockValue, valueBefore, same, sourcesOf}
+use Rattle.spell.specs.Spelt.{Spelt}
+use Rattle.linked.specs.Shape.{HasShape, HasSources}
+use Rattle.linked.specs.declared.Shape.{Shape}
+use Rattle.linked.specs.declared.Sources.{Sources}
 use Rattle.copies.specs.CopyChains.{HasBefore}
 
 -- `previous` has for each line of a case, by record number, the copy of its target before it.
@@ -41,8 +47,16 @@ walkCopies case sources i g previous most p = walkOver case sources i g (copiesB
 -- The text of the walk as the code writes it: a head for each copy, then the value before the block, and the closing parentheses.
 unfoldable pub copyHead : Case → List ℕ → ℕ → ℕ → ℕ → List ℕ
 copyHead case sources i g p =
-    ascii "(ite " ++ (formulaText (equal (blockOf p) (constant i)) ++ (ascii " " ++ (formulaText (same sources (blockValue case i g) (valueOf p)) ++ ascii " ")))
+    ascii "(ite " ++ (formulaText (equal (blockOf p) (constant i)) ++ (ascii " "
+    ++ (formulaText (same sources (blockValue case i g) (valueOf p)) ++ ascii " ")))
 
 unfoldable pub copyHeads : Case → List ℕ → ℕ → ℕ → List ℕ → List ℕ
 copyHeads case sources i g [] = []
 copyHeads case sources i g (p ∷ ps) = copyHead case sources i g p ++ copyHeads case sources i g ps
+
+-- The heads of copy `last` and all copies before it are put, so many, and this is the place after them.
+pub record HeadsPut (shape : Shape) (sources : Sources) (previous : List ℕ) (i g last : ℕ)
+    (before : List ℕ) (start : ℕ) (after : List ℕ) (place many : ℕ) : Type 0 where
+  pub count : many ≡ length (copiesBack previous mostLines last)
+  pub text : (case : Case) → HasShape case shape → HasSources case sources
+      → Spelt (copyHeads case (sourcesOf case) i g (copiesBack previous mostLines last)) before start after place

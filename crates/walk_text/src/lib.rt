@@ -2,7 +2,6 @@
 ghost use mathlib.Core.Path.{_≡_};
 ghost use Prim.Native.Nat.{ℕ};
 ghost use mathlib.Core.List.{List};
-ghost use lib.ListN.{length};
 ghost use Rattle.model.specs.Limits.{mostLines};
 ghost use Rattle.model.specs.CaseFile.{Case, caseOf};
 ghost use Rattle.smt.specs.Spelling.{formulaText};
@@ -10,7 +9,7 @@ ghost use Rattle.script.specs.Assertions.{sourcesOf};
 ghost use Rattle.laws.specs.Accepted.{Accepted};
 ghost use Rattle.spell.specs.Spelt.{Spelt};
 ghost use Rattle.linked.specs.Shape.{HasShape, HasSources};
-ghost use Rattle.walk_text.specs.Walk.{PreviousCopies, copiesBack, walkCopies, copyHead, copyHeads};
+ghost use Rattle.walk_text.specs.Walk.{PreviousCopies, walkCopies, copyHead, HeadsPut};
 ghost use Rattle.walk_text.specs.Previous.{HasTable, notedRow};
 use linked::Shape;
 use linked::Sources;
@@ -99,8 +98,7 @@ fn put_copies(
     g: u16,
     last: u16,
 ) -> Heads
-    ensures { λ r. ⌜ r .many ≡ length (copiesBack (now (previous .entry)) mostLines last) ⌝ }
-    ensures { λ r. ⌜ ((case : Case) → HasShape case shape → HasSources case sources → Spelt (copyHeads case (sourcesOf case) i g (copiesBack (now (previous .entry)) mostLines last)) (now (text .entry)) start (now (text .exit)) (r .place)) ⌝ }
+    ensures { λ r. ⌜ HeadsPut shape sources (now (previous .entry)) i g last (now (text .entry)) start (now (text .exit)) (r .place) (r .many) ⌝ }
 {
     let mut place = start;
     let mut p = last;

@@ -23,7 +23,7 @@ same-length : tie.Need-same-length
 same-length c = search needs
 
 returns : tie.Need-returns
-returns c = λ case s o. walk-spelt case _ s _ (c .before .before .before .before .before .before .before .before .before .before .before .before .before .before .before .before .args .i) (c .before .before .before .before .before .before .before .before .before .before .before .before .before .before .before .before .args .g) _ (c .before .before .before .before .before .before .before .before .before .before .before .before .put-copies .ensures .0) (c .before .before .before .before .before .before .before .before .before .block-value .ensures) (c .before .before .before .before .before .before .before .before .value-before .ensures case s) (c .before .before .before .before .before .before .before .before .before .before .before .before .put-copies .ensures .1 case s o) (c .before .before .before .before .before .before .put-same .ensures case o) (c .before .before .put-closing .ensures)
+returns c = λ case s o. walk-spelt case _ s _ (c .before .before .before .before .before .before .before .before .before .before .before .before .before .before .before .before .args .i) (c .before .before .before .before .before .before .before .before .before .before .before .before .before .before .before .before .args .g) _ (c .before .before .before .before .before .before .before .before .before .before .before .before .put-copies .ensures .count) (c .before .before .before .before .before .before .before .before .before .block-value .ensures) (c .before .before .before .before .before .before .before .before .value-before .ensures case s) (c .before .before .before .before .before .before .before .before .before .before .before .before .put-copies .ensures .text case s o) (c .before .before .before .before .before .before .put-same .ensures case o) (c .before .before .put-closing .ensures)
 
 pub put-walk-spec : {M : Type 1} → statement M
 put-walk-spec =
