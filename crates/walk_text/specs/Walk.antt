@@ -10,9 +10,10 @@ use Rattle.model.specs.Limits.{mostLines}
 use Rattle.model.specs.CaseFile.{Line, Case, linesOf}
 use Rattle.model.specs.Line.{itemName}
 use Rattle.model.specs.Copies.{latest}
+use Rattle.model.specs.Table.{Row}
 use Rattle.smt.specs.Term.{constant, Formula, select}
 use Rattle.smt.specs.Spelling.{ascii, formulaText}
-use Rattle.script.specs.Assertions.{equal, blockOf, valueOf, blockValue, valueBefore, same, sourcesOf}
+use Rattle.script.specs.Assertions.{equal, blockOf, valueOf, blockValue, valueBefore, same, sourcesOf, assertionOf}
 use Rattle.spell.specs.Spelt.{Spelt}
 use Rattle.linked.specs.Shape.{HasShape, HasSources}
 use Rattle.linked.specs.declared.Shape.{Shape}
@@ -43,6 +44,12 @@ walkOver case sources i g (p ∷ ps) =
 
 abbrev pub walkCopies : Case → List ℕ → ℕ → ℕ → List ℕ → ℕ → ℕ → Formula
 walkCopies case sources i g previous most p = walkOver case sources i g (copiesBack previous most p)
+
+-- Each 6 of these rows, "6, item, block i, last copy in thread i modulo T", has the walk from its copy back as its assertion.
+abbrev pub SixesWalk : Case → List ℕ → List ℕ → List Row → Type 0
+SixesWalk case sources previous [] = Unit
+SixesWalk case sources previous (w ∷ ws) =
+    (w .kind ≡ 6 → walkCopies case sources (w .two) (w .one) previous mostLines (w .three) ≡ assertionOf case sources w) × SixesWalk case sources previous ws
 
 -- The text of the walk as the code writes it: a head for each copy, then the value before the block, and the closing parentheses.
 unfoldable pub copyHead : Case → List ℕ → ℕ → ℕ → ℕ → List ℕ
