@@ -1,6 +1,5 @@
 -- Each 6 of an accepted case's table has the walk over its copies as its assertion.
 -- Assumes nothing. Met again where the assertions of all rows are written.
-use mathlib.Core.Path.{_≡_}
 use Prim.Native.Nat.{ℕ, zero, suc, _+_, _≤_}
 use mathlib.Core.List.{List, [], _∷_, _++_}
 use native.Mathlib.Omega.{arith}
