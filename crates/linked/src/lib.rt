@@ -1,15 +1,15 @@
 // Equations with their links, and the variables of a case: what the assertions of lines and of block values share.
 ghost use mathlib.Core.Path.{_≡_};
-ghost use Prim.Native.Nat.{ℕ, _+_, _-_, _*_};
+ghost use Prim.Native.Nat.{ℕ, _+_, _-_, _*_, _≤_};
 ghost use lib.ListN.{take};
 ghost use Rattle.model.specs.CaseFile.{Case};
 ghost use Rattle.smt.specs.Term.{variable};
 ghost use Rattle.smt.specs.Spelling.{formulaText};
-ghost use Rattle.script.specs.Assertions.{linked, same, valueBefore};
+ghost use Rattle.script.specs.Assertions.{mostSources, sourcesOf, linked, same, valueBefore};
 ghost use Rattle.spell.specs.Spelt.{Spelt};
 ghost use Rattle.spell.specs.Atoms.{atomTerm};
 ghost use Rattle.linked.specs.Links.{linkHead, linkHeads};
-ghost use Rattle.linked.specs.Shape.{HasShape, blockValueNumber};
+ghost use Rattle.linked.specs.Shape.{HasShape, HasSources, blockValueNumber};
 use model::ITEMS;
 use spell::Atom;
 use spell::put;
@@ -87,7 +87,7 @@ fn put_link(text: &mut [u8], start: usize, x: u32, y: u32, source: u16) -> usize
 
 // The links of two variables, one after the other.
 fn put_links(text: &mut [u8], start: usize, x: u32, y: u32, sources: Sources) -> usize
-    ensures { λ r. ⌜ Spelt (linkHeads x y (take (sources .count) (sources .records))) (now (text .entry)) start (now (text .exit)) r ⌝ }
+    ensures { λ r. ⌜ (sources .count ≤ mostSources → Spelt (linkHeads x y (take (sources .count) (sources .records))) (now (text .entry)) start (now (text .exit)) r) ⌝ }
 {
     let mut at = start;
     let mut j = 0;
@@ -99,4 +99,33 @@ fn put_links(text: &mut [u8], start: usize, x: u32, y: u32, sources: Sources) ->
         j += 1;
     }
     at
+}
+
+// Two variables are equal, with their links.
+fn put_linked(text: &mut [u8], start: usize, x: u32, y: u32, sources: Sources) -> usize
+    ensures { λ r. ⌜ ((case : Case) → HasSources case sources → Spelt (formulaText (linked (sourcesOf case) (variable x) (variable y))) (now (text .entry)) start (now (text .exit)) r) ⌝ }
+{
+    let mut at = put_links(text, start, x, y, sources);
+    at = put_equal(text, at, Atom::Variable(x), Atom::Variable(y));
+    put_closing(text, at, sources.count)
+}
+
+// A variable and an atom are equal, with links where both are variables.
+fn put_variable_same(text: &mut [u8], start: usize, k: u32, y: Atom, sources: Sources) -> usize
+    ensures { λ r. ⌜ ((case : Case) → HasSources case sources → Spelt (formulaText (same (sourcesOf case) (variable k) (atomTerm y))) (now (text .entry)) start (now (text .exit)) r) ⌝ }
+{
+    match y {
+        Atom::Variable(j) => put_linked(text, start, k, j, sources),
+        Atom::Constant(n) => put_equal(text, start, Atom::Variable(k), Atom::Constant(n)),
+    }
+}
+
+// Two atoms are equal, with links where both are variables.
+pub fn put_same(text: &mut [u8], start: usize, x: Atom, y: Atom, sources: Sources) -> usize
+    ensures { λ r. ⌜ ((case : Case) → HasSources case sources → Spelt (formulaText (same (sourcesOf case) (atomTerm x) (atomTerm y))) (now (text .entry)) start (now (text .exit)) r) ⌝ }
+{
+    match x {
+        Atom::Variable(k) => put_variable_same(text, start, k, y, sources),
+        Atom::Constant(n) => put_equal(text, start, Atom::Constant(n), y),
+    }
 }

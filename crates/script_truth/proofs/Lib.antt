@@ -7,3 +7,5 @@ pub mod Rows
 pub mod Truth
 pub mod Spelled
 pub mod SpelledTable
+pub mod Filed
+pub mod Examples

@@ -19,7 +19,7 @@ use Rattle.smt.specs.Term.{Test, Term, constant, Formula}
 use Rattle.script.specs.Assertions.{blockOf, valueOf, blockValue, valueBefore, localWith, linked, isVariable, same, blocksFrom, ownBlocks, readBefore, readItem, readName, guardTrue, operand, comparison, expression, operandsOf, oldTarget, factsWith, facts, withFacts, isExpression, isTruth, guardedIn, guardedOut, lineAssertion, mutexFree, demandAssertion, walkBack, orBreaks, someBreaks, someThreadBreaks}
 use Rattle.laws.specs.RecordNumber.{RecordNumber}
 use Rattle.laws.specs.Order.{AllLines, AllThreads}
-use Rattle.script_truth.specs.Spellable.{TermSpellable, FormulaSpellable}
+use Rattle.reading.specs.Spellable.{TermSpellable, FormulaSpellable}
 
 -- What is so of what a test takes, either way.
 pub taken : {A : Type 0} (P : A → Type 0) (p : Bool) (x y : A) → (p ≡ true → P x) → (p ≡ false → P y) → P (cond p x y)
@@ -48,19 +48,16 @@ module _ (case : Case) (few : case .n < wordSize) (initials : (g : ℕ) → getD
   Known k = RecordNumber (case .R) k
 
   pub block-spelled : (k : ℕ) → Known k → T (blockOf k)
-  unfolding TermSpellable
   block-spelled k known = omega (arith, known .some, known .low)
 
   value-spelled : (k : ℕ) → Known k → T (valueOf k)
-  unfolding TermSpellable
   value-spelled k known = omega (arith, known .some, known .low)
 
   item-spelled : (i g : ℕ) → i < case .n → g < itemCount case → T (blockValue case i g)
-  unfolding TermSpellable
   item-spelled i g h k = omega (arith, mul-le-mul-right (itemCount case) h, suc-mul i (itemCount case))
 
   before-spelled : (i g : ℕ) → i ≤ case .n → g < itemCount case → T (valueBefore case i g)
-  unfolding valueBefore TermSpellable
+  unfolding valueBefore
   before-spelled zero g h k = initials g
   before-spelled (suc i) g h k = item-spelled i g h k
 
@@ -68,13 +65,13 @@ module _ (case : Case) (few : case .n < wordSize) (initials : (g : ℕ) → getD
   copy-known p h q = let some = eqb-false p 0 q in record { some = omega arith; low = h }
 
   local-spelled : (p : ℕ) → p ≤ case .R → T (localWith p)
-  unfolding localWith TermSpellable
+  unfolding localWith
   local-spelled p h = taken T (eqb p 0) _ (valueOf p) (λ q. omega arith) (λ q. value-spelled p (copy-known p h q))
 
   -- ---- Links and facts.
   module _ (x y : Term) (first : T x) (second : T y) where
     linked-spelled : (sources : List ℕ) → AllRecords (case .R) sources → F (linked sources x y)
-    unfolding linked FormulaSpellable
+    unfolding linked
     linked-spelled [] all = (first, second)
     linked-spelled (s ∷ sources) all =
         let source = value-spelled s (all .0) in
@@ -83,7 +80,7 @@ module _ (case : Case) (few : case .n < wordSize) (initials : (g : ℕ) → getD
     module _ (t : Test) where
       first-facts-spelled : (s : ℕ) (others : List ℕ) (base : Formula) → Known s → AllRecords (case .R) others → F base
           → F (factsWith t x y s others base)
-      unfolding factsWith FormulaSpellable
+      unfolding factsWith
       first-facts-spelled s [] base one all b = b
       first-facts-spelled s (u ∷ others) base one all b =
           let p = value-spelled s one in
@@ -99,14 +96,14 @@ module _ (case : Case) (few : case .n < wordSize) (initials : (g : ℕ) → getD
 
   module _ (sources : List ℕ) (known : AllRecords (case .R) sources) where
     same-spelled : (x y : Term) → T x → T y → F (same sources x y)
-    unfolding same FormulaSpellable
+    unfolding same
     same-spelled x y p q = taken F (isVariable x && isVariable y) (linked sources x y) _ (λ e. linked-spelled x y p q sources known) (λ e. (p, q))
 
     -- ---- Reads.
     module _ (x : Term) (spelled : T x) where
       read-before-spelled : (k g most i : ℕ) → Known k → g < itemCount case
           → F (readBefore case sources x k g (blocksFrom (case .T) (case .n) most i))
-      unfolding readBefore blocksFrom FormulaSpellable
+      unfolding readBefore blocksFrom
       read-before-spelled k g zero i own h = tt
       read-before-spelled k g (suc most) i own h = go (read-before-spelled k g most (i + case .T) own h)
         where
@@ -118,7 +115,7 @@ module _ (case : Case) (few : case .n < wordSize) (initials : (g : ℕ) → getD
               (λ q. tt)
 
       item-is-spelled : (l : Line) (g p : ℕ) → Known (l .number) → g < itemCount case → p ≤ case .R → F (readItem case sources x l g p)
-      unfolding readItem FormulaSpellable
+      unfolding readItem
       item-is-spelled l g p own h copy =
           let before = read-before-spelled (l .number) g (suc (case .n)) (l .thread) own h in
           taken F (eqb p 0) (readBefore case sources x (l .number) g (ownBlocks case (l .thread))) _ (λ q. before)
@@ -126,7 +123,7 @@ module _ (case : Case) (few : case .n < wordSize) (initials : (g : ℕ) → getD
           ((block-spelled p some, block-spelled (l .number) own), same-spelled x (valueOf p) spelled (value-spelled p some), before))
 
       name-spelled : (l : Line) (name p : ℕ) → Known (l .number) → p ≤ case .R → F (readName case sources x l name p)
-      unfolding readName FormulaSpellable
+      unfolding readName
       name-spelled l name p own copy =
           taken F (ltb name localCount) (same sources x (localWith p)) _ (λ q. same-spelled x (localWith p) spelled (local-spelled p copy))
           (λ q. taken F (ltb (name - localCount) (itemCount case)) (readItem case sources x l (name - localCount) p) _
@@ -134,17 +131,17 @@ module _ (case : Case) (few : case .n < wordSize) (initials : (g : ℕ) → getD
 
     -- ---- Guards and expressions.
     guard-spelled : (l : Line) (p : ℕ) → p ≤ case .R → F (guardTrue l p)
-    unfolding guardTrue FormulaSpellable
+    unfolding guardTrue
     guard-spelled l p copy =
         taken F (ltb (l .guard) 17) _ _ (λ q. (local-spelled p copy, omega arith)) (λ q. (local-spelled p copy, omega arith))
 
     operand-spelled : (x c p : ℕ) → c < wordSize → p ≤ case .R → T (operand x c p)
-    unfolding operand TermSpellable
+    unfolding operand
     operand-spelled x c p small copy = taken T (eqb x localCount) _ (localWith p) (λ q. small) (λ q. local-spelled p copy)
 
     module _ (v x y : Term) (op : ℕ) (result : T v) (first : T x) (second : T y) where
       expression-spelled : T (expression op x y)
-      unfolding expression TermSpellable
+      unfolding expression
       expression-spelled =
           taken T (eqb op 0) x _ (λ q. first)
           (λ q. taken T (ltb op 5) _ _ (λ q'. (first, second)) (λ q'. ((first, second), omega arith, omega arith)))
@@ -156,12 +153,12 @@ module _ (case : Case) (few : case .n < wordSize) (initials : (g : ℕ) → getD
           (λ q. facts-spelled x y first second (comparison op) sources sources base known known b) (λ q. b)
 
       is-expression-spelled : F (isExpression sources v op x y)
-      unfolding isExpression FormulaSpellable
+      unfolding isExpression
       is-expression-spelled =
           taken F (eqb op 0) (same sources v x) _ (λ q. same-spelled v x result first) (λ q. with-facts-spelled _ (result, expression-spelled))
 
       is-truth-spelled : F (isTruth sources v op x y)
-      unfolding isTruth FormulaSpellable
+      unfolding isTruth
       is-truth-spelled = with-facts-spelled _ (result, ((expression-spelled, omega arith), omega arith, omega arith))
 
     -- ---- Constraints 4 and 5 of a line, with these copies.
@@ -180,7 +177,7 @@ module _ (case : Case) (few : case .n < wordSize) (initials : (g : ℕ) → getD
           (operand-spelled (l .a) (l .c) a (line .constant) p) (operand-spelled (l .b) (l .c) b (line .constant) q)
 
       in-spelled : (kind : Kind) (a b : ℕ) → a ≤ case .R → b ≤ case .R → F (guardedIn kind case sources l a b)
-      unfolding guardedIn FormulaSpellable
+      unfolding guardedIn
       in-spelled compute a b p q = own-expression-spelled a b p q
       in-spelled store a b p q = own-expression-spelled a b p q
       in-spelled load a b p q = name-spelled (valueOf (l .number)) own-spelled l (operandA l) a (line .number) p
@@ -194,7 +191,7 @@ module _ (case : Case) (few : case .n < wordSize) (initials : (g : ℕ) → getD
       old-target-spelled target p = name-spelled (valueOf (l .number)) own-spelled l (targetName (case .G) l) target (line .number) p
 
       out-spelled : (kind : Kind) (target : ℕ) → target ≤ case .R → F (guardedOut kind case sources l target)
-      unfolding guardedOut FormulaSpellable
+      unfolding guardedOut
       out-spelled compute target p = old-target-spelled target p
       out-spelled store target p = old-target-spelled target p
       out-spelled load target p = old-target-spelled target p
@@ -206,14 +203,14 @@ module _ (case : Case) (few : case .n < wordSize) (initials : (g : ℕ) → getD
 
       pub line-spelled : (guard a b target : ℕ) → guard ≤ case .R → a ≤ case .R → b ≤ case .R → target ≤ case .R
           → F (lineAssertion case sources l guard a b target)
-      unfolding lineAssertion FormulaSpellable
+      unfolding lineAssertion
       line-spelled guard a b target g p q r =
           let inside = in-spelled (l .kind) a b p q in
           taken F (eqb (l .guard) 0) (guardedIn (l .kind) case sources l a b) _ (λ e. inside)
           (λ e. (guard-spelled l guard g, inside, out-spelled (l .kind) target r))
 
       free-spelled : (guard target : ℕ) → guard ≤ case .R → target ≤ case .R → F (mutexFree case sources l guard target)
-      unfolding mutexFree FormulaSpellable TermSpellable
+      unfolding mutexFree
       free-spelled guard target g p =
           let free = name-spelled (constant 0) (omega arith) l (targetName (case .G) l) target (line .number) p in
           taken F (eqb (l .guard) 0) (readName case sources (constant 0) l (targetName (case .G) l) target) _ (λ e. free)
@@ -221,7 +218,7 @@ module _ (case : Case) (few : case .n < wordSize) (initials : (g : ℕ) → getD
 
       pub demand-spelled : (kind : Kind) (guard target : ℕ) → guard ≤ case .R → target ≤ case .R
           → F (demandAssertion kind case sources l guard target)
-      unfolding demandAssertion FormulaSpellable
+      unfolding demandAssertion
       demand-spelled compute guard target g p = tt
       demand-spelled store guard target g p = tt
       demand-spelled load guard target g p = tt
@@ -234,7 +231,7 @@ module _ (case : Case) (few : case .n < wordSize) (initials : (g : ℕ) → getD
     -- ---- Constraints 6 and 7.
     pub walk-spelled : (i g : ℕ) (ls : List Line) → i < case .n → g < itemCount case → AllLines (Spells case) ls
         → F (walkBack case sources i g ls)
-    unfolding walkBack FormulaSpellable
+    unfolding walkBack
     walk-spelled i g [] h k all = same-spelled (blockValue case i g) (valueBefore case i g) (item-spelled i g h k) (before-spelled i g (omega arith) k)
     walk-spelled i g (l ∷ ls) h k all = go (walk-spelled i g ls h k (all .1))
       where
@@ -249,7 +246,7 @@ module _ (case : Case) (few : case .n < wordSize) (initials : (g : ℕ) → getD
             (λ e. rest)
 
   or-break-spelled : (kind : Kind) (l : Line) (others : Formula) → Known (l .number) → F others → F (orBreaks kind l others)
-  unfolding orBreaks FormulaSpellable
+  unfolding orBreaks
   or-break-spelled compute l others k rest = rest
   or-break-spelled store l others k rest = rest
   or-break-spelled load l others k rest = rest
@@ -265,6 +262,6 @@ module _ (case : Case) (few : case .n < wordSize) (initials : (g : ℕ) → getD
   some-break-spelled (l ∷ ls) others all rest = or-break-spelled (l .kind) l _ (all .0 .number) (some-break-spelled ls others (all .1) rest)
 
   pub goal-spelled : (threads : List (List Line)) → AllThreads (Spells case) threads → F (someThreadBreaks threads)
-  unfolding someThreadBreaks FormulaSpellable
+  unfolding someThreadBreaks
   goal-spelled [] all = tt
   goal-spelled (ls ∷ threads) all = some-break-spelled ls _ (all .0) (goal-spelled threads (all .1))

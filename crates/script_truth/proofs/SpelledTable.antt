@@ -1,5 +1,5 @@
 -- The script of an accepted case can be spelled: its variables are those that it declares, and its constants have 16 bits.
--- Assumes nothing. Met again where the text of a script is read back.
+-- Assumes nothing. Met again in Filed.
 use mathlib.Core.Path.{_≡_}
 use Prim.Native.Nat.{ℕ, zero, suc, _+_, _*_, _%_, _≤_, _<_}
 use mathlib.Core.Bool.{Bool, true, false}
@@ -16,7 +16,6 @@ use Rattle.model.specs.Copies.{latest, copyOf}
 use Rattle.model.specs.Holds.{fromRecord}
 use Rattle.model.specs.Table.{Row, followRow, lineOrderRows, orderRows, demandRows, valueRows, allOrderRows, allValueRows, itemRows, blockRows, runRows, goalRow, table}
 use Rattle.model.specs.declared.Verdict.the-variants as verdicts
-use Rattle.smt.specs.Term.{bitVectors}
 use Rattle.script.specs.Assertions.{mostSources, source, sourcesFrom, sourcesOf, assertionOf, assertionsOf, scriptOf}
 use Rattle.laws.specs.Accepted.{Accepted}
 use Rattle.laws.specs.Order.{AllLines, AllThreads}
@@ -28,7 +27,7 @@ use Rattle.laws.proofs.Chains.{thread-count}
 use Rattle.laws.proofs.LineFound.{line-found}
 use Rattle.laws.proofs.Sizes.{assignment-numbers}
 use Rattle.correspondence.proofs.WellFormed.{field-below, all-lines-by, well-formed}
-use Rattle.script_truth.specs.Spellable.{FormulaSpellable, AllSpellable}
+use Rattle.reading.specs.Spellable.{AllSpellable, ScriptSpellable}
 use Rattle.script_truth.proofs.Spelled.{taken, AllRecords, Spells, block-spelled, line-spelled, demand-spelled, walk-spelled, goal-spelled}
 
 -- ---- The sources are records.
@@ -80,13 +79,13 @@ module _ (case : Case) (few : case .n < wordSize) (initials : (g : ℕ) → getD
   Rows ws = AllSpellable (variables case) (assertionsOf case sources ws)
 
   rows-append : (ws us : List Row) → Rows ws → Rows us → Rows (ws ++ us)
-  unfolding assertionsOf AllSpellable
+  unfolding assertionsOf
   rows-append [] us h g = g
   rows-append (w ∷ ws) us h g = (h .0, rows-append ws us (h .1) g)
 
   order-spelled : (t : ℕ) (earlier ls : List Line) → t < wordSize → case .T < wordSize → AllLines (Spells case) ls
       → Rows (orderRows case t earlier ls)
-  unfolding orderRows lineOrderRows followRow assertionsOf assertionOf AllSpellable FormulaSpellable
+  unfolding orderRows lineOrderRows followRow assertionsOf assertionOf
   order-spelled t earlier [] small low all = tt
   order-spelled t earlier (l ∷ []) small low all =
       let own = block-spelled case few initials (l .number) (all .0 .number) in
@@ -98,7 +97,7 @@ module _ (case : Case) (few : case .n < wordSize) (initials : (g : ℕ) → getD
 
   orders-spelled : (t : ℕ) (threads : List (List Line)) → t + length threads < wordSize → case .T < wordSize → AllThreads (Spells case) threads
       → Rows (allOrderRows case t threads)
-  unfolding allOrderRows assertionsOf AllSpellable
+  unfolding allOrderRows assertionsOf
   orders-spelled t [] small low all = tt
   orders-spelled t (ls ∷ threads) small low all =
       rows-append (orderRows case t [] ls) _ (order-spelled t [] ls (omega arith) low (all .0))
@@ -106,7 +105,7 @@ module _ (case : Case) (few : case .n < wordSize) (initials : (g : ℕ) → getD
 
   demand-row-spelled : (kind : Kind) (earlier : List Line) (l : Line) → Spells case l → AllLines (Spells case) earlier
       → Rows (demandRows kind case earlier l)
-  unfolding demandRows assertionsOf assertionOf AllSpellable
+  unfolding demandRows assertionsOf assertionOf
   demand-row-spelled compute earlier l line before = tt
   demand-row-spelled store earlier l line before = tt
   demand-row-spelled load earlier l line before = tt
@@ -122,7 +121,7 @@ module _ (case : Case) (few : case .n < wordSize) (initials : (g : ℕ) → getD
   demand-row-spelled unlock earlier l line before = tt
 
   values-spelled : (earlier ls : List Line) → AllLines (Spells case) earlier → AllLines (Spells case) ls → Rows (valueRows case earlier ls)
-  unfolding valueRows assertionsOf assertionOf AllSpellable
+  unfolding valueRows assertionsOf assertionOf
   values-spelled earlier [] before all = tt
   values-spelled earlier (l ∷ ls) before all = (
     rw (all .0 .found) (line-spelled case few initials sources known l (all .0) _ _ _ _
@@ -133,7 +132,7 @@ module _ (case : Case) (few : case .n < wordSize) (initials : (g : ℕ) → getD
   )
 
   all-values-spelled : (threads : List (List Line)) → AllThreads (Spells case) threads → Rows (allValueRows case threads)
-  unfolding allValueRows assertionsOf AllSpellable
+  unfolding allValueRows assertionsOf
   all-values-spelled [] all = tt
   all-values-spelled (ls ∷ threads) all =
       rows-append (valueRows case [] ls) _ (values-spelled [] ls tt (all .0)) (all-values-spelled threads (all .1))
@@ -143,7 +142,7 @@ module _ (case : Case) (few : case .n < wordSize) (initials : (g : ℕ) → getD
     lines-back i = all-reversed (Spells case) (linesOf case (i % case .T)) [] (each-thread (Spells case) (case .threads) all (i % case .T)) tt
 
     items-spelled : (lines : List Line) (i g many : ℕ) → i < case .n → g + many ≤ itemCount case → Rows (itemRows case lines i g many)
-    unfolding itemRows assertionsOf assertionOf AllSpellable
+    unfolding itemRows assertionsOf assertionOf
     items-spelled lines i g zero low high = tt
     items-spelled lines i g (suc many) low high = (
       walk-spelled case few initials sources known i g _ low (omega arith) (all-from-record (Spells case) _ _ (lines-back i)),
@@ -151,7 +150,7 @@ module _ (case : Case) (few : case .n < wordSize) (initials : (g : ℕ) → getD
     )
 
     blocks-spelled : (i many : ℕ) → i + many ≤ case .n → Rows (blockRows case i many)
-    unfolding blockRows assertionsOf AllSpellable
+    unfolding blockRows assertionsOf
     blocks-spelled i zero high = tt
     blocks-spelled i (suc many) high =
         rows-append (itemRows case (reverse (linesOf case (i % case .T))) i 0 (itemCount case)) _
@@ -159,7 +158,7 @@ module _ (case : Case) (few : case .n < wordSize) (initials : (g : ℕ) → getD
         (blocks-spelled (suc i) many (omega arith))
 
     table-spelled : length (case .threads) < wordSize → case .T < wordSize → Rows (table case)
-    unfolding table runRows assertionsOf assertionOf AllSpellable
+    unfolding table runRows assertionsOf assertionOf
     table-spelled small low =
         rows-append (allOrderRows case 0 (case .threads) ++ (allValueRows case (case .threads) ++ blockRows case 0 (case .n))) (goalRow ∷ [])
         (rows-append (allOrderRows case 0 (case .threads)) _ (orders-spelled 0 (case .threads) (omega arith) low all)
@@ -180,17 +179,18 @@ module _ (bytes : List ℕ) (accepted : verdict bytes ≡ verdicts.Accepted) whe
   ok : Accepted bytes
   ok = accepted-of bytes accepted
 
-  pub few-variables : variables (caseOf bytes) ≤ bitVectors
-  few-variables = omega (arith, assignment-numbers bytes ok)
-
-  pub script-spelled : AllBelow 256 bytes → AllSpellable (variables (caseOf bytes)) (scriptOf (caseOf bytes) .assertions)
+  pub script-spelled : AllBelow 256 bytes → ScriptSpellable (scriptOf (caseOf bytes))
   unfolding scriptOf
   script-spelled small =
       let case = caseOf bytes in
       let wf = well-formed bytes small ok in
-      table-spelled case (omega (arith, ok .few-switches)) (below-at wordSize (case .initial) (omega arith) (wf .small-initial))
-      (sourcesOf case) (sources-known case)
-      (all-threads (Spells case) (case .threads) (λ t few. all-spell case (linesOf case t) (line-found case (wf .once) t)
-      (all-lines-by bytes ok (Small case) t (λ k low high.
-      record { number = record { some = low; low = high }; constant = field-below bytes small (8 + 8 * k + 7) }))))
-      (omega (arith, thread-count bytes, ok .few-threads)) (omega (arith, ok .few-threads))
+      record {
+        declared = omega (arith, assignment-numbers bytes ok);
+        assertions =
+            table-spelled case (omega (arith, ok .few-switches)) (below-at wordSize (case .initial) (omega arith) (wf .small-initial))
+            (sourcesOf case) (sources-known case)
+            (all-threads (Spells case) (case .threads) (λ t few. all-spell case (linesOf case t) (line-found case (wf .once) t)
+            (all-lines-by bytes ok (Small case) t (λ k low high.
+            record { number = record { some = low; low = high }; constant = field-below bytes small (8 + 8 * k + 7) }))))
+            (omega (arith, thread-count bytes, ok .few-threads)) (omega (arith, ok .few-threads));
+      }

@@ -1,6 +1,6 @@
 -- The assertions of an accepted case's script are true of an assignment exactly where the rows of its table hold: row by row where the
 -- rows before hold, the first that is false is the first row that fails, and all are true exactly if the checker says yes.
--- Assumes nothing. This is where the other modules lead, but for Spelled.
+-- Assumes nothing. Met again in Filed.
 use mathlib.Core.Path.{_≡_, refl, sym, _∙_}
 use mathlib.Core.Logic.{_↔_}
 use Prim.Native.Nat.{ℕ, suc}

@@ -1,2 +1,2 @@
 pub mod Agreement
-pub mod Spellable
+pub mod Filed

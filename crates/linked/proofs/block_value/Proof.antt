@@ -1,30 +1,25 @@
+-- `block_value` is a sum of numbers of 16 bits and of a product of two. Assumes nothing.
 use borrow.Author.Needs.{needs}
+use native.Mathlib.Omega.{arith}
+use Rattle.linked.proofs.Variables.{product-small}
 use Rattle.linked.proofs.block_value.Statement.{statement}
 use Rattle.linked.proofs.block_value.Tie as tie
-use Rattle.linked.proofs.block_value.Reads as reads
-use Rattle.linked.proofs.block_value.Lts as lts
 
--- src/lib.rt:59:5
 cast-result : tie.Need-cast-result
 cast-result c = search needs
 
--- src/lib.rt:59:36
 cast-result-2 : tie.Need-cast-result-2
 cast-result-2 c = search needs
 
--- src/lib.rt:59:25
 mul-result : tie.Need-mul-result
-mul-result c = ?
+mul-result c = omega (arith, product-small (c .before .before .args .i) (c .before .before .args .shape .items) (search needs) (search needs))
 
--- src/lib.rt:59:5
 add-result : tie.Need-add-result
-add-result c = ?
+add-result c = omega (arith, product-small (c .before .before .args .i) (c .before .before .args .shape .items) (search needs) (search needs))
 
--- src/lib.rt:59:5
 add-result-2 : tie.Need-add-result-2
-add-result-2 c = ?
+add-result-2 c = omega (arith, product-small (c .before .before .args .i) (c .before .before .args .shape .items) (search needs) (search needs))
 
--- src/lib.rt:56:1
 returns : tie.Need-returns
 returns c = search needs
 

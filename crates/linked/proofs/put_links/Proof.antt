@@ -1,58 +1,48 @@
+-- `put_links` puts one link after the other. Assumes nothing.
+use borrow.Author.Needs.{needs}
+use Prim.Native.Nat.{_-_}
+use Rattle.linked.proofs.Links.{Linking, linking-start, linking-more, linking-end, linking-last}
 use Rattle.linked.proofs.put_links.Statement.{statement}
 use Rattle.linked.proofs.put_links.Tie as tie
-use Rattle.linked.proofs.put_links.Reads as reads
-use Rattle.linked.proofs.put_links.Lts as lts
-use Rattle.linked.proofs.put_link.Reads as put-link-reads
 
 abbrev Inv-loop : tie.InvT-loop
-Inv-loop text₀ start x y sources at₀ j₀ text at j = ?
+Inv-loop text₀ start x y sources at₀ j₀ text at j = Linking x y (sources .records) (sources .count) text₀ start j text at
 
 abbrev μ-loop : tie.MeasureT-loop
-μ-loop text₀ start x y sources at₀ j₀ text at j = ?
+μ-loop text₀ start x y sources at₀ j₀ text at j = 6 - j
 
--- src/lib.rt:94:5
 loop-holds : tie.Need-loop-holds Inv-loop μ-loop
-loop-holds c = ?
+loop-holds c = linking-start (search needs)
 
--- src/lib.rt:96:13
 same-length : tie.Need-same-length Inv-loop μ-loop
-same-length c = ?
+same-length c = c .before .before .loop .inv .left .spelt .same
 
--- src/lib.rt:96:13
 returns : tie.Need-returns Inv-loop μ-loop
-returns c = ?
+returns c = λ few. linking-end (c .before .before .loop .inv) (c .if1 .taken)
 
--- src/lib.rt:98:39
 mul-put-link : tie.Need-mul-put-link Inv-loop μ-loop
-mul-put-link c = ?
+mul-put-link c = search needs
 
--- src/lib.rt:98:39
 element-copy-out-put-link : tie.Need-element-copy-out-put-link Inv-loop μ-loop
-element-copy-out-put-link c = ?
+element-copy-out-put-link c = search needs
 
--- src/lib.rt:98:9
 put-link-requires : tie.Need-put-link-requires Inv-loop μ-loop
-put-link-requires c κs = ?
+put-link-requires c κs = search needs
 
--- src/lib.rt:99:9
 add-j : tie.Need-add-j Inv-loop μ-loop
-add-j c = ?
+add-j c = search needs
 
--- src/lib.rt:94:5
 loop-less : tie.Need-loop-less Inv-loop μ-loop
-loop-less c = ?
+loop-less c = search needs
 
--- src/lib.rt:94:5
 loop-again : tie.Need-loop-again Inv-loop μ-loop
-loop-again c = ?
+loop-again c = linking-more (c .before .before .before .before .before .before .before .loop .inv) (c .before .before .before .before .before .if1 .left) (search needs) (c .before .before .put-link .ensures)
 
--- src/lib.rt:89:1
 same-length-2 : tie.Need-same-length-2 Inv-loop μ-loop
-same-length-2 c = ?
+same-length-2 c = c .before .loop .inv .left .spelt .same
 
--- src/lib.rt:89:1
 returns-2 : tie.Need-returns-2 Inv-loop μ-loop
-returns-2 c = ?
+returns-2 c = λ few. linking-last (c .before .loop .inv) few (c .loop-test .left)
 
 pub put-links-spec : {M : Type 1} → statement M
 put-links-spec =

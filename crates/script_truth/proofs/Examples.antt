@@ -1,0 +1,82 @@
+-- The text of case A is the one that docs/SMT-TEXT.md shows, to the byte, and so are the two assertions with links that it shows.
+-- Assumes nothing. No proof uses them: they hold the definitions of the text beside its document.
+use mathlib.Core.Path.{_≡_, refl}
+use Prim.Native.Nat.{ℕ}
+use mathlib.Core.List.{List, [], _∷_}
+use lib.ListN.{take, drop}
+use Rattle.model.specs.CaseFile.{caseOf}
+use Rattle.model.specs.Accept.{verdict}
+use Rattle.model.specs.declared.Verdict.the-variants.{Accepted}
+use Rattle.smt.specs.Spelling.{fourHex, termText, formulaText, declaration, declarations, assertion, assertionLines, scriptText}
+use Rattle.script.specs.Assertions.{valueBefore, localWith, sourcesFrom, sourcesOf, linked, same, blocksFrom, readBefore, readItem, readName, guardTrue, operand, comparison, operation, expression, factsWith, facts, withFacts, isExpression, isTruth, guardedIn, guardedOut, lineAssertion, mutexFree, demandAssertion, walkBack, orBreaks, someBreaks, someThreadBreaks, assertionOf, assertionsOf, scriptOf}
+use Rattle.script.specs.Text.{smtText}
+use Rattle.correspondence.proofs.Computing.{computing}
+use Rattle.correspondence.proofs.CaseA.{bytesOf, caseA, codesOf, linesOfText}
+use Rattle.correspondence.proofs.CaseBytes.{header, rec, file}
+
+-- `unfolding spelling` lets the text of a case compute.
+unfoldable spelling : Type 0
+unfolding computing
+    fourHex termText formulaText declaration declarations assertion assertionLines scriptText
+    valueBefore localWith sourcesFrom sourcesOf linked same blocksFrom readBefore readItem readName guardTrue operand comparison operation expression
+    factsWith facts withFacts isExpression isTruth guardedIn guardedOut lineAssertion mutexFree demandAssertion walkBack
+    orBreaks someBreaks someThreadBreaks assertionOf assertionsOf scriptOf
+    smtText
+spelling = Unit
+
+unfoldable pub smtTextA : List ℕ
+unfolding codesOf linesOfText
+smtTextA = linesOfText (
+    "(set-logic QF_BV)"
+    ∷ "(declare-fun v0 () (_ BitVec 16))"
+    ∷ "(declare-fun v1 () (_ BitVec 16))"
+    ∷ "(declare-fun v2 () (_ BitVec 16))"
+    ∷ "(declare-fun v3 () (_ BitVec 16))"
+    ∷ "(declare-fun v4 () (_ BitVec 16))"
+    ∷ "(declare-fun v5 () (_ BitVec 16))"
+    ∷ "(declare-fun v6 () (_ BitVec 16))"
+    ∷ "(declare-fun v7 () (_ BitVec 16))"
+    ∷ "(declare-fun v8 () (_ BitVec 16))"
+    ∷ "(declare-fun v9 () (_ BitVec 16))"
+    ∷ "(declare-fun v10 () (_ BitVec 16))"
+    ∷ "(declare-fun v11 () (_ BitVec 16))"
+    ∷ "(assert (= (bvurem v0 #x0002) #x0000))"
+    ∷ "(assert (bvule v0 v2))"
+    ∷ "(assert (= (bvurem v2 #x0002) #x0000))"
+    ∷ "(assert (bvule v2 v4))"
+    ∷ "(assert (= (bvurem v4 #x0002) #x0000))"
+    ∷ "(assert (bvule v4 v6))"
+    ∷ "(assert (= (bvurem v6 #x0002) #x0000))"
+    ∷ "(assert (bvule v6 #x0002))"
+    ∷ "(assert (= (bvurem v8 #x0002) #x0001))"
+    ∷ "(assert (bvule v8 #x0002))"
+    ∷ "(assert (ite (= v0 #x0000) (= v1 #x0000) (ite (= v0 #x0002) (= v1 v11) true)))"
+    ∷ "(assert (= v3 (bvadd v1 #x0001)))"
+    ∷ "(assert (ite (= v2 v4) (= v5 v3) (ite (= v4 #x0000) (= v5 #x0000) (ite (= v4 #x0002) (= v5 v11) true))))"
+    ∷ "(assert (= v7 (ite (= (ite (= v5 #x0001) #x0001 #x0000) #x0000) #x0000 #x0001)))"
+    ∷ "(assert (= v9 #x0005))"
+    ∷ "(assert (ite (= v2 #x0000) (= v10 v3) (= v10 #x0000)))"
+    ∷ "(assert (ite (= v8 #x0001) (= v11 v9) (= v11 v10)))"
+    ∷ "(assert (or (= v7 #x0000) false))"
+    ∷ "(check-sat)"
+    ∷ [])
+
+pub text-of-case-a : smtText (caseA 2) ≡ smtTextA
+unfolding spelling caseA smtTextA
+text-of-case-a = refl
+
+-- "With an input at record 1, line 2 storing its local in global 0 and line 3 loading it", T 2, n 1: constraints 8 and 9.
+unfoldable pub linkedCase : List ℕ
+unfolding file header rec bytesOf
+linkedCase = file (header 2 1 1 0 1 0 0 0) (rec 2 4 0 0 0 0 0 0 (rec 3 2 0 0 0 0 0 0 (rec 0 3 0 1 0 0 0 0 [])))
+
+pub linked-case-accepted : verdict linkedCase ≡ Accepted
+unfolding computing linkedCase
+linked-case-accepted = refl
+
+pub linked-lines : assertionLines (take 2 (drop 7 (scriptOf (caseOf linkedCase) .assertions))) ≡ linesOfText (
+    "(assert (and (not (xor (= v3 v1) (= v1 v1))) (= v3 v1)))"
+    ∷ "(assert (ite (= v2 v4) (and (not (xor (= v5 v1) (= v3 v1))) (= v5 v3)) (ite (= v4 #x0000) (= v5 #x0000) true)))"
+    ∷ [])
+unfolding spelling linkedCase codesOf linesOfText
+linked-lines = refl
