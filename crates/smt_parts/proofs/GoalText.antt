@@ -11,6 +11,7 @@ use Rattle.spell.specs.Spelt.{Spelt}
 use Rattle.spell.specs.Atoms.{closing}
 use Rattle.spell.proofs.Spelling.{spelt-then}
 use Rattle.spell.proofs.Numbers.{spelt-as}
+use Rattle.linked.proofs.Nesting.{head-of-two}
 use Rattle.smt_parts.specs.Goal.{breakHead, breakHeads, allBreakHeads, asserts, assertsOf}
 
 closing-more : (n m : ℕ) → closing n ++ closing m ≡ closing (m + n)
@@ -29,7 +30,7 @@ line-text compute l f = sym (append-nil (formulaText f))
 line-text store l f = sym (append-nil (formulaText f))
 line-text load l f = sym (append-nil (formulaText f))
 line-text input l f = sym (append-nil (formulaText f))
-line-text assert l f = sym (ap (λ (xs : List ℕ). ascii "(or " ++ xs) (append-assoc (formulaText (isZero (valueOf (l .number)))) (ascii " ") (formulaText f ++ ascii ")")))
+line-text assert l f = head-of-two (ascii "(or ") (formulaText (isZero (valueOf (l .number)))) (formulaText f)
 line-text assume l f = sym (append-nil (formulaText f))
 line-text lock l f = sym (append-nil (formulaText f))
 line-text unlock l f = sym (append-nil (formulaText f))

@@ -136,6 +136,14 @@ module _ {bytes : List ℕ} {k : ℕ} {sources : Sources} (v : Sourcing bytes k 
 
   pub sourcing-end : records bytes < k → HasSources (caseOf bytes) sources
   unfolding sourcesFrom
-  sourcing-end h =
-      let none : records bytes + 1 - k ≡ 0 = omega arith in
-      v .found .are ∙ sym (append-nil (v .so-far)) ∙ rw none at (v .left)
+  sourcing-end h = record {
+    few = v .found .few;
+    many = ap length (sym all) ∙ so-many (v .found);
+    list = v .found .are ∙ all;
+  }
+    where
+      none : records bytes + 1 - k ≡ 0
+      none = omega arith
+
+      all : v .so-far ≡ sourcesOf (caseOf bytes)
+      all = sym (append-nil (v .so-far)) ∙ (rw none at (v .left))

@@ -1,6 +1,6 @@
 -- `shape_of` reads the header. Assumes nothing.
 use borrow.Author.Needs.{needs}
-use Rattle.smt_parts.proofs.Shape.{first-values}
+use Rattle.smt_parts.proofs.Shape.{first-whole, first-values}
 use Rattle.smt_parts.proofs.shape_of.Statement.{statement}
 use Rattle.smt_parts.proofs.shape_of.Tie as tie
 
@@ -38,6 +38,7 @@ returns c = record {
   globals = c .before .before .before .globals .ensures;
   items = c .before .before .items .ensures .is;
   base = search needs;
+  whole = first-whole _ _ (search needs) (c .first-items .ensures);
   first = first-values _ _ (c .first-items .ensures);
 }
 
