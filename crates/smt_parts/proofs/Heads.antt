@@ -20,7 +20,8 @@ use Rattle.smt_parts.specs.Goal.{HasThread, breakHead, breakHeads, allBr
 
 -- One record.
 module _ {d a b e : List ℕ} {start at place r : ℕ} (k : ℕ) where
-  pub break-spelt : {value : ℕ} → value ≡ 2 * (k - 1) + 1 → Spelt (ascii "(or ") d start a at → Spelt (formulaText (equal (atomTerm (Variable value)) (atomTerm (Constant 0)))) a at b place
+  pub break-spelt : {value : ℕ} → value ≡ 2 * (k - 1) + 1 → Spelt (ascii "(or ") d start a at
+      → Spelt (formulaText (equal (atomTerm (Variable value)) (atomTerm (Constant 0)))) a at b place
       → Spelt (ascii " ") b place e r → Spelt (breakHead (kindOf 5) k) d start e r
   unfolding breakHead kindOf
   break-spelt is word zero blank = rw (← is) (spelt-then word (spelt-then zero blank))

@@ -72,7 +72,8 @@ unfolding withSource sourcesFrom
 source-step case xs many k κ e = rw e (go (isInput κ) refl (lt-view (length xs) mostSources))
   where
     go : (q : Bool) → isInput κ ≡ q → LtView (length xs) mostSources
-        → withSource xs κ k ++ sourcesFrom case many (suc k) (mostSources - length (withSource xs κ k)) ≡ xs ++ source (isInput κ) k (sourcesFrom case many (suc k)) (mostSources - length xs)
+        → withSource xs κ k ++ sourcesFrom case many (suc k) (mostSources - length (withSource xs κ k))
+        ≡ xs ++ source (isInput κ) k (sourcesFrom case many (suc k)) (mostSources - length xs)
     go false p v = rw p
     go true p (below h q) =
         let more : mostSources - length xs ≡ suc (mostSources - length (xs ++ (k ∷ []))) = omega (arith, length-append xs (k ∷ [])) in
