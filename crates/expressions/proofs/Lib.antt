@@ -1,0 +1,4 @@
+pub mod Operands
+pub mod Expressions
+pub mod Facts
+pub mod Beside
