@@ -1,60 +1,45 @@
+-- `put_out` is by the kind of the line. Assumes nothing.
 use borrow.Author.Needs.{needs}
+use Rattle.line.proofs.KindNumbers.{kind-5, kind-6}
+use Rattle.line_text.proofs.Lines.{out-assert, out-assume, out-other}
 use Rattle.line_text.proofs.put_out.Statement.{statement}
 use Rattle.line_text.proofs.put_out.Tie as tie
-use Rattle.line_text.proofs.put_out.Reads as reads
-use Rattle.line_text.proofs.put_out.Lts as lts
-use Rattle.line.proofs.target_name.Reads as target-name-reads
-use Rattle.linked.proofs.value_variable.Reads as value-variable-reads
-use Rattle.reads_text.proofs.put_name.Reads as put-name-reads
-use Rattle.spell.proofs.put_equal.Reads as put-equal-reads
 
--- src/lib.rt:74:28
 value-variable-requires : tie.Need-value-variable-requires
 value-variable-requires c κs = search needs
 
--- src/lib.rt:75:28
 cast-target-name : tie.Need-cast-target-name
 cast-target-name c = search needs
 
--- src/lib.rt:75:9
 target-name-requires : tie.Need-target-name-requires
 target-name-requires c κs = search needs
 
--- src/lib.rt:78:14
 put-equal-requires : tie.Need-put-equal-requires
 put-equal-requires c κs = search needs
 
--- src/lib.rt:79:14
 put-equal-requires-2 : tie.Need-put-equal-requires-2
 put-equal-requires-2 c κs = search needs
 
--- src/lib.rt:80:14
 put-name-requires : tie.Need-put-name-requires
 put-name-requires c κs = search needs
 
--- src/lib.rt:62:1
 same-length : tie.Need-same-length
 same-length c = search needs
 
--- src/lib.rt:62:1
 returns : tie.Need-returns
-returns c = ?
+returns c = λ case s q. out-assert case _ _ _ (c .before .before .before .before .before .before .before .value-variable .ensures) (kind-5 _ (c .before .before .before .before .match .keys1)) (c .before .before .put-equal .ensures)
 
--- src/lib.rt:62:1
 same-length-2 : tie.Need-same-length-2
 same-length-2 c = search needs
 
--- src/lib.rt:62:1
 returns-2 : tie.Need-returns-2
-returns-2 c = ?
+returns-2 c = λ case s q. out-assume case _ _ _ (c .before .before .before .before .before .before .before .value-variable .ensures) (kind-6 _ (c .before .before .before .before .match .keys2)) (c .before .before .put-equal2 .ensures)
 
--- src/lib.rt:62:1
 same-length-3 : tie.Need-same-length-3
 same-length-3 c = search needs
 
--- src/lib.rt:62:1
 returns-3 : tie.Need-returns-3
-returns-3 c = ?
+returns-3 c = λ case s q. out-other case _ _ _ (c .before .before .before .before .before .before .before .value-variable .ensures) _ (c .before .before .before .before .match .rest) (s .globals) (c .before .before .before .before .before .target-name .ensures (c .before .before .before .before .before .before .before .before .before .args .k)) (c .before .before .put-name .ensures case s q)
 
 pub put-out-spec : {M : Type 1} → statement M
 put-out-spec =
