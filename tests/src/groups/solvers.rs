@@ -13,7 +13,7 @@ use crate::enumerate::{block_lengths, schedules, with_each};
 use crate::generate::{Shape, BUSY, BUSY_WITH_INPUTS, FOUR_THREADS, SMALL};
 use crate::random::Random;
 use crate::report::{Outcome, Report, Tally};
-use crate::samples::{case_a, guarded_counter};
+use crate::samples::{case_a, guarded_counter, largest};
 use crate::solver::{other_than, Answer, Solver, ALL};
 
 /// Random cases for each solver: without inputs, and with one input each.
@@ -26,13 +26,14 @@ const ALL_MODELS: usize = 12;
 
 type Check = fn(&dyn Calls, Solver, &mut Tally) -> Outcome;
 
-const CHECKS: [(&str, Check); 6] = [
+const CHECKS: [(&str, Check); 7] = [
     ("cases by hand", by_hand),
     ("random cases", many),
     ("random cases with an input", with_an_input),
     ("all models of a case", all_models),
     ("an assertion that is left out", left_out),
     ("an assertion that is changed", changed),
+    ("the largest text", largest_text),
 ];
 
 pub fn run(calls: &dyn Calls, report: &mut Report) {
@@ -219,4 +220,10 @@ fn changed(calls: &dyn Calls, solver: Solver, tally: &mut Tally) -> Outcome {
         tally.same(is_sat, false, || format!("sat with {formula} as assertion {number}"))?;
     }
     Ok(())
+}
+
+/// It has no assert, and so no model.
+fn largest_text(calls: &dyn Calls, solver: Solver, tally: &mut Tally) -> Outcome {
+    let answer = solver.ask(&text(calls, &largest())?, false)?;
+    tally.holds(matches!(answer, Answer::Unsat), || format!("{answer:?}"))
 }

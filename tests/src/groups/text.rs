@@ -4,6 +4,7 @@
 use std::fs;
 use std::path::Path;
 
+use crate::ask::reply;
 use crate::calls::{Calls, Checked, Refusal, Replayed, Spelled};
 use crate::compare_text::{same_text, same_text_in_each_room, same_truth, script_of, text_of, texts, truths};
 use crate::damage::{damaged, random_bytes, scratched};
@@ -15,8 +16,9 @@ use crate::generate::{accepted, shuffled, BUSY, BUSY_WITH_INPUTS, FULL};
 use crate::line::*;
 use crate::random::Random;
 use crate::report::{Outcome, Report, Tally};
-use crate::samples::{case_a, guarded_counter};
+use crate::samples::{case_a, filled_up, guarded_counter, largest};
 use crate::script::Script;
+use crate::vary::filled;
 
 const PAGE: &str = include_str!("../../../docs/SMT-TEXT.md");
 /// "below two million bytes"
@@ -129,42 +131,25 @@ fn every_room(calls: &dyn Calls, tally: &mut Tally) -> Outcome {
     Ok(())
 }
 
-/// Six inputs with the highest record numbers, and 250 of a line, guarded: four
-/// threads of 64 lines.
-fn filled_up(line: Line) -> Draft {
-    let inputs = |count: usize| vec![input(0); count];
-    let lines = |count: usize| [inputs(count), vec![line.guarded(1); 64 - count]].concat();
-    let most = Draft::new(4, 15).with_globals(&[0xffff; 8]).with_mutexes(4);
-    let counts = [2, 2, 1, 1].into_iter().enumerate();
-    let draft = counts.fold(most, |draft, (thread, count)| draft.with_thread(thread, &lines(count)));
-    let (mut number, mut last) = (0, 250);
-    let renumber = |line: &Line| {
-        let next = if line.guard == 0 { &mut last } else { &mut number };
-        *next += 1;
-        *next
-    };
-    draft.renumbered(&draft.records.iter().map(renumber).collect::<Vec<u16>>())
-}
-
-/// A guarded store of a comparison has the longest formula: its facts, and what
-/// it reads where the guard is false.
+/// The largest text is below the page's limit, and larger than those of cases
+/// that are as full of other lines.
 fn largest_texts(calls: &dyn Calls, tally: &mut Tally) -> Outcome {
-    let lines = [
-        store(0, [LESS, 0, 0, 0]),
+    let most = largest_text(calls, &largest(), tally)?;
+    tally.holds((1_000_000..MOST_BYTES).contains(&most), || format!("{most} bytes"))?;
+    let comparison = [LESS, 0, 0, 0];
+    for line in [
         store(7, [EQUAL, 0, 0, 0]),
-        compute(1, [LESS, 0, 0, 0]),
+        compute(1, comparison),
         load(1, 0),
         input(1),
-        assert([LESS, 0, 0, 0]),
-        assume([LESS, 0, 0, 0]),
+        assert(comparison),
+        assume(comparison),
         lock(3),
         unlock(3),
-    ];
-    let lengths = lines.iter().map(|&line| largest_text(calls, &filled_up(line), tally));
-    let lengths = lengths.collect::<Result<Vec<usize>, String>>()?;
-    let largest = *lengths.iter().max().expect("there are some");
-    tally.same(largest, lengths[0], || format!("the store of a comparison is the longest: {lengths:?}"))?;
-    tally.holds((1_000_000..MOST_BYTES).contains(&largest), || format!("{largest} bytes"))?;
+    ] {
+        let length = largest_text(calls, &filled_up(line), tally)?;
+        tally.holds(length < most, || format!("{length} bytes of {line:?}"))?;
+    }
     for seed in 0..12 {
         largest_text(calls, &accepted(&mut Random::from_seed(71_000_000 + seed), FULL), tally)?;
     }
@@ -172,7 +157,7 @@ fn largest_texts(calls: &dyn Calls, tally: &mut Tally) -> Outcome {
 }
 
 /// The length of a text, which is the second implementation's, can be read, and
-/// says of an assignment what the checker says.
+/// says of some assignments what the checker says.
 fn largest_text(calls: &dyn Calls, draft: &Draft, tally: &mut Tally) -> Result<usize, String> {
     let case = draft.bytes();
     let length = text_of(calls, &case)?.len();
@@ -180,10 +165,10 @@ fn largest_text(calls: &dyn Calls, draft: &Draft, tally: &mut Tally) -> Result<u
         same_text(calls, &case, room, tally)?;
     }
     let script = script_of(calls, draft, tally)?;
-    let blocks =
-        if draft.chains().iter().all(|chain| chain.len() == 64) { vec![16; draft.blocks()] } else { return Ok(length) };
-    let schedule = if draft.switches == 15 { [blocks, vec![5; draft.inputs().len()]].concat() } else { return Ok(length) };
-    same_truth(calls, draft, &script, &fill(draft, &schedule), tally)?;
+    let mut random = Random::from_seed(74_000_000);
+    for numbers in [filled(&mut random, draft), filled(&mut random, draft), random.words(draft.variables())] {
+        same_truth(calls, draft, &script, &numbers, tally)?;
+    }
     Ok(length)
 }
 
@@ -200,7 +185,7 @@ fn meeting(calls: &dyn Calls, tally: &mut Tally) -> Outcome {
         let mut random = Random::from_seed(72_000_000 + seed);
         let draft = small_case(&mut random, [BUSY, BUSY_WITH_INPUTS][seed as usize % 2]);
         let script = script_of(calls, &draft, tally)?;
-        let violates = |schedule: &Vec<u16>| matches!(crate::ask::reply(calls, &draft, schedule), Replayed::Violated(_));
+        let violates = |schedule: &Vec<u16>| matches!(reply(calls, &draft, schedule), Replayed::Violated(_));
         for schedule in schedules(&draft, &[0, 3]).into_iter().filter(violates).take(6) {
             let mut numbers = fill(&draft, &schedule);
             tally.same(calls.check(&draft.bytes(), &numbers), Checked::Meets, || format!("{schedule:?} of {draft}"))?;
@@ -220,8 +205,7 @@ fn changed_byte(calls: &dyn Calls, tally: &mut Tally) -> Outcome {
     let mut random = Random::from_seed(73_000_000);
     let draft = shuffled(&mut random, &guarded_counter());
     let text = text_of(calls, &draft.bytes())?;
-    let schedule =
-        schedules(&draft, &[]).into_iter().find(|schedule| crate::ask::reply(calls, &draft, schedule) != Replayed::Clean);
+    let schedule = schedules(&draft, &[]).into_iter().find(|schedule| reply(calls, &draft, schedule) != Replayed::Clean);
     let numbers = fill(&draft, &schedule.ok_or("no schedule")?);
     let whole: Vec<bool> = Script::read(&text)?.truths(&numbers).collect();
     for place in 0..text.len() {

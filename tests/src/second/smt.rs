@@ -89,6 +89,7 @@ impl<'a> Speller<'a> {
     /// i = 0 (0 for a mutex), else the variable item g after block i − 1"
     fn before(&self, item: usize, block: usize) -> String {
         match block {
+            0 if self.case.wrong == Wrong::InitialValueForgotten => constant(0),
             0 => constant(self.case.initial_value(item)),
             _ => self.after(item, block - 1),
         }
@@ -182,6 +183,9 @@ impl<'a> Speller<'a> {
         let record = self.case.record(line);
         match self.guard(record, guard_copy) {
             None => self.value_guarded_in(record, row),
+            Some(guard) if self.case.wrong == Wrong::OldValueOpen => {
+                format!("(=> {guard} {})", self.value_guarded_in(record, row))
+            }
             Some(guard) => if_else(&guard, &self.value_guarded_in(record, row), &self.value_guarded_out(record, row)),
         }
     }

@@ -72,4 +72,8 @@ pub enum Wrong {
     NoFalseInnermost,
     /// Op 6 is spelled as less or equal.
     LessOrEqual,
+    /// The text has 0 for every item before block 0.
+    InitialValueForgotten,
+    /// The text leaves the value of a line open where its guard is false.
+    OldValueOpen,
 }
