@@ -14,6 +14,10 @@ use crate::vary::assignments;
 
 const SHAPES: [Shape; 7] = [SMALL, SMALL_WITH_INPUTS, MANY_INPUTS, ANY, BUSY, LONG, FULL];
 
+/// The beginnings of a link, of a fact, of a fact about op 6, of a guarded lock's
+/// demand, of two expressions, and the end of what a line reads.
+pub const NOTED: [&str; 7] = ["(not (xor (= ", "(=> (and (= ", "(not (xor (bvult ", "(=> (not ", "(bvsub ", "(bvor ", " true)"];
+
 /// The whole text of an accepted case, in a slice of just its length.
 pub fn text_of(calls: &dyn Calls, case: &[u8]) -> Result<Vec<u8>, String> {
     let Spelled::Text { bytes } = calls.smt_length(case) else {
@@ -73,7 +77,7 @@ pub fn same_text(calls: &dyn Calls, case: &[u8], room: usize, tally: &mut Tally)
 fn note(text: &[u8], tally: &mut Tally) {
     tally.saw("text");
     let text = String::from_utf8_lossy(text);
-    for spelled in ["(not (xor (= ", "(=> (and (= ", "(not (xor (bvult ", "(=> (not ", "(bvsub ", "(bvor ", " true)"] {
+    for spelled in NOTED {
         if text.contains(spelled) {
             tally.saw(spelled);
         }

@@ -62,16 +62,14 @@ impl Script {
 }
 
 fn assertion(line: &str, variables: usize) -> Result<Formula, String> {
-    let (word, rest) = word(line).filter(|(_, rest)| rest.is_empty()).ok_or_else(|| format!("no words: {line:?}"))?;
-    debug_assert!(rest.is_empty());
-    match word {
-        Word::List(words) => match words.as_slice() {
+    let formula = match word(line) {
+        Some((Word::List(words), "")) => match words.as_slice() {
             [Word::Atom("assert"), formula] => read_formula(formula, variables),
             _ => None,
         },
-        Word::Atom(_) => None,
-    }
-    .ok_or_else(|| format!("no assertion: {line:?}"))
+        _ => None,
+    };
+    formula.ok_or_else(|| format!("no assertion: {line:?}"))
 }
 
 /// The word at the text's start, and what stands behind it. "Between two words

@@ -6,7 +6,7 @@ use std::path::Path;
 
 use crate::ask::reply;
 use crate::calls::{Calls, Checked, Refusal, Replayed, Spelled};
-use crate::compare_text::{same_text, same_text_in_each_room, same_truth, script_of, text_of, texts, truths};
+use crate::compare_text::{same_text, same_text_in_each_room, same_truth, script_of, text_of, texts, truths, NOTED};
 use crate::damage::{damaged, random_bytes, scratched};
 use crate::demand3::small_case;
 use crate::draft::Draft;
@@ -78,7 +78,7 @@ fn shipped_cases(calls: &dyn Calls, tally: &mut Tally) -> Outcome {
 
 fn random_cases(calls: &dyn Calls, tally: &mut Tally) -> Outcome {
     texts(calls, 420, tally)?;
-    for spelled in ["(not (xor (= ", "(=> (and (= ", "(not (xor (bvult ", "(=> (not ", "(bvsub ", "(bvor ", " true)"] {
+    for spelled in NOTED {
         tally.saw_often(spelled, 50)?;
     }
     for number in 1..=10 {
