@@ -95,7 +95,7 @@ pub fn filled_up(line: Line) -> Draft {
     draft.renumbered(&draft.records.iter().map(renumber).collect::<Vec<u16>>())
 }
 
-/// The case with the largest text: a guarded store of a comparison has the facts
+/// The largest text that was found: a guarded store of a comparison has the facts
 /// of the comparison, and what it reads where its guard is false.
 pub fn largest() -> Draft {
     filled_up(store(0, [LESS, 0, 0, 0]))
