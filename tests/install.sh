@@ -10,7 +10,7 @@ unset PREFIX DESTDIR MAKEFLAGS MENDUVO_COMMIT MENDUVO_BUILD_COMMIT PKG_CONFIG_PA
 library=${MENDUVO_LIB_DIR:-$PWD/target/staticlib}/libmenduvo.a
 home=$scratch/home prefix=$scratch/home/.local installed=$scratch/home/.local/bin/menduvo
 files='bin/menduvo include/menduvo.h lib/libmenduvo.a lib/pkgconfig/menduvo.pc'
-files+=' share/bash-completion/completions/menduvo share/doc/menduvo/FILING.md'
+files+=' share/bash-completion/completions/menduvo share/doc/menduvo/FILING.md share/doc/menduvo/SMT-TEXT.md'
 files+=' share/doc/menduvo/SOURCE.md share/doc/menduvo/output.schema.json share/man/man1/menduvo.1'
 
 # there FOLDER: the files in it, in one line.

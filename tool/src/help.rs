@@ -198,7 +198,7 @@ pub const PAGES: &[Page] = &[
             },
             JSON,
         ],
-        more: "The constraints go to the solver as SMT-LIB text. Its assignment is checked, decoded and replayed by the\n\
+        more: "The solver gets the text that 'smt' prints. Its assignment is checked, decoded and replayed by the\n\
                proved library; the run is printed as by 'replay'. For each assert it is told whether a complete legal run\n\
                within the bound reaches it with a true guard: of one that is never reached, nothing was checked.\n\
                DIR: every file in it that ends in .source, and each that ends in .case and has no source of the same name.\n\

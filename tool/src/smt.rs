@@ -30,7 +30,7 @@ const QUESTION: &str = "(check-sat)\n";
 /// The text with wishes, which narrow the question: conditions beside the constraints, after the last of them.
 pub fn with_wishes(text: &str, wishes: &[String]) -> String {
     let constraints = text.strip_suffix(QUESTION).unwrap_or(text);
-    let wishes: String = wishes.iter().map(|wish| format!("(assert {wish})\n")).collect();
+    let wishes: String = wishes.iter().map(|wish| format!("; a wish\n(assert {wish})\n")).collect();
     format!("{constraints}{wishes}{QUESTION}")
 }
 
