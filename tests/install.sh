@@ -45,7 +45,7 @@ installing() {
     seen=$scratch/fakes:$PATH readme "$(block Install)"
     result 'it installs what is built, and builds nothing' test "$status" = 0
     result 'it installs these files' test "$(there "$home/.local")" = "$files"
-    result 'with these rights' test "$(find "$prefix" -type f -printf '%m\n' | sort | paste -sd ' ')" = '644 644 644 644 644 644 644 644 755'
+    result 'with these rights' test "$(find "$prefix" -type f -printf '%m\n' | sort | paste -sd ' ')" = '644 644 644 644 644 644 644 644 644 755'
     result 'the library' cmp -s "$library" "$prefix/lib/libmenduvo.a"
     result 'the header' cmp -s bindings/menduvo.h "$prefix/include/menduvo.h"
     local document
