@@ -161,12 +161,15 @@ pub fn solve_by(loaded: &Loaded, first: &dyn Ask, others: &dyn Ask, tell: &mut d
     solve_and(loaded, first, others, None, tell)
 }
 
+/// What makes something else of a violation that was found to the question of a text.
+type Making<'a> = &'a dyn Fn(&str, Verdict) -> Verdict;
+
 /// The same, where something else is made of a violation: it is told as it is, and then what was made of it.
 fn solve_and(
     loaded: &Loaded,
     first: &dyn Ask,
     others: &dyn Ask,
-    made: Option<&dyn Fn(&str, Verdict) -> Verdict>,
+    made: Option<Making>,
     tell: &mut dyn FnMut(&Verdict),
 ) -> Result<Solved, Failure> {
     let begin = Instant::now();
