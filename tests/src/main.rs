@@ -4,7 +4,7 @@
 //! all that make sense. The last line is `N passed, M failed`.
 //! `-- write-cases FOLDER COUNT` writes random small cases.
 
-#![deny(unsafe_code)]
+#![forbid(unsafe_code)]
 
 mod ask;
 mod calls;
@@ -25,7 +25,6 @@ mod program;
 #[cfg(feature = "proved")]
 mod proved;
 #[cfg(feature = "proved")]
-mod proved_text;
 mod random;
 mod report;
 mod samples;

@@ -1,7 +1,6 @@
 //! The proved library, through its safe wrapper in `bindings/rust`.
 
 use crate::calls::{Calls, Checked, Decoded, Encoded, Listed, Replayed, Spelled, Verdict};
-use crate::proved_text;
 
 pub struct Proved;
 
@@ -52,10 +51,17 @@ impl Calls for Proved {
     }
 
     fn smt_length(&self, case: &[u8]) -> Spelled {
-        proved_text::smt_length(case)
+        spelled(menduvo::smt_length(case))
     }
 
     fn smt_text(&self, case: &[u8], text: &mut [u8]) -> Spelled {
-        proved_text::smt_text(case, text)
+        spelled(menduvo::smt_text(case, text))
+    }
+}
+
+fn spelled(answer: Result<usize, menduvo::Refusal>) -> Spelled {
+    match answer {
+        Ok(bytes) => Spelled::Text { bytes },
+        Err(menduvo::Refusal { number, place, .. }) => Spelled::Refused { number, place },
     }
 }

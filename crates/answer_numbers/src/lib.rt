@@ -4,6 +4,7 @@ ghost use Prim.Native.Nat.{_≤_};
 ghost use Rattle.model.specs.Limits.{mostListingBytes};
 ghost use Rattle.model.specs.Answers.{refusedNumbers, answerNumbers, verdictNumbers, encodedNumbers, checkedNumbers, decodedNumbers, replayedNumbers};
 ghost use Rattle.model.specs.Listing.{listedNumbers};
+ghost use Rattle.script.specs.Text.{spelledNumbers};
 use model::Checked;
 use model::Decoded;
 use model::Encoded;
@@ -11,6 +12,8 @@ use model::Listed;
 use model::Numbers;
 use model::Replayed;
 use model::Verdict;
+use script::Spelled;
+use script::TextNumbers;
 
 fn refusal(number: u16, place: u16) -> Numbers
     ensures { λ r. ⌜ r ≡ refusedNumbers number place ⌝ }
@@ -95,5 +98,23 @@ pub fn listed_numbers(l: Listed) -> Numbers
     match l {
         Listed::Text { bytes } => answer(1, bytes as u16, 0),
         Listed::Refused { number, place } => refusal(number, place),
+    }
+}
+
+// A text may be longer than a number of 16 bits says, so its length has a place of its own.
+pub fn spelled_numbers(s: Spelled) -> TextNumbers
+    ensures { λ r. ⌜ r ≡ spelledNumbers s ⌝ }
+{
+    match s {
+        Spelled::Text { bytes } => TextNumbers {
+            refusal: 0,
+            place: 0,
+            bytes,
+        },
+        Spelled::Refused { number, place } => TextNumbers {
+            refusal: number,
+            place,
+            bytes: 0,
+        },
     }
 }

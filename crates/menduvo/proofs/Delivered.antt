@@ -18,6 +18,10 @@ use Rattle.laws.proofs.Sizes.{sizes, largest-sizes, never-too-short}
 use Rattle.correspondence.specs.Demand3.{ForEveryAcceptedCase}
 use Rattle.correspondence.proofs.Demand3.{demand-3}
 use Rattle.listing_text.proofs.Bridge.{never-refused}
+use Rattle.script.specs.Text.{mostTextBytes, smtText}
+use Rattle.script_truth.specs.Filed.{ForEveryText}
+use Rattle.script_truth.proofs.Filed.{every-text}
+use Rattle.text_size.proofs.Text.{text-at-most}
 use Rattle.accept.proofs.accept.Statement as accept-statement
 use Rattle.accept.proofs.accept.Met as accept-met
 use Rattle.encoder.proofs.encode.Statement as encode-statement
@@ -30,6 +34,10 @@ use Rattle.replayer.proofs.replay.Statement as replay-statement
 use Rattle.replayer.proofs.replay.Met as replay-met
 use Rattle.listing_text.proofs.listing_text.Statement as listing-text-statement
 use Rattle.listing_text.proofs.listing_text.Met as listing-text-met
+use Rattle.smt_text.proofs.smt_length.Statement as smt-length-statement
+use Rattle.smt_text.proofs.smt_length.Met as smt-length-met
+use Rattle.smt_text.proofs.smt_text.Statement as smt-text-statement
+use Rattle.smt_text.proofs.smt_text.Met as smt-text-met
 use Rattle.menduvo.proofs.menduvo_accept.Statement as exported-accept-statement
 use Rattle.menduvo.proofs.menduvo_accept.Met as exported-accept-met
 use Rattle.menduvo.proofs.menduvo_encode.Statement as exported-encode-statement
@@ -42,6 +50,10 @@ use Rattle.menduvo.proofs.menduvo_replay.Statement as exported-replay-s
 use Rattle.menduvo.proofs.menduvo_replay.Met as exported-replay-met
 use Rattle.menduvo.proofs.menduvo_listing.Statement as exported-listing-statement
 use Rattle.menduvo.proofs.menduvo_listing.Met as exported-listing-met
+use Rattle.menduvo.proofs.menduvo_smt_length.Statement as exported-smt-length-statement
+use Rattle.menduvo.proofs.menduvo_smt_length.Met as exported-smt-length-met
+use Rattle.menduvo.proofs.menduvo_smt_text.Statement as exported-smt-text-statement
+use Rattle.menduvo.proofs.menduvo_smt_text.Met as exported-smt-text-met
 use Rattle.menduvo.specs.ReadOff.{AnswersToldApart, SomeYes, SomeViolated}
 use Rattle.menduvo.proofs.ReadOff.{answers-told-apart, read-off}
 
@@ -53,6 +65,8 @@ pub record Delivered (M : Type 1) : Type 2 where
   pub decode : decode-statement.statement M
   pub replay : replay-statement.statement M
   pub listing_text : listing-text-statement.statement M
+  pub smt_length : smt-length-statement.statement M
+  pub smt_text : smt-text-statement.statement M
   -- the calls that C and Rust link, whose answers are numbers;
   pub menduvo_accept : exported-accept-statement.statement M
   pub menduvo_encode : exported-encode-statement.statement M
@@ -60,12 +74,18 @@ pub record Delivered (M : Type 1) : Type 2 where
   pub menduvo_decode : exported-decode-statement.statement M
   pub menduvo_replay : exported-replay-statement.statement M
   pub menduvo_listing : exported-listing-statement.statement M
+  pub menduvo_smt_length : exported-smt-length-statement.statement M
+  pub menduvo_smt_text : exported-smt-text-statement.statement M
   -- demand 3 over what accept, encode, check, decode and replay answer;
   pub corresponds : ForEveryAcceptedCase
+  -- the text that is written, as its own reader reads it: true of an assignment exactly where the checker says yes, and of some exactly
+  -- where some run violates;
+  pub filed : ForEveryText
   -- no accepted case needs more than the largest sizes, and slices of these sizes are never refused with 10;
   pub sizes : (bytes : List ℕ) → verdict bytes ≡ Accepted → Sizes bytes
   pub largest-sizes : LargestSizes
   pub never-too-short : (bytes : List ℕ) → NeverTooShort bytes
+  pub text-at-most : (bytes : List ℕ) → verdict bytes ≡ Accepted → length (smtText bytes) ≤ mostTextBytes
   pub listing-never-too-short : (bytes : List ℕ) (room : ℕ) → mostListingBytes ≤ room → listed bytes room ≡ Text (length (listingText bytes))
   -- and the numbers tell the answers apart, so that it can be read off them.
   pub told-apart : AnswersToldApart
@@ -79,16 +99,22 @@ delivered = record {
   decode = decode-met.met;
   replay = replay-met.met;
   listing_text = listing-text-met.met;
+  smt_length = smt-length-met.met;
+  smt_text = smt-text-met.met;
   menduvo_accept = exported-accept-met.met;
   menduvo_encode = exported-encode-met.met;
   menduvo_check = exported-check-met.met;
   menduvo_decode = exported-decode-met.met;
   menduvo_replay = exported-replay-met.met;
   menduvo_listing = exported-listing-met.met;
+  menduvo_smt_length = exported-smt-length-met.met;
+  menduvo_smt_text = exported-smt-text-met.met;
   corresponds = demand-3;
+  filed = every-text;
   sizes = sizes;
   largest-sizes = largest-sizes;
   never-too-short = never-too-short;
+  text-at-most = text-at-most;
   listing-never-too-short = never-refused;
   told-apart = answers-told-apart;
   corresponds-in-numbers = λ bytes small accepted. read-off bytes (demand-3 bytes small accepted);

@@ -1,7 +1,7 @@
 -- The numbers that C and Rust get tell the answers apart: each answer can be had back from them. So demand 3 can be read off them.
 -- Assumes nothing. Met again in Delivered.
-use mathlib.Core.Path.{_≡_, refl, sym, ap, _∙_}
-use mathlib.Core.Logic.{_↔_}
+use mathlib.Core.Path.{_≡_, refl, sym, ap, ap₂, _∙_}
+use mathlib.Core.Logic.{_↔_, _≢_}
 use Prim.Native.Nat.{ℕ}
 use mathlib.Core.Bool.{cond}
 use mathlib.Core.List.{List}
@@ -21,6 +21,10 @@ use Rattle.model.specs.declared.Replayed.{Replayed}
 use Rattle.model.specs.declared.Replayed.the-variants as replayeds
 use Rattle.model.specs.declared.Listed.{Listed}
 use Rattle.model.specs.declared.Listed.the-variants as listeds
+use Rattle.script.specs.Text.{spelledNumbers}
+use Rattle.script.specs.declared.Spelled.{Spelled}
+use Rattle.script.specs.declared.Spelled.the-variants as spelleds
+use Rattle.script.specs.declared.TextNumbers.{TextNumbers}
 use Rattle.correspondence.specs.Demand3.{Demand3}
 use Rattle.menduvo.specs.ReadOff.{AnswersToldApart, SomeYes, SomeViolated}
 
@@ -79,6 +83,14 @@ listed-is-back (listeds.Refused number place) = refl
 told : {A : Type 0} (numbers : A → Numbers) (back : Numbers → A) → ((r : A) → back (numbers r) ≡ r) → (r s : A) → (numbers r ≡ numbers s) ↔ (r ≡ s)
 told numbers back is-back r s = ((λ e. sym (is-back r) ∙ ap back e ∙ is-back s), (λ e. ap numbers e))
 
+spelled-told : (r : Spelled) (bytes : ℕ) → bytes ≢ 0 → spelledNumbers r ≡ spelledNumbers (spelleds.Text bytes) → r ≡ spelleds.Text bytes
+spelled-told (spelleds.Text size) bytes some e = ap spelleds.Text (ap (λ (x : TextNumbers). x .bytes) e)
+spelled-told (spelleds.Refused number place) bytes some e = absurd (some (sym (ap (λ (x : TextNumbers). x .bytes) e)))
+
+refusal-told : (r : Spelled) (number place : ℕ) → number ≢ 0 → spelledNumbers r ≡ spelledNumbers (spelleds.Refused number place) → r ≡ spelleds.Refused number place
+refusal-told (spelleds.Text size) number place some e = absurd (some (sym (ap (λ (x : TextNumbers). x .refusal) e)))
+refusal-told (spelleds.Refused n p) number place some e = ap₂ spelleds.Refused (ap (λ (x : TextNumbers). x .refusal) e) (ap (λ (x : TextNumbers). x .place) e)
+
 pub answers-told-apart : AnswersToldApart
 answers-told-apart = record {
   accepted = λ r. told verdictNumbers verdict-back verdict-is-back r verdicts.Accepted;
@@ -96,6 +108,8 @@ answers-told-apart = record {
   not-replayed = λ r number place. told replayedNumbers replayed-back replayed-is-back r (replayeds.Refused number place);
   text = λ r bytes. told listedNumbers listed-back listed-is-back r (listeds.Text bytes);
   not-listed = λ r number place. told listedNumbers listed-back listed-is-back r (listeds.Refused number place);
+  spelled = λ r bytes some. (spelled-told r bytes some, (λ e. ap spelledNumbers e));
+  not-spelled = λ r number place some. (refusal-told r number place some, (λ e. ap spelledNumbers e));
 }
 
 -- ---- Demand 3's equivalence, in numbers.

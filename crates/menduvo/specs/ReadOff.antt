@@ -2,7 +2,7 @@
 -- It is proved in proofs/ReadOff.antt.
 -- Assumes nothing.
 use mathlib.Core.Path.{_≡_}
-use mathlib.Core.Logic.{_↔_}
+use mathlib.Core.Logic.{_↔_, _≢_}
 use Prim.Native.Nat.{ℕ, _≤_}
 use mathlib.Core.List.{List}
 use Rattle.model.specs.Word.{wordSize, AllBelow}
@@ -20,6 +20,9 @@ use Rattle.model.specs.declared.Replayed.{Replayed}
 use Rattle.model.specs.declared.Replayed.the-variants as replayeds
 use Rattle.model.specs.declared.Listed.{Listed}
 use Rattle.model.specs.declared.Listed.the-variants as listeds
+use Rattle.script.specs.Text.{spelledNumbers}
+use Rattle.script.specs.declared.Spelled.{Spelled}
+use Rattle.script.specs.declared.Spelled.the-variants as spelleds
 use Rattle.correspondence.specs.Demand3.{itemRoom}
 
 -- Each answer of each call has numbers of its own.
@@ -40,6 +43,9 @@ pub record AnswersToldApart : Type 0 where
   pub not-replayed : (r : Replayed) (number place : ℕ) → (replayedNumbers r ≡ refusedNumbers number place) ↔ (r ≡ replayeds.Refused number place)
   pub text : (r : Listed) (bytes : ℕ) → (listedNumbers r ≡ answerNumbers 1 bytes 0) ↔ (r ≡ listeds.Text bytes)
   pub not-listed : (r : Listed) (number place : ℕ) → (listedNumbers r ≡ refusedNumbers number place) ↔ (r ≡ listeds.Refused number place)
+  -- No text is empty, and no refusal has number 0.
+  pub spelled : (r : Spelled) (bytes : ℕ) → bytes ≢ 0 → (spelledNumbers r ≡ spelledNumbers (spelleds.Text bytes)) ↔ (r ≡ spelleds.Text bytes)
+  pub not-spelled : (r : Spelled) (number place : ℕ) → number ≢ 0 → (spelledNumbers r ≡ spelledNumbers (spelleds.Refused number place)) ↔ (r ≡ spelleds.Refused number place)
 
 -- Some assignment is answered with 1 by the checker, and some schedule with 1 and a record by the replayer, the same one in every
 -- room that holds the items.

@@ -1,19 +1,23 @@
-// The public library: `accept`, the four calls and the listing, for C and Rust. Each answer comes in the document's numbers; what
-// each call answers and leaves in the lent slices is defined in `model`'s specs/Accept.antt, specs/Answers.antt and
-// specs/Listing.antt. The one statement about them all is proofs/Delivered.antt.
+// The public library: `accept`, the four calls, the listing and the text for solvers, for C and Rust. Each answer comes in the
+// document's numbers; what each call answers and leaves in the lent slices is defined in `model`'s specs/Accept.antt,
+// specs/Answers.antt and specs/Listing.antt and in `script`'s specs/Text.antt. The one statement about them all is
+// proofs/Delivered.antt.
 ghost use mathlib.Core.Path.{_≡_};
 ghost use lib.ListN.{length};
 ghost use Rattle.model.specs.Accept.{verdict};
 ghost use Rattle.model.specs.Answers.{encoded, encodedInto, checked, decoded, decodedInto, replayed, replayedInto};
 ghost use Rattle.model.specs.Answers.{verdictNumbers, encodedNumbers, checkedNumbers, decodedNumbers, replayedNumbers};
 ghost use Rattle.model.specs.Listing.{listed, listedInto, listedNumbers};
+ghost use Rattle.script.specs.Text.{measured, spelled, spelledInto, spelledNumbers};
 use answer_numbers::checked_numbers;
 use answer_numbers::decoded_numbers;
 use answer_numbers::encoded_numbers;
 use answer_numbers::listed_numbers;
 use answer_numbers::replayed_numbers;
+use answer_numbers::spelled_numbers;
 use answer_numbers::verdict_numbers;
 use model::Numbers;
+use script::TextNumbers;
 
 // Whether the calls take the case: checks 1 to 9.
 #[no_mangle]
@@ -65,4 +69,21 @@ pub extern "C" fn menduvo_listing(case: &[u8], text: &mut [u8]) -> Numbers
     ensures { λ r. ⌜ now (text .exit) ≡ listedInto (now (case .entry)) (now (text .entry)) ⌝ }
 {
     listed_numbers(listing_text::listing_text(case, text))
+}
+
+// How many bytes the case's constraints have as SMT-LIB text.
+#[no_mangle]
+pub extern "C" fn menduvo_smt_length(case: &[u8]) -> TextNumbers
+    ensures { λ r. ⌜ r ≡ spelledNumbers (measured (now (case .entry))) ⌝ }
+{
+    spelled_numbers(smt_text::smt_length(case))
+}
+
+// The case's constraints as SMT-LIB text, from the start of the slice.
+#[no_mangle]
+pub extern "C" fn menduvo_smt_text(case: &[u8], text: &mut [u8]) -> TextNumbers
+    ensures { λ r. ⌜ r ≡ spelledNumbers (spelled (now (case .entry)) (length (now (text .entry)))) ⌝ }
+    ensures { λ r. ⌜ now (text .exit) ≡ spelledInto (now (case .entry)) (now (text .entry)) ⌝ }
+{
+    spelled_numbers(smt_text::smt_text(case, text))
 }

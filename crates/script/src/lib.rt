@@ -6,7 +6,8 @@ pub enum Spelled {
     Refused { number: u16, place: u16 },
 }
 
-// The answer in the document's numbers: the refusal (0: none) and its place; else how many bytes the text has.
+// The answer in the document's numbers, as C has it: the refusal (0: none) and its place; else how many bytes the text has.
+#[repr(C)]
 pub struct TextNumbers {
     pub refusal: u16,
     pub place: u16,
