@@ -140,8 +140,8 @@ pub fn put_last(text: &mut [u8], start: usize, k: u16, n: u16) -> usize
     ensures { λ r. ⌜ Spelt (formulaText (test bvule (blockOf k) (constant n))) (now (text .entry)) start (now (text .exit)) r ⌝ }
 {
     let block = Atom::Variable(block_variable(k));
-    let at = put(text, start, b"(bvule ");
-    put_two(text, at, block, Atom::Constant(n))
+    let place = put(text, start, b"(bvule ");
+    put_two(text, place, block, Atom::Constant(n))
 }
 
 // That the assert of record k breaks, or ..
