@@ -5,16 +5,16 @@ use Prim.Native.Nat.{ℕ, _+_, _-_, _*_, _<_, _≤_}
 use mathlib.Core.List.{List, [], _∷_, _++_, append-assoc, append-nil}
 use native.Mathlib.Omega.{arith}
 use native.Mathlib.Nat.{zero-mul, suc-mul}
-use lib.ListN.{length, getD, take, drop, replicate-append-replicate}
+use lib.ListN.{length, getD, replicate-append-replicate}
 use Rattle.smt.specs.Term.{Test, Term, variable, test, Formula}
 use Rattle.smt.specs.Spelling.{ascii, two, formulaText}
 use Rattle.script.specs.Assertions.{equal, valueOf, factOf, factsWith, facts}
-use Rattle.spell.specs.Spelt.{top, Spelt}
+use Rattle.spell.specs.Spelt.{Spelt}
 use Rattle.spell.specs.Atoms.{closing}
-use Rattle.spell.proofs.Spelling.{Left, left-start, left-more, left-end, spelt-then}
+use Rattle.spell.proofs.Spelling.{spelt-then}
 use Rattle.spell.proofs.Numbers.{spelt-as}
 use Rattle.linked.proofs.Nesting.{closing-none, nested, head-of-two}
-use Rattle.linked.proofs.Links.{sources-go-on, sources-end}
+use Rattle.linked.proofs.Going.{Going, going-more}
 use Rattle.expressions.specs.Facts.{factHead, factHeadsWith, factHeads}
 
 -- One fact, as it is put: words that stand together are put together.
@@ -35,36 +35,6 @@ module _ {e₁ e₂ e₃ e₄ e₅ e₆ e₇ e₈ e₉ e₀ : List ℕ} {start p
       spelt-as
       (words-of-fact (formulaText (equal x (valueOf s))) (formulaText (equal y (valueOf u))) (formulaText (test t x y)) (formulaText (test t (valueOf s) (valueOf u))))
       (rw (h, k) at (spelt-then a (spelt-then b (spelt-then c (spelt-then d (spelt-then e (spelt-then f (spelt-then g (spelt-then i j)))))))))
-
--- A loop over the sources that an array has first, at the j-th: one head for each of them.
-pub record Going (heads : List ℕ → List ℕ) (xs : List ℕ) (count : ℕ) (before : List ℕ) (start j : ℕ) (out : List ℕ) (at : ℕ) : Type 0 where
-  pub same : length out ≡ length before
-  pub upto : j ≤ count
-  pub left : count ≤ 6 → Left (heads (take count xs)) before start out at (heads (drop j (take count xs)))
-
-module _ {heads : List ℕ → List ℕ} {xs : List ℕ} {count : ℕ} {before : List ℕ} {start : ℕ} where
-  pub going-start : start ≤ top → Going heads xs count before start 0 before start
-  going-start h = record { same = refl; upto = omega arith; left = λ few. left-start h refl }
-
-  module _ {j : ℕ} {out : List ℕ} {at : ℕ} (v : Going heads xs count before start j out at) where
-    pub going-more : (head : ℕ → List ℕ) → ((s : ℕ) (ss : List ℕ) → heads (s ∷ ss) ≡ head s ++ heads ss) → (j ≡ count → ⊥) → j < length xs
-        → {a : List ℕ} {place : ℕ}
-        → length a ≡ length out → (count ≤ 6 → Spelt (head (getD xs j 0)) out at a place) → Going heads xs count before start (j + 1) a place
-    going-more head e n h l put = record {
-      same = l ∙ v .same;
-      upto = omega (arith, below);
-      left = λ few. left-more (v .left few) (ap heads (sources-go-on xs count j below h) ∙ e (getD xs j 0) (drop (j + 1) (take count xs))) (put few);
-    }
-      where
-        below : j < count
-        below = omega (arith, v .upto)
-
-    module _ (none : heads [] ≡ []) where
-      pub going-end : j ≡ count → count ≤ 6 → Spelt (heads (take count xs)) before start out at
-      going-end e few = left-end (v .left few) (ap heads (sources-end xs count j (omega (arith, e))) ∙ none)
-
-      pub going-last : 6 ≤ j → count ≤ 6 → Spelt (heads (take count xs)) before start out at
-      going-last h few = left-end (v .left few) (ap heads (sources-end xs count j (omega (arith, few, h))) ∙ none)
 
 -- The two loops: over the second sources, and over the first.
 module _ (t : Test) (x y : Term) {xs : List ℕ} {count : ℕ} {before : List ℕ} {start j : ℕ} {out : List ℕ} {at : ℕ} {a : List ℕ} {place : ℕ} where

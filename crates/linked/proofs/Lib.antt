@@ -1,3 +1,4 @@
 pub mod Variables
 pub mod Nesting
+pub mod Going
 pub mod Links

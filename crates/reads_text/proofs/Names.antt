@@ -1,4 +1,4 @@
--- Reading a local, an item and a name, as text. Assumes nothing. Met again in `put_local`, `put_item` and `put_name`.
+-- Reading an item and a name, as text. Assumes nothing. Met again in `put_item` and `put_name`.
 use mathlib.Core.Path.{_≡_, refl, sym, ap, _∙_}
 use mathlib.Core.Logic.{_≢_}
 use Prim.Native.Nat.{ℕ, _+_, _-_, _*_, _<_, _≤_}
@@ -15,15 +15,6 @@ use Rattle.spell.proofs.Spelling.{spelt-then}
 use Rattle.spell.proofs.Numbers.{spelt-as}
 use Rattle.linked.specs.Shape.{HasShape}
 use Rattle.linked.specs.declared.Shape.{Shape}
-
-module _ (sources : List ℕ) (x : Term) (p : ℕ) {d a : List ℕ} {start r : ℕ} where
-  pub local-none : p ≡ 0 → Spelt (formulaText (same sources x (constant 0))) d start a r → Spelt (formulaText (same sources x (localWith p))) d start a r
-  unfolding localWith
-  local-none e put = rw (eq-eqb p 0 e) put
-
-  pub local-some : p ≢ 0 → {v : ℕ} → v ≡ 2 * (p - 1) + 1 → Spelt (formulaText (same sources x (variable v))) d start a r → Spelt (formulaText (same sources x (localWith p))) d start a r
-  unfolding localWith
-  local-some n e put = rw (ne-eqb p 0 n, sym e) put
 
 module _ (case : Case) (sources : List ℕ) (x : Term) (l : Line) (g p : ℕ) where
   pub item-none : p ≡ 0 → {d a : List ℕ} {start r : ℕ} → Spelt (formulaText (readBefore case sources x (l .number) g (ownBlocks case (l .thread)))) d start a r
@@ -42,9 +33,9 @@ module _ (case : Case) (sources : List ℕ) (x : Term) (l : Line) (g p : ℕ) wh
       (spelt-then word (spelt-then asked (spelt-then blank (spelt-then here (spelt-then behind (spelt-then before close))))))
 
 module _ (case : Case) (sources : List ℕ) (x : Term) (l : Line) (name p : ℕ) {d a : List ℕ} {start r : ℕ} where
-  pub name-local : name < localCount → Spelt (formulaText (same sources x (localWith p))) d start a r → Spelt (formulaText (readName case sources x l name p)) d start a r
+  pub name-local : name < localCount → {y : Term} → y ≡ localWith p → Spelt (formulaText (same sources x y)) d start a r → Spelt (formulaText (readName case sources x l name p)) d start a r
   unfolding readName
-  name-local h put = rw (lt-ltb name localCount h) put
+  name-local h e put = rw (lt-ltb name localCount h, sym e) put
 
   module _ {shape : Shape} (s : HasShape case shape) (h : localCount ≤ name) where
     pub name-item : name - localCount < shape .items → Spelt (formulaText (readItem case sources x l (name - localCount) p)) d start a r

@@ -3,13 +3,14 @@ ghost use mathlib.Core.Path.{_≡_};
 ghost use Prim.Native.Nat.{ℕ};
 ghost use Rattle.model.specs.CaseFile.{Case};
 ghost use Rattle.smt.specs.Spelling.{formulaText};
-ghost use Rattle.script.specs.Assertions.{sourcesOf, localWith, same, ownBlocks, readBefore, readItem, readName};
+ghost use Rattle.script.specs.Assertions.{sourcesOf, ownBlocks, readBefore, readItem, readName};
 ghost use Rattle.case_file.specs.Records.{asLine};
 ghost use Rattle.spell.specs.Spelt.{Spelt};
 ghost use Rattle.spell.specs.Atoms.{atomTerm};
 ghost use Rattle.linked.specs.Shape.{HasShape, HasSources};
 ghost use Rattle.reads_text.specs.Blocks.{blockHead, Headed};
 use case_file::Record;
+use expressions::local_with;
 use linked::Shape;
 use linked::Sources;
 use linked::block_variable;
@@ -125,16 +126,6 @@ fn put_item(
     put(text, at, b")")
 }
 
-// x is the value of a local with copy p.
-fn put_local(text: &mut [u8], start: usize, sources: Sources, x: Atom, p: u16) -> usize
-    ensures { λ r. ⌜ ((case : Case) → HasSources case sources → Spelt (formulaText (same (sourcesOf case) (atomTerm x) (localWith p))) (now (text .entry)) start (now (text .exit)) r) ⌝ }
-{
-    if p == 0 {
-        return put_same(text, start, x, Atom::Constant(0), sources);
-    }
-    put_same(text, start, x, Atom::Variable(value_variable(p)), sources)
-}
-
 // x is what line k, which has record l, reads of a name with copy p.
 pub fn put_name(
     text: &mut [u8],
@@ -150,7 +141,7 @@ pub fn put_name(
     ensures { λ r. ⌜ ((case : Case) → HasShape case shape → HasSources case sources → Spelt (formulaText (readName case (sourcesOf case) (atomTerm x) (asLine l k) name p)) (now (text .entry)) start (now (text .exit)) r) ⌝ }
 {
     if name < LOCALS {
-        return put_local(text, start, sources, x, p);
+        return put_same(text, start, x, local_with(p), sources);
     }
     let g = name - LOCALS;
     let items = shape.items as usize;

@@ -4,7 +4,8 @@ use Prim.Native.Nat.{_-_}
 use Rattle.script.specs.Assertions.{comparison}
 use Rattle.spell.specs.Atoms.{atomTerm}
 use Rattle.expressions.specs.Facts.{sourceList, factHeads}
-use Rattle.expressions.proofs.Facts.{Going, going-start, going-end, going-last, firsts-go-on, no-firsts}
+use Rattle.linked.proofs.Going.{Going, going-start, going-end, going-last}
+use Rattle.expressions.proofs.Facts.{firsts-go-on, no-firsts}
 use Rattle.expressions.proofs.put_facts.Statement.{statement}
 use Rattle.expressions.proofs.put_facts.Tie as tie
 

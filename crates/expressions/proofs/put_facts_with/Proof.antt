@@ -4,7 +4,8 @@ use Prim.Native.Nat.{_-_}
 use Rattle.script.specs.Assertions.{comparison}
 use Rattle.spell.specs.Atoms.{atomTerm}
 use Rattle.expressions.specs.Facts.{factHeadsWith}
-use Rattle.expressions.proofs.Facts.{Going, going-start, going-end, going-last, seconds-go-on, no-seconds}
+use Rattle.linked.proofs.Going.{Going, going-start, going-end, going-last}
+use Rattle.expressions.proofs.Facts.{seconds-go-on, no-seconds}
 use Rattle.expressions.proofs.put_facts_with.Statement.{statement}
 use Rattle.expressions.proofs.put_facts_with.Tie as tie
 

@@ -1,24 +1,26 @@
 -- `put_links` puts one link after the other. Assumes nothing.
 use borrow.Author.Needs.{needs}
 use Prim.Native.Nat.{_-_}
-use Rattle.linked.proofs.Links.{Linking, linking-start, linking-more, linking-end, linking-last}
+use Rattle.linked.specs.Links.{linkHeads}
+use Rattle.linked.proofs.Going.{Going, going-start, going-end, going-last}
+use Rattle.linked.proofs.Links.{links-go-on, no-links}
 use Rattle.linked.proofs.put_links.Statement.{statement}
 use Rattle.linked.proofs.put_links.Tie as tie
 
 abbrev Inv-loop : tie.InvT-loop
-Inv-loop text₀ start x y sources at₀ j₀ text at j = Linking x y (sources .records) (sources .count) text₀ start j text at
+Inv-loop text₀ start x y sources at₀ j₀ text at j = Going (linkHeads x y) (sources .records) (sources .count) text₀ start j text at
 
 abbrev μ-loop : tie.MeasureT-loop
 μ-loop text₀ start x y sources at₀ j₀ text at j = 6 - j
 
 loop-holds : tie.Need-loop-holds Inv-loop μ-loop
-loop-holds c = linking-start (search needs)
+loop-holds c = going-start (search needs)
 
 same-length : tie.Need-same-length Inv-loop μ-loop
-same-length c = c .before .before .loop .inv .left .spelt .same
+same-length c = c .before .before .loop .inv .same
 
 returns : tie.Need-returns Inv-loop μ-loop
-returns c = λ few. linking-end (c .before .before .loop .inv) (c .if1 .taken)
+returns c = going-end (c .before .before .loop .inv) (no-links _ _) (c .if1 .taken)
 
 mul-put-link : tie.Need-mul-put-link Inv-loop μ-loop
 mul-put-link c = search needs
@@ -36,13 +38,13 @@ loop-less : tie.Need-loop-less Inv-loop μ-loop
 loop-less c = search needs
 
 loop-again : tie.Need-loop-again Inv-loop μ-loop
-loop-again c = linking-more (c .before .before .before .before .before .before .before .loop .inv) (c .before .before .before .before .before .if1 .left) (search needs) (c .before .before .put-link .ensures)
+loop-again c = links-go-on _ _ (c .before .before .before .before .before .before .before .loop .inv) (c .before .before .before .before .before .if1 .left) (search needs) (c .before .before .put-link .ensures)
 
 same-length-2 : tie.Need-same-length-2 Inv-loop μ-loop
-same-length-2 c = c .before .loop .inv .left .spelt .same
+same-length-2 c = c .before .loop .inv .same
 
 returns-2 : tie.Need-returns-2 Inv-loop μ-loop
-returns-2 c = λ few. linking-last (c .before .loop .inv) few (c .loop-test .left)
+returns-2 c = going-last (c .before .loop .inv) (no-links _ _) (c .loop-test .left)
 
 pub put-links-spec : {M : Type 1} → statement M
 put-links-spec =

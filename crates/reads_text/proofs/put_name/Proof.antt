@@ -4,14 +4,17 @@ use Rattle.reads_text.proofs.Names.{name-local, name-item, name-none}
 use Rattle.reads_text.proofs.put_name.Statement.{statement}
 use Rattle.reads_text.proofs.put_name.Tie as tie
 
-put-local-requires : tie.Need-put-local-requires
-put-local-requires c κs = search needs
+local-with-requires : tie.Need-local-with-requires
+local-with-requires c κs = search needs
+
+put-same-requires : tie.Need-put-same-requires
+put-same-requires c κs = search needs
 
 same-length : tie.Need-same-length
 same-length c = search needs
 
 returns : tie.Need-returns
-returns c = λ case s q. name-local case _ _ _ _ _ (c .before .before .before .before .if1 .taken) (c .before .before .put-local .ensures case q)
+returns c = λ case s q. name-local case _ _ _ _ _ (c .before .before .before .before .before .if1 .taken) (c .before .before .before .local-with .ensures) (c .before .before .put-same .ensures case q)
 
 cast-items : tie.Need-cast-items
 cast-items c = search needs
@@ -41,7 +44,8 @@ pub put-name-spec : {M : Type 1} → statement M
 put-name-spec =
     tie.close
     (tie.spec
-    put-local-requires
+    local-with-requires
+    put-same-requires
     same-length
     returns
     cast-items
