@@ -75,6 +75,11 @@ pub fn agree(sample: &Sample) -> Result<(), String> {
     if !spelled_alike(case, &plain_buffers.smt) {
         return failure("plain Rust and the spelling named text write different texts".to_string());
     }
+    if !alike_where_room_is_short(case) {
+        return failure(
+            "the library and plain Rust differ on a slice that the text just fits in, or just does not".to_string(),
+        );
+    }
     let (_, _, checked, _, replayed, ..) = proved;
     let decoded = &proved_buffers.schedule[..schedule.len()];
     if checked != Checked::Meets || decoded != schedule || !matches!(replayed, Replayed::Violated(_)) {
@@ -87,6 +92,15 @@ pub fn agree(sample: &Sample) -> Result<(), String> {
 fn spelled_alike(case: &[u8], text: &[u8]) -> bool {
     let spelling = Spelling::named("text").expect("there is a spelling of this name");
     Case::accept(case).is_ok_and(|case| text.starts_with(spelling.text(&case).as_bytes()))
+}
+
+/// Whether both do the same with a slice as long as the text, and with one that is a byte shorter.
+fn alike_where_room_is_short(case: &[u8]) -> bool {
+    let Texted::Text { bytes } = plain::smt_length(case) else { return false };
+    [bytes, bytes - 1].into_iter().all(|room| {
+        let (mut proved, mut plain) = (vec![0xA5; room], vec![0xA5; room]);
+        menduvo::smt_text(case, &mut proved) == plain::smt_text(case, &mut plain) && proved == plain
+    })
 }
 
 /// The times of the eight calls, in the order of their names. Both write to the same buffers.

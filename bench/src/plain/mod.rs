@@ -1,5 +1,5 @@
 //! The eight calls in plain Rust, for speed: what the proved library is measured against. Fixed-size arrays, ordinary checked
-//! indexing, no unsafe code, no heap but for the text of `smt_text`.
+//! indexing, no unsafe code, no heap.
 //!
 //! The calls do what document 01 asks of them, each by itself: checks 1 to 9 come first in every one, and the decoder checks its
 //! assignment. Their answers have the types of the bindings, so that they can be compared.
@@ -114,17 +114,13 @@ fn listed(case: &[u8], text: &mut [u8]) -> Result<Listed, Refusal> {
 
 fn measured(case: &[u8]) -> Result<Texted, Refusal> {
     let case = Case::accept(case)?;
-    let mut count = smt::Count(0);
-    smt::put_text(&case, &mut count);
-    Ok(Texted::Text { bytes: count.0 })
+    Ok(Texted::Text { bytes: smt::length(&case) })
 }
 
-/// The text is written apart, so that a slice that is too short keeps its bytes.
 fn texted(case: &[u8], text: &mut [u8]) -> Result<Texted, Refusal> {
     let case = Case::accept(case)?;
-    let mut written = Vec::new();
-    smt::put_text(&case, &mut written);
-    refuse_if(text.len() < written.len(), 10)?;
-    text[..written.len()].copy_from_slice(&written);
-    Ok(Texted::Text { bytes: written.len() })
+    let bytes = smt::length(&case);
+    refuse_if(text.len() < bytes, 10)?;
+    smt::write_text(&case, text);
+    Ok(Texted::Text { bytes })
 }

@@ -5,21 +5,13 @@ use super::case::Case;
 use super::encode::put_rows;
 use super::record::{Record, ASSERT, ASSUME, COMPUTE, CONSTANT, INPUT, LOAD, LOCK, STORE};
 
-const MOST_SOURCES: usize = 6;
-
 /// What takes the bytes of a text.
-pub trait Sink {
+trait Sink {
     fn put(&mut self, bytes: &[u8]);
 }
 
-impl Sink for Vec<u8> {
-    fn put(&mut self, bytes: &[u8]) {
-        self.extend_from_slice(bytes);
-    }
-}
-
 /// Only counts the bytes.
-pub struct Count(pub usize);
+struct Count(usize);
 
 impl Sink for Count {
     fn put(&mut self, bytes: &[u8]) {
@@ -27,23 +19,46 @@ impl Sink for Count {
     }
 }
 
-/// Gives a sink the whole text.
-pub fn put_text(case: &Case, to: &mut impl Sink) {
+/// Writes them to a slice, which has room for all.
+struct Slice<'a> {
+    text: &'a mut [u8],
+    at: usize,
+}
+
+impl Sink for Slice<'_> {
+    fn put(&mut self, bytes: &[u8]) {
+        self.text[self.at..self.at + bytes.len()].copy_from_slice(bytes);
+        self.at += bytes.len();
+    }
+}
+
+/// How many bytes the text has.
+pub fn length(case: &Case) -> usize {
+    let mut count = Count(0);
+    put_text(case, &mut count);
+    count.0
+}
+
+/// Writes the text to a slice that it fits in.
+pub fn write_text(case: &Case, text: &mut [u8]) {
+    put_text(case, &mut Slice { text, at: 0 });
+}
+
+fn put_text(case: &Case, to: &mut impl Sink) {
     to.put(b"(set-logic QF_BV)\n");
     for number in 0..case.variables() {
         to.put(b"(declare-fun ");
         to.put(Term::variable(number).spelling());
         to.put(b" () (_ BitVec 16))\n");
     }
-    let mut writer = Writer { case, sources: sources(case), threads: [0; 257], targets: [0; 257], to };
+    let mut writer = Writer { case, sources: [Term::constant(0); 6], links: 0, threads: [0; 257], targets: [0; 257], to };
+    let inputs = (1..=case.records() as u16).filter(|&line| case.record(line).kind == INPUT);
+    for (source, line) in writer.sources.iter_mut().zip(inputs) {
+        *source = value_of(line);
+        writer.links += 1;
+    }
     put_rows(case, |row| writer.put_assertion(row));
     to.put(b"(check-sat)\n");
-}
-
-/// The values of the first input lines, by record number.
-fn sources(case: &Case) -> Vec<Term> {
-    let lines = 1..=case.records() as u16;
-    lines.filter(|&line| case.record(line).kind == INPUT).take(MOST_SOURCES).map(value_of).collect()
 }
 
 /// A variable or a constant, spelled.
@@ -107,7 +122,9 @@ fn operand(record: &Record, operand: u16, copy: u16) -> Term {
 
 struct Writer<'a, S: Sink> {
     case: &'a Case<'a>,
-    sources: Vec<Term>,
+    /// The values of the first input lines by record number, and how many there are.
+    sources: [Term; 6],
+    links: usize,
     /// The thread of each line, and the copy of its target, as far as the constraints have told.
     threads: [usize; 257],
     targets: [u16; 257],
@@ -159,7 +176,7 @@ impl<S: Sink> Writer<'_, S> {
 
     /// "X is Y": the equation, with a link for each source where both are variables.
     fn put_is(&mut self, x: Term, y: Term) {
-        let links = if x.is_variable() && y.is_variable() { self.sources.len() } else { 0 };
+        let links = if x.is_variable() && y.is_variable() { self.links } else { 0 };
         for number in 0..links {
             let source = self.sources[number];
             self.to.put(b"(and (not (xor ");
@@ -292,9 +309,9 @@ impl<S: Sink> Writer<'_, S> {
         if !x.is_variable() || !y.is_variable() {
             return 0;
         }
-        let sources = self.sources.len();
-        for pair in 0..sources * sources {
-            let (s, u) = (self.sources[pair / sources], self.sources[pair % sources]);
+        let pairs = self.links * self.links;
+        for pair in 0..pairs {
+            let (s, u) = (self.sources[pair / self.links], self.sources[pair % self.links]);
             self.to.put(b"(and (=> (and ");
             self.put_two(b"(= ", x, s);
             self.to.put(b" ");
@@ -305,7 +322,7 @@ impl<S: Sink> Writer<'_, S> {
             self.put_two(sign, s, u);
             self.to.put(b"))) ");
         }
-        sources * sources
+        pairs
     }
 
     fn put_expression(&mut self, op: u16, x: Term, y: Term) {
