@@ -3,8 +3,8 @@
 //!
 //! With the argument --answers it times nothing: it compares the answers on every sample, and its last line is 'N passed, M
 //! failed'. With the arguments CALL SIDE TIMES it makes just this call, so many times on the largest case, and prints nothing:
-//! that is for `bench/instructions`. With --spelling NAME CASE it prints the constraints of a case in this spelling, and with
-//! --spellings the names: that is for `bench/spellings`. Other arguments are an error.
+//! that is for `bench/instructions`. With --spelling NAME CASE it prints the constraints of a case in this spelling: that
+//! is for `bench/spellings`. Other arguments are an error.
 #![forbid(unsafe_code)]
 
 mod calls;
@@ -24,8 +24,7 @@ use plain::case::Case;
 use sample::{Sample, Samples, LARGEST};
 use spelling::Spelling;
 
-const USAGE: &str =
-    "usage: menduvo-bench [--answers | CALL SIDE TIMES | --spelling NAME CASE | --spellings], SIDE proved or plain";
+const USAGE: &str = "usage: menduvo-bench [--answers | CALL SIDE TIMES | --spelling NAME CASE], SIDE proved or plain";
 
 fn main() -> ExitCode {
     let arguments: Vec<String> = std::env::args().skip(1).collect();
@@ -33,10 +32,6 @@ fn main() -> ExitCode {
     let result = match arguments[..] {
         [] => measure_all(),
         ["--answers"] => return compare_answers(),
-        ["--spellings"] => {
-            spelling::NAMES.iter().for_each(|name| println!("{name}"));
-            Ok(())
-        }
         ["--spelling", name, case] => print_spelling(name, case),
         [name, side, times] => repeat(name, side, times),
         _ => Err(USAGE.to_string()),

@@ -22,10 +22,8 @@ pub struct Spelling {
     orders: bool,
 }
 
-/// From the simplest on. The one named text is that of docs/SMT-TEXT.md.
-pub const NAMES: [&str; 6] = ["terms", "choices", "links", "text", "all-blocks", "orders"];
-
 impl Spelling {
+    /// From the simplest on. The one named text is that of docs/SMT-TEXT.md.
     pub fn named(name: &str) -> Option<Spelling> {
         let choices = Spelling::default();
         let text = Spelling { links: true, facts: true, ..choices };
