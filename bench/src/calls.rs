@@ -72,13 +72,8 @@ pub fn agree(sample: &Sample) -> Result<(), String> {
     if proved_buffers != plain_buffers {
         return failure("the library and plain Rust leave different buffers".to_string());
     }
-    if !spelled_alike(case, &plain_buffers.smt) {
-        return failure("plain Rust and the spelling named text write different texts".to_string());
-    }
-    if !alike_where_room_is_short(case) {
-        return failure(
-            "the library and plain Rust differ on a slice that the text just fits in, or just does not".to_string(),
-        );
+    if let Err(message) = texts_agree(case) {
+        return failure(message);
     }
     let (_, _, checked, _, replayed, ..) = proved;
     let decoded = &proved_buffers.schedule[..schedule.len()];
@@ -88,19 +83,22 @@ pub fn agree(sample: &Sample) -> Result<(), String> {
     Ok(())
 }
 
-/// Whether the text begins with the one that the spellings have for it, so that what solvers are measured on is the text.
-fn spelled_alike(case: &[u8], text: &[u8]) -> bool {
+/// That both write the text which the spellings have for it, so that what solvers are measured on is the text, and do the same with
+/// a slice as long as the text and with one that is a byte shorter.
+pub fn texts_agree(case: &[u8]) -> Result<(), String> {
     let spelling = Spelling::named("text").expect("there is a spelling of this name");
-    Case::accept(case).is_ok_and(|case| text.starts_with(spelling.text(&case).as_bytes()))
-}
-
-/// Whether both do the same with a slice as long as the text, and with one that is a byte shorter.
-fn alike_where_room_is_short(case: &[u8]) -> bool {
-    let Texted::Text { bytes } = plain::smt_length(case) else { return false };
-    [bytes, bytes - 1].into_iter().all(|room| {
+    let text = Case::accept(case).map(|case| spelling.text(&case)).map_err(|_| "it is refused".to_string())?;
+    for room in [text.len(), text.len() - 1] {
         let (mut proved, mut plain) = (vec![0xA5; room], vec![0xA5; room]);
-        menduvo::smt_text(case, &mut proved) == plain::smt_text(case, &mut plain) && proved == plain
-    })
+        let answers = (menduvo::smt_text(case, &mut proved), plain::smt_text(case, &mut plain));
+        if answers.0 != answers.1 || proved != plain {
+            return Err(format!("with room for {room} bytes of text the library and plain Rust differ: {answers:?}"));
+        }
+        if room == text.len() && plain != text.as_bytes() {
+            return Err("plain Rust's text is not the spelling named text".to_string());
+        }
+    }
+    Ok(())
 }
 
 /// The times of the eight calls, in the order of their names. Both write to the same buffers.

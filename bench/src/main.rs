@@ -21,7 +21,7 @@ use std::process::ExitCode;
 
 use calls::Buffers;
 use plain::case::Case;
-use sample::{Sample, Samples, LARGEST};
+use sample::{Sample, Samples, LARGEST, LONGEST_TEXT};
 use spelling::Spelling;
 
 const USAGE: &str = "usage: menduvo-bench [--answers | CALL SIDE TIMES | --spelling NAME CASE], SIDE proved or plain";
@@ -66,8 +66,10 @@ fn print_spelling(name: &str, case: &str) -> Result<(), String> {
 
 fn compare_answers() -> ExitCode {
     let (mut passed, mut failed) = (0, 0);
-    for sample in Samples::all().iter() {
-        match calls::agree(sample) {
+    let samples = Samples::all();
+    let longest = calls::texts_agree(LONGEST_TEXT).map_err(|message| format!("longest text: {message}"));
+    for outcome in samples.iter().map(calls::agree).chain([longest]) {
+        match outcome {
             Ok(()) => passed += 1,
             Err(message) => {
                 failed += 1;
