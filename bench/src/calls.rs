@@ -1,13 +1,17 @@
-//! The six calls on a sample, proved and in plain Rust: that they agree, how long they take, and one of them by itself.
+//! The eight calls on a sample, proved and in plain Rust: that they agree, how long they take, and one of them by itself.
 
 use std::hint::black_box;
 
 use crate::measure::{compare, Times};
-use crate::plain;
+use crate::plain::{self, case::Case};
 use crate::sample::Sample;
-use menduvo::{Checked, Decoded, Encoded, Listed, Replayed, Verdict};
+use crate::spelling::Spelling;
+use menduvo::{Checked, Decoded, Encoded, Listed, Replayed, Texted, Verdict};
 
-pub const NAMES: [&str; 6] = ["accept", "encode", "check", "decode", "replay", "listing"];
+pub const NAMES: [&str; 8] = ["accept", "encode", "check", "decode", "replay", "listing", "smt_length", "smt_text"];
+
+/// No case has a longer text.
+const MOST_SMT_BYTES: usize = 2_000_000;
 
 /// The slices that calls write to, each as long as any case needs.
 #[derive(Clone, PartialEq)]
@@ -16,6 +20,7 @@ pub struct Buffers {
     schedule: Vec<u16>,
     items: Vec<u16>,
     text: Vec<u8>,
+    smt: Vec<u8>,
 }
 
 impl Buffers {
@@ -26,12 +31,13 @@ impl Buffers {
             schedule: vec![0xA5A5; menduvo::MOST_SCHEDULE_NUMBERS],
             items: vec![0xA5A5; menduvo::MOST_ITEMS],
             text: vec![0xA5; menduvo::MOST_LISTING_BYTES],
+            smt: vec![0xA5; MOST_SMT_BYTES],
         }
     }
 }
 
 /// All answers for a sample.
-type Answers = (Verdict, Encoded, Checked, Decoded, Replayed, Listed);
+type Answers = (Verdict, Encoded, Checked, Decoded, Replayed, Listed, Texted, Texted);
 
 /// That both give the same answers and leave the same in the buffers, and the answers that the sample was made for.
 pub fn agree(sample: &Sample) -> Result<(), String> {
@@ -46,6 +52,8 @@ pub fn agree(sample: &Sample) -> Result<(), String> {
         menduvo::decode(case, assignment, &mut b.schedule),
         menduvo::replay(case, schedule, &mut b.items),
         menduvo::listing(case, &mut b.text),
+        menduvo::smt_length(case),
+        menduvo::smt_text(case, &mut b.smt),
     );
     let b = &mut plain_buffers;
     let plain: Answers = (
@@ -55,6 +63,8 @@ pub fn agree(sample: &Sample) -> Result<(), String> {
         plain::decode(case, assignment, &mut b.schedule),
         plain::replay(case, schedule, &mut b.items),
         plain::listing(case, &mut b.text),
+        plain::smt_length(case),
+        plain::smt_text(case, &mut b.smt),
     );
     if proved != plain {
         return failure(format!("the library answers {proved:?}, plain Rust {plain:?}"));
@@ -62,7 +72,10 @@ pub fn agree(sample: &Sample) -> Result<(), String> {
     if proved_buffers != plain_buffers {
         return failure("the library and plain Rust leave different buffers".to_string());
     }
-    let (_, _, checked, _, replayed, _) = proved;
+    if let Err(message) = texts_agree(case) {
+        return failure(message);
+    }
+    let (_, _, checked, _, replayed, ..) = proved;
     let decoded = &proved_buffers.schedule[..schedule.len()];
     if checked != Checked::Meets || decoded != schedule || !matches!(replayed, Replayed::Violated(_)) {
         return failure(format!("not the answers that it was made for: {proved:?}"));
@@ -70,8 +83,26 @@ pub fn agree(sample: &Sample) -> Result<(), String> {
     Ok(())
 }
 
-/// The times of the six calls, in the order of their names. Both write to the same buffers.
-pub fn times(sample: &Sample, buffers: &mut Buffers) -> [Times; 6] {
+/// That both write the text which the spellings have for it, so that what solvers are measured on is the text, and do the same with
+/// a slice as long as the text and with one that is a byte shorter.
+pub fn texts_agree(case: &[u8]) -> Result<(), String> {
+    let spelling = Spelling::named("text").expect("there is a spelling of this name");
+    let text = Case::accept(case).map(|case| spelling.text(&case)).map_err(|_| "it is refused".to_string())?;
+    for room in [text.len(), text.len() - 1] {
+        let (mut proved, mut plain) = (vec![0xA5; room], vec![0xA5; room]);
+        let answers = (menduvo::smt_text(case, &mut proved), plain::smt_text(case, &mut plain));
+        if answers.0 != answers.1 || proved != plain {
+            return Err(format!("with room for {room} bytes of text the library and plain Rust differ: {answers:?}"));
+        }
+        if room == text.len() && plain != text.as_bytes() {
+            return Err("plain Rust's text is not the spelling named text".to_string());
+        }
+    }
+    Ok(())
+}
+
+/// The times of the eight calls, in the order of their names. Both write to the same buffers.
+pub fn times(sample: &Sample, buffers: &mut Buffers) -> [Times; 8] {
     let Sample { case, assignment, schedule, .. } = sample;
     [
         compare(buffers, |_| menduvo::accept(black_box(case)), |_| plain::accept(black_box(case))),
@@ -100,6 +131,12 @@ pub fn times(sample: &Sample, buffers: &mut Buffers) -> [Times; 6] {
             |b| menduvo::listing(black_box(case), black_box(&mut b.text)),
             |b| plain::listing(black_box(case), black_box(&mut b.text)),
         ),
+        compare(buffers, |_| menduvo::smt_length(black_box(case)), |_| plain::smt_length(black_box(case))),
+        compare(
+            buffers,
+            |b| menduvo::smt_text(black_box(case), black_box(&mut b.smt)),
+            |b| plain::smt_text(black_box(case), black_box(&mut b.smt)),
+        ),
     ]
 }
 
@@ -118,6 +155,10 @@ pub fn call(name: &str, side: &str) -> Option<fn(&Sample, &mut Buffers)> {
         ("replay", "plain") => |s, b| done(plain::replay(&s.case, &s.schedule, &mut b.items)),
         ("listing", "proved") => |s, b| done(menduvo::listing(&s.case, &mut b.text)),
         ("listing", "plain") => |s, b| done(plain::listing(&s.case, &mut b.text)),
+        ("smt_length", "proved") => |s, _| done(menduvo::smt_length(&s.case)),
+        ("smt_length", "plain") => |s, _| done(plain::smt_length(&s.case)),
+        ("smt_text", "proved") => |s, b| done(menduvo::smt_text(&s.case, &mut b.smt)),
+        ("smt_text", "plain") => |s, b| done(plain::smt_text(&s.case, &mut b.smt)),
         _ => return None,
     };
     Some(call)

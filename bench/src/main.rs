@@ -3,7 +3,8 @@
 //!
 //! With the argument --answers it times nothing: it compares the answers on every sample, and its last line is 'N passed, M
 //! failed'. With the arguments CALL SIDE TIMES it makes just this call, so many times on the largest case, and prints nothing:
-//! that is for `bench/instructions`. Other arguments are an error.
+//! that is for `bench/instructions`. With --spelling NAME CASE it prints the constraints of a case in this spelling: that
+//! is for `bench/spellings`. Other arguments are an error.
 #![forbid(unsafe_code)]
 
 mod calls;
@@ -12,14 +13,18 @@ mod measure;
 mod plain;
 mod report;
 mod sample;
+mod spelling;
 
+use std::fs;
 use std::hint::black_box;
 use std::process::ExitCode;
 
 use calls::Buffers;
-use sample::{Sample, Samples, LARGEST};
+use plain::case::Case;
+use sample::{Sample, Samples, LARGEST, LONGEST_TEXT};
+use spelling::Spelling;
 
-const USAGE: &str = "usage: menduvo-bench [--answers | CALL SIDE TIMES], where SIDE is proved or plain";
+const USAGE: &str = "usage: menduvo-bench [--answers | CALL SIDE TIMES | --spelling NAME CASE], SIDE proved or plain";
 
 fn main() -> ExitCode {
     let arguments: Vec<String> = std::env::args().skip(1).collect();
@@ -27,6 +32,7 @@ fn main() -> ExitCode {
     let result = match arguments[..] {
         [] => measure_all(),
         ["--answers"] => return compare_answers(),
+        ["--spelling", name, case] => print_spelling(name, case),
         [name, side, times] => repeat(name, side, times),
         _ => Err(USAGE.to_string()),
     };
@@ -50,10 +56,20 @@ fn repeat(name: &str, side: &str, times: &str) -> Result<(), String> {
     Ok(())
 }
 
+fn print_spelling(name: &str, case: &str) -> Result<(), String> {
+    let spelling = Spelling::named(name).ok_or(USAGE)?;
+    let bytes = fs::read(case).map_err(|error| format!("{case}: {error}"))?;
+    let accepted = Case::accept(&bytes).map_err(|refusal| format!("{case}: refusal {}", refusal.number))?;
+    print!("{}", spelling.text(&accepted));
+    Ok(())
+}
+
 fn compare_answers() -> ExitCode {
     let (mut passed, mut failed) = (0, 0);
-    for sample in Samples::all().iter() {
-        match calls::agree(sample) {
+    let samples = Samples::all();
+    let longest = calls::texts_agree(LONGEST_TEXT).map_err(|message| format!("longest text: {message}"));
+    for outcome in samples.iter().map(calls::agree).chain([longest]) {
+        match outcome {
             Ok(()) => passed += 1,
             Err(message) => {
                 failed += 1;

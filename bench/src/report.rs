@@ -10,24 +10,24 @@ pub fn heading() {
     println!("Both write to the same buffers, as long as any case needs; they are not cleared between calls.");
 }
 
-pub fn sizes(measured: &[(&Sample, [Times; 6])]) {
-    println!("\n| case    |   R |  n | items | call    |  proved |   plain | ratio |");
-    println!("|:--------|----:|---:|------:|:--------|--------:|--------:|------:|");
+pub fn sizes(measured: &[(&Sample, [Times; 8])]) {
+    println!("\n| case    |   R |  n | items | call       |  proved |   plain | ratio |");
+    println!("|:--------|----:|---:|------:|:-----------|--------:|--------:|------:|");
     for (sample, times) in measured {
         for (call, times) in NAMES.iter().zip(times) {
             let (name, records, switches, items) = (sample.name, sample.records(), sample.switches(), sample.items());
-            print!("| {name:7} | {records:3} | {switches:2} | {items:5} | {call:7} ");
+            print!("| {name:7} | {records:3} | {switches:2} | {items:5} | {call:10} ");
             println!("| {:7.0} | {:7.0} | {:5.2} |", times.proved, times.plain, times.ratio());
         }
     }
 }
 
 /// A line for each call and each side, a column for each sample.
-pub fn growth(title: &str, measured: &[(String, [Times; 6])]) {
+pub fn growth(title: &str, measured: &[(String, [Times; 8])]) {
     println!("\n{title}:\n");
-    print!("| call    |        |");
+    print!("| call       |        |");
     measured.iter().for_each(|(name, _)| print!(" {name:>7} |"));
-    print!("\n|:--------|:-------|");
+    print!("\n|:-----------|:-------|");
     measured.iter().for_each(|_| print!("--------:|"));
     println!();
     for (call, name) in NAMES.iter().enumerate() {
@@ -37,8 +37,8 @@ pub fn growth(title: &str, measured: &[(String, [Times; 6])]) {
     }
 }
 
-fn growth_line(call: &str, side: &str, measured: &[(String, [Times; 6])], figure: impl Fn(&[Times; 6]) -> String) {
-    print!("| {call:7} | {side:6} |");
+fn growth_line(call: &str, side: &str, measured: &[(String, [Times; 8])], figure: impl Fn(&[Times; 8]) -> String) {
+    print!("| {call:10} | {side:6} |");
     measured.iter().for_each(|(_, times)| print!(" {:>7} |", figure(times)));
     println!();
 }

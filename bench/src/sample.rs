@@ -24,6 +24,9 @@ pub struct Shape {
 pub const LARGEST: Shape = Shape { name: "largest", lines: &[64; 4], switches: 15, globals: 8, mutexes: 4 };
 const MIDDLE: Shape = Shape { name: "middle", lines: &[22, 21, 21], switches: 8, globals: 4, mutexes: 2 };
 
+/// A case with a text as long as one can make it: six inputs, and in all other lines a guarded store of a comparison of variables.
+pub const LONGEST_TEXT: &[u8] = include_bytes!("../longest.case");
+
 /// All inputs, by the tables that they are for.
 pub struct Samples {
     pub sizes: [Sample; 3],

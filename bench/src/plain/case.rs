@@ -102,6 +102,10 @@ impl<'a> Case<'a> {
         broken.map_or(0, |place| place as u16 + 1)
     }
 
+    pub fn records(&self) -> usize {
+        self.records.len()
+    }
+
     pub fn record(&self, line: u16) -> Record {
         Record::read(&self.records[usize::from(line) - 1])
     }

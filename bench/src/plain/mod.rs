@@ -1,19 +1,20 @@
-//! The six calls in plain Rust, for speed: what the proved library is measured against. Fixed-size arrays, ordinary checked
+//! The eight calls in plain Rust, for speed: what the proved library is measured against. Fixed-size arrays, ordinary checked
 //! indexing, no unsafe code, no heap.
 //!
 //! The calls do what document 01 asks of them, each by itself: checks 1 to 9 come first in every one, and the decoder checks its
 //! assignment. Their answers have the types of the bindings, so that they can be compared.
 
-mod case;
+pub mod case;
 mod check;
 mod decode;
-mod encode;
+pub mod encode;
 mod listing;
 pub mod record;
 mod replay;
+mod smt;
 
 use case::{refuse_if, Case, Refusal};
-use menduvo::{Checked, Decoded, Encoded, Listed, Replayed, Verdict};
+use menduvo::{Checked, Decoded, Encoded, Listed, Replayed, Texted, Verdict};
 use replay::Stop;
 
 // A call of the library is never inlined, so none of these is.
@@ -49,6 +50,16 @@ pub fn replay(case: &[u8], schedule: &[u16], items: &mut [u16]) -> Replayed {
 #[inline(never)]
 pub fn listing(case: &[u8], text: &mut [u8]) -> Listed {
     listed(case, text).unwrap_or_else(|Refusal { number, place }| Listed::Refused { number, place })
+}
+
+#[inline(never)]
+pub fn smt_length(case: &[u8]) -> Texted {
+    measured(case).unwrap_or_else(|Refusal { number, place }| Texted::Refused { number, place })
+}
+
+#[inline(never)]
+pub fn smt_text(case: &[u8], text: &mut [u8]) -> Texted {
+    texted(case, text).unwrap_or_else(|Refusal { number, place }| Texted::Refused { number, place })
 }
 
 fn encoded(case: &[u8], table: &mut [u16]) -> Result<Encoded, Refusal> {
@@ -99,4 +110,17 @@ fn listed(case: &[u8], text: &mut [u8]) -> Result<Listed, Refusal> {
     let case = Case::accept(case);
     refuse_if(!listing::fits(&case, text.len()), 10)?;
     Ok(Listed::Text { bytes: listing::write_text(&case, text) as u16 })
+}
+
+fn measured(case: &[u8]) -> Result<Texted, Refusal> {
+    let case = Case::accept(case)?;
+    Ok(Texted::Text { bytes: smt::length(&case) })
+}
+
+fn texted(case: &[u8], text: &mut [u8]) -> Result<Texted, Refusal> {
+    let case = Case::accept(case)?;
+    let bytes = smt::length(&case);
+    refuse_if(text.len() < bytes, 10)?;
+    smt::write_text(&case, text);
+    Ok(Texted::Text { bytes })
 }
