@@ -6,7 +6,7 @@ use crate::measure::{compare, Times};
 use crate::plain::{self, case::Case};
 use crate::sample::Sample;
 use crate::spelling::Spelling;
-use menduvo::{Checked, Decoded, Encoded, Listed, Replayed, Texted, Verdict};
+use menduvo::{Checked, Decoded, Encoded, Listed, Refusal, Replayed, Verdict};
 
 pub const NAMES: [&str; 8] = ["accept", "encode", "check", "decode", "replay", "listing", "smt_length", "smt_text"];
 
@@ -37,6 +37,7 @@ impl Buffers {
 }
 
 /// All answers for a sample.
+type Texted = Result<usize, Refusal>;
 type Answers = (Verdict, Encoded, Checked, Decoded, Replayed, Listed, Texted, Texted);
 
 /// That both give the same answers and leave the same in the buffers, and the answers that the sample was made for.

@@ -14,7 +14,7 @@ mod replay;
 mod smt;
 
 use case::{refuse_if, Case, Refusal};
-use menduvo::{Checked, Decoded, Encoded, Listed, Replayed, Texted, Verdict};
+use menduvo::{Checked, Decoded, Encoded, Listed, Replayed, Verdict};
 use replay::Stop;
 
 // A call of the library is never inlined, so none of these is.
@@ -53,13 +53,13 @@ pub fn listing(case: &[u8], text: &mut [u8]) -> Listed {
 }
 
 #[inline(never)]
-pub fn smt_length(case: &[u8]) -> Texted {
-    measured(case).unwrap_or_else(|Refusal { number, place }| Texted::Refused { number, place })
+pub fn smt_length(case: &[u8]) -> Result<usize, menduvo::Refusal> {
+    measured(case).map_err(|Refusal { number, place }| menduvo::Refusal { number, place })
 }
 
 #[inline(never)]
-pub fn smt_text(case: &[u8], text: &mut [u8]) -> Texted {
-    texted(case, text).unwrap_or_else(|Refusal { number, place }| Texted::Refused { number, place })
+pub fn smt_text(case: &[u8], text: &mut [u8]) -> Result<usize, menduvo::Refusal> {
+    texted(case, text).map_err(|Refusal { number, place }| menduvo::Refusal { number, place })
 }
 
 fn encoded(case: &[u8], table: &mut [u16]) -> Result<Encoded, Refusal> {
@@ -112,15 +112,15 @@ fn listed(case: &[u8], text: &mut [u8]) -> Result<Listed, Refusal> {
     Ok(Listed::Text { bytes: listing::write_text(&case, text) as u16 })
 }
 
-fn measured(case: &[u8]) -> Result<Texted, Refusal> {
+fn measured(case: &[u8]) -> Result<usize, Refusal> {
     let case = Case::accept(case)?;
-    Ok(Texted::Text { bytes: smt::length(&case) })
+    Ok(smt::length(&case))
 }
 
-fn texted(case: &[u8], text: &mut [u8]) -> Result<Texted, Refusal> {
+fn texted(case: &[u8], text: &mut [u8]) -> Result<usize, Refusal> {
     let case = Case::accept(case)?;
     let bytes = smt::length(&case);
     refuse_if(text.len() < bytes, 10)?;
     smt::write_text(&case, text);
-    Ok(Texted::Text { bytes })
+    Ok(bytes)
 }
