@@ -17,7 +17,7 @@ SHELL = bash
 .PHONY: all install uninstall
 
 # All that is installed, from PREFIX; of docs, what the help names.
-documents = SOURCE.md FILING.md output.schema.json
+documents = SOURCE.md FILING.md SMT-TEXT.md output.schema.json
 files = bin/menduvo lib/libmenduvo.a include/menduvo.h lib/pkgconfig/menduvo.pc share/man/man1/menduvo.1 \
     share/bash-completion/completions/menduvo $(documents:%=share/doc/menduvo/%)
 

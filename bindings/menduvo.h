@@ -2,8 +2,9 @@
  * Menduvo's calls, for C: the static library libmenduvo.a, written by `rt staticlib menduvo`.
  *
  * The calls are proved: what each of them answers, and what it leaves in each slice that it was lent, equals the definitions
- * in crates/model/specs (Accept, Answers, Listing), and every call returns. Not proved is how much of the stack a call takes. The
- * language has no static and no heap: the calls hold nothing between them, allocate nothing, and may be called from any thread.
+ * in crates/model/specs (Accept, Answers, Listing) and crates/script/specs (Text), and every call returns. Not proved is how much of
+ * the stack a call takes. The language has no static and no heap: the calls hold nothing between them, allocate nothing, and may be
+ * called from any thread.
  *
  * A slice is a pointer and how many elements it has. The proof is about calls that keep three rules, which no call can test:
  *   - each pointer is valid for that many elements, and is not null, also where there are none;
@@ -55,6 +56,17 @@ extern "C" {
 typedef struct {
     uint16_t refusal, place, answer, first, second;
 } MenduvoNumbers;
+
+/*
+ * An answer of the two calls on the text of a case, which may have more bytes than 16 bits can say.
+ *
+ * Where `refusal` is 0 the call was not refused: `place` is 0, and `bytes` is how many bytes the text has. Where it is 1 to 10 the
+ * call was refused: `place` is where, as above, and `bytes` is 0. No other refusal is given.
+ */
+typedef struct {
+    uint16_t refusal, place;
+    size_t bytes;
+} MenduvoTextNumbers;
 
 /*
  * The refusals in checking order, each with its number and what it means: the macro X is used once for each, as
@@ -138,6 +150,21 @@ MenduvoNumbers menduvo_replay(const uint8_t *case_, size_t case_len, const uint1
  * Refusal 10.
  */
 MenduvoNumbers menduvo_listing(const uint8_t *case_, size_t case_len, uint8_t *text, size_t text_len);
+
+/*
+ * How many bytes the SMT-LIB text of the case has: the room that menduvo_smt_text needs.
+ * Refusals 1 to 9.
+ */
+MenduvoTextNumbers menduvo_smt_length(const uint8_t *case_, size_t case_len);
+
+/*
+ * Writes the constraints of the case to `text` as SMT-LIB 2, logic QF_BV: the one text that docs/SMT-TEXT.md spells byte for byte,
+ * in ASCII, from (set-logic QF_BV) to (check-sat) and a line feed; no 0 follows it. It declares v0, v1 and on, one for each number
+ * of an assignment, and asserts one formula for each constraint, in the table's order: the first that an assignment makes false is
+ * the first constraint that it fails.
+ * Refusals 1 to 9, and then 10 where `text` is shorter than menduvo_smt_length says.
+ */
+MenduvoTextNumbers menduvo_smt_text(const uint8_t *case_, size_t case_len, uint8_t *text, size_t text_len);
 
 #ifdef __cplusplus
 }

@@ -96,6 +96,10 @@ lies answer 'numbers that stand for no answer' replay cases/case-a.case cases/ca
 lies 'fails 0' 'numbers that stand for no answer' check cases/case-a.case cases/case-a.assignment
 lies 'refusal 16' 'numbers that stand for no answer' decode cases/case-a.case cases/case-a.assignment
 lies listing 'numbers that stand for no answer' list cases/case-a.case
+for lie in 'text refused' 'text place' 'text refused, with bytes' 'text longer'; do
+    lies "$lie" 'numbers that stand for no answer' smt cases/case-a.case
+done
+lies 'text bytes' 'an SMT-LIB text that is no text' smt cases/case-a.case
 
 # What is filed names the library that is linked, and this one is another.
 run bin/menduvo file cases/case-a.case "$scratch/filed" --solver-command 'echo unknown'

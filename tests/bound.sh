@@ -150,17 +150,18 @@ CASES
     says 'a strict one goes by the largest n' 0 'unsat at 0 to 4' "$menduvo" solve cases/interlock.case --least --switches 4 --strict
 }
 
-# An n without an answer is told, and nothing is called the first behind it. The text has n by its counts: 66 over 45 is n = 3.
+# An n without an answer is told, and nothing is called the first behind it. The text has n as the bound of thread 0's last
+# line, record 9.
 open() {
     local words='a violation at n = 4; unsat at 0, 1, 2 (0: nothing was checked); not known at 3'
-    asked_z3 '; 66 constraints over 45' 'exec sleep 60'
+    asked_z3 '(bvule v16 #x0003)' 'exec sleep 60'
     says 'no time at n = 3' 1 "$words (timeout)" "$menduvo" solve "$broken" --least --timeout 3
     shows 'the message has the n' '[[ $out = *"menduvo: at n = 3: cases/interlock-broken.case: timeout"* && $out != *"first at"* ]]'
-    asked_z3 '; 66 constraints over 45' 'echo unknown'
+    asked_z3 '(bvule v16 #x0003)' 'echo unknown'
     says 'z3 gives up at n = 3' 1 "$words (unknown)" "$menduvo" solve "$broken" --least
     objects 6 solve "$broken" --least
     shows 'the object' '[ "$(last first), $(last violated), $(last notKnown 0 switches), $(last notKnown 0 answer)" = "null, 4, 3, unknown" ]'
-    asked_z3 '; 66 constraints over 45' 'echo sat; echo "((v0 #x0001))"'
+    asked_z3 '(bvule v16 #x0003)' 'echo sat; echo "((v0 #x0001))"'
     says 'a wrong model at n = 3' 1 "$words (failed)" "$menduvo" solve "$broken" --least
     says 'a wrong model, up to n = 3' 3 'no violation found; unsat at 0, 1, 2 (0: nothing was checked); not known at 3 (failed)' \
         "$menduvo" solve "$broken" --least --switches 3
@@ -244,7 +245,7 @@ asserts() {
     objects 1 solve "$broken" --assert 8
     result 'the object names the assert' test "$(last assert), $(last answer)" = '8, violated'
     # The question about record 17 alone has record 8 made 1.
-    asked_z3 'record 8 (thread 0, line 8: assert 1)' 'exec sleep 60'
+    asked_z3 '(= v15 (ite (= #x0001 #x0000)' 'exec sleep 60'
     says 'no time for one assert' 1 '2 asserts: 1 violated, 0 unsat, 0 vacuous, 1 timeout' "$menduvo" solve "$broken" --each --timeout 3
     shows 'it is told' '[[ $out = *"menduvo: 1 assert was not done"* ]]'
     rm "$scratch/fakes/z3"
@@ -269,7 +270,8 @@ short() {
         says 'its assignment meets the constraints' 0 'meets all 102 constraints with n = 15' \
             "$menduvo" check "$broken" "$folder/interlock-broken-n15.assignment" --switches 15
         says 'its schedule violates' 1 'violated' "$menduvo" replay "$broken" "$folder/interlock-broken-n15.schedule" --switches 15
-        result 'no wish is kept with the constraints' eval '! grep -q wish "$folder/interlock-broken-n15.smt2"'
+        run "$menduvo" smt "$broken" --switches 15
+        result 'no wish is kept with the constraints' cmp -s "$scratch/out" "$folder/interlock-broken-n15.smt2"
         says "$solver, inputs" 1 'short: 0 of 3 switches used, 1 block with lines, inputs 1234 0' \
             "$menduvo" solve "$scratch/inputs.case" --short --solver "$solver"
         says "$solver, an input with a guard" 1 'short: 0 of 2 switches used, 1 block with lines, inputs 1 0' \
@@ -296,6 +298,12 @@ short() {
     says 'the questions have an end' 1 '64 more questions; a shorter one may be there: 64 questions are the most that are asked' \
         "$menduvo" solve "$scratch/many.case" --short
     shows 'what came so far' '[[ $out = *"inputs 40000 40000 "* ]]'
+    # Wishes stand between the last assertion and the question; all else is the case's text.
+    "$menduvo" smt "$scratch/inputs.case" >"$scratch/text"
+    asked_z3 '; a wish' "cat >'$scratch/wished' <<<\"\$question\"; echo unknown"
+    run "$menduvo" solve "$scratch/inputs.case" --short
+    result 'a wish is beside the text' cmp -s <(sed '/^; a wish/,+1d' "$scratch/wished") "$scratch/text"
+    result 'before the question' test "$(tail -n 3 "$scratch/wished" | cut -c 1-8 | tr '\n' ,)" = '; a wish,(assert ,(check-s,'
     # What a solver makes of a wish is measured, and what it does not answer is told.
     local word
     fake z3 "sed '/^; a wish/,+1d' | $z3 \"\$@\""

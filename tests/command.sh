@@ -10,7 +10,7 @@ calling() {
     same help 0 "$menduvo" help
     same help-solve 0 "$menduvo" solve --help
     local command
-    for command in demo list show check decode replay step solve picture file verify help; do
+    for command in demo list smt show check decode replay step solve picture file verify help; do
         says "help $command" 0 "usage: menduvo $command" "$menduvo" help "$command"
         says "$command --help" 0 "usage: menduvo $command" "$menduvo" "$command" --help
     done
@@ -118,6 +118,53 @@ reading() {
         "$menduvo" picture cases/case-a.case cases/case-a.schedule -o "$scratch/none/a.svg"
 }
 
+# The text of case A on the page that fixes it: the first block after its head.
+text_on_the_page() {
+    sed -n '/^## Case A$/,$p' docs/SMT-TEXT.md | sed -n '/^```text$/,/^```$/p' | sed '1d;/^```$/,$d'
+}
+
+# smt_is NAME FILE WORDS..: 'menduvo smt' with these words prints the bytes of the file.
+smt_is() {
+    local name=$1 file=$2
+    shift 2
+    run "$menduvo" smt "$@"
+    result "$name" eval '[ "$status" = 0 ] && [ -s "$file" ] && cmp -s "$scratch/out" "$file"'
+}
+
+texts() {
+    local file=$scratch/a.smt2
+    text_on_the_page >"$scratch/page"
+    smt_is "case A's text is that of its page" "$scratch/page" cases/case-a.case
+    smt_is 'of its source, too' "$scratch/page" cases/case-a.source
+    run bash -c "$menduvo smt - <cases/case-a.case"
+    result 'of a case on standard input' cmp -s "$scratch/out" "$scratch/page"
+    says 'a text to a file' 0 'a.smt2: 18 constraints over 12 variables, in 1221 bytes' "$menduvo" smt cases/case-a.case -o "$file"
+    result 'the file has the text, and nothing else' cmp -s "$file" "$scratch/page"
+    says 'a text replaces no file' 3 'a.smt2 is there already; --force replaces it' "$menduvo" smt cases/lock-order.case -o "$file"
+    result 'the text is still there' cmp -s "$file" "$scratch/page"
+    says 'a text replaces a file' 0 'a.smt2: ' "$menduvo" smt cases/lock-order.case -o "$file" --force
+    smt_is 'the text is replaced' "$file" cases/lock-order.case
+    smt_is 'standard output by name' "$file" cases/lock-order.case -o -
+    cp cases/case-a.case "$scratch/input.case"
+    says 'a text replaces no input' 3 'input.case is an input' "$menduvo" smt "$scratch/input.case" -o "$scratch/input.case" --force
+    damaged 1 3 && "$menduvo" smt "$scratch/damaged.case" >"$scratch/three.smt2"
+    smt_is 'a text with another n' "$scratch/three.smt2" cases/case-a.case --switches 3
+    says 'it has that n' 0 '(bvule v8 #x0003)' "$menduvo" smt cases/case-a.case --switches 3
+    says 'nothing to force' 3 '--force needs -o' "$menduvo" smt cases/case-a.case --force
+    says 'a file without a name' 3 '-o FILE is missing' "$menduvo" smt cases/case-a.case -o ''
+    says 'one text at a time' 3 "'cases/lock-order.case' is too much" "$menduvo" smt cases/case-a.case cases/lock-order.case
+    damaged 27 1
+    says 'a refused case has no text' 2 'refusal 9, place 2' "$menduvo" smt "$scratch/damaged.case" -o "$scratch/none.smt2"
+    result 'no file is left' test ! -e "$scratch/none.smt2"
+    run bash -c "$menduvo smt '$scratch/damaged.case' 2>'$scratch/errors'"
+    result 'nothing is printed' eval '[ "$status" = 2 ] && [ -z "$out" ] && [ -s "$scratch/errors" ]'
+    says 'an n that is refused' 2 'refusal 3, place 0' "$menduvo" smt cases/case-a.case --switches 16
+    # No record, no switch: one assertion, which nothing meets.
+    fields 2 0 0 0 0 0 0 0 0 0 0 0 0 0 0 0 >"$scratch/empty.case"
+    printf '%s\n' '(set-logic QF_BV)' '(assert false)' '(check-sat)' >"$scratch/empty.smt2"
+    smt_is 'the smallest text' "$scratch/empty.smt2" "$scratch/empty.case"
+}
+
 numbers() {
     local model
     run bash -c "$menduvo list - <cases/case-a.case"
@@ -202,6 +249,7 @@ outputs() {
 
 calling
 reading
+texts
 numbers
 refusals
 outputs

@@ -94,6 +94,17 @@ three_asserts() {
         0 1 0 0 0 16 0 1 >"$scratch/three.case"
 }
 
+# asserts_made A B C: the text of this case with the asserts' expressions made these constants.
+asserts_made() {
+    local record=4 constant
+    cp "$scratch/three.case" "$scratch/made.case"
+    for constant; do
+        fields 0 16 0 "$constant" | dd of="$scratch/made.case" bs=2 seek=$((16 + 8 * (record - 1) + 4)) conv=notrunc status=none
+        record=$((record + 1))
+    done
+    "$binary" smt "$scratch/made.case" >"$scratch/made.smt2"
+}
+
 filing() {
     says 'the command is built' 0 'menduvo 0.' "$menduvo" --version
     find_binary
@@ -118,6 +129,11 @@ filing() {
     has three reached.txt 'assert 1): reached, e.g. schedule 6 1 '
     has three reached.txt 'record 6 (thread 0, line 6: when L3 != 0: assert 1): NEVER REACHED within n = 1'
     has three README.txt 'whether an assert of record 4, 5 and 6 is reached'
+    # The question about all three is the text of the case in which they are 0; the last one's, of that in which the others are 1.
+    asserts_made 0 0 0
+    result 'the first question is a text of the library' cmp -s "$scratch/made.smt2" "$scratch/three/reached-1.smt2"
+    asserts_made 1 1 0
+    result 'so is the last one' cmp -s "$scratch/made.smt2" "$scratch/three/reached-3.smt2"
 }
 
 # What is filed is what the other commands print.
@@ -128,6 +144,7 @@ as_printed() {
         result "$file is as printed" cmp -s "$scratch/out" "$scratch/violated/$file"
     done <<'CALLS'
 listing.txt|list case.case
+constraints.smt2|smt case.case
 show.txt|show case.case
 run.txt|replay case.case schedule.txt
 picture.svg|picture case.case schedule.txt -o -

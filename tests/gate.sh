@@ -38,7 +38,7 @@ fresh() {
     fake "$bin/rustc" 'echo a fake'
     fake "$bin/apt-get" 'echo "${!#}" >>"${0%/*}/apt.log"; eval "${APT:-exit 100}"'
     local program
-    for program in z3 cvc5 parallel xmllint make; do fake "$bin/$program" ''; done
+    for program in z3 cvc5 cvc4 boolector parallel xmllint make; do fake "$bin/$program" ''; done
     fake "$repo/tests/a.sh" 'eval "${TEST:-echo 2 passed, 0 failed}"'
     fake "$repo/tests/b.sh" 'echo 1 passed, 0 failed'
     echo 'echo this is no test; exit 1' >"$repo/tests/helper.sh"
@@ -133,10 +133,14 @@ red 'an install fails' \
 result 'the command and its package are named' says 'could not install: cvc5 (package cvc5)'
 red 'an install brings no command' \
     'programs: exit status 1' '17 passed, 1 failed' APT=true
-fresh && rm "$bin/z3" "$bin/cvc5" "$bin/parallel" "$bin/xmllint"
+fresh && rm "$bin/z3" "$bin/cvc5" "$bin/cvc4" "$bin/boolector" "$bin/parallel" "$bin/xmllint"
 gate APT="$installs"
 result 'what is missing is installed' ends 0 "$green"
-result 'the lists are updated once' test "$(<"$bin/apt.log")" = $'update\nz3\ncvc5\nparallel\nlibxml2-utils'
+result 'the lists are updated once' test "$(<"$bin/apt.log")" = $'update\nz3\ncvc5\ncvc4\nboolector\nparallel\nlibxml2-utils'
+fresh && rm "$bin/cvc4" "$bin/boolector"
+gate
+result 'the gate does without two of the solvers' ends 0 "$green"
+result 'and says so' eval 'says "could not install: cvc4 (package cvc4)" && says "could not install: boolector (package boolector)"'
 fresh && rm "$bin/xmllint"
 red 'a package without the command' \
     'programs: exit status 1' '17 passed, 1 failed' APT='[ "${!#}" = update ] || ln -s rustc "${0%/*}/${!#}"'

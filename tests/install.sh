@@ -10,7 +10,7 @@ unset PREFIX DESTDIR MAKEFLAGS MENDUVO_COMMIT MENDUVO_BUILD_COMMIT PKG_CONFIG_PA
 library=${MENDUVO_LIB_DIR:-$PWD/target/staticlib}/libmenduvo.a
 home=$scratch/home prefix=$scratch/home/.local installed=$scratch/home/.local/bin/menduvo
 files='bin/menduvo include/menduvo.h lib/libmenduvo.a lib/pkgconfig/menduvo.pc'
-files+=' share/bash-completion/completions/menduvo share/doc/menduvo/FILING.md'
+files+=' share/bash-completion/completions/menduvo share/doc/menduvo/FILING.md share/doc/menduvo/SMT-TEXT.md'
 files+=' share/doc/menduvo/SOURCE.md share/doc/menduvo/output.schema.json share/man/man1/menduvo.1'
 
 # there FOLDER: the files in it, in one line.
@@ -45,7 +45,7 @@ installing() {
     seen=$scratch/fakes:$PATH readme "$(block Install)"
     result 'it installs what is built, and builds nothing' test "$status" = 0
     result 'it installs these files' test "$(there "$home/.local")" = "$files"
-    result 'with these rights' test "$(find "$prefix" -type f -printf '%m\n' | sort | paste -sd ' ')" = '644 644 644 644 644 644 644 644 755'
+    result 'with these rights' test "$(find "$prefix" -type f -printf '%m\n' | sort | paste -sd ' ')" = '644 644 644 644 644 644 644 644 644 755'
     result 'the library' cmp -s "$library" "$prefix/lib/libmenduvo.a"
     result 'the header' cmp -s bindings/menduvo.h "$prefix/include/menduvo.h"
     local document

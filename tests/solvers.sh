@@ -109,6 +109,40 @@ FAKES
     same demo 0 "$menduvo" demo
 }
 
+# What solvers are given: the case's text, byte for byte.
+given() {
+    "$menduvo" smt cases/case-a.case >"$scratch/text"
+    fake z3 "cat >'$scratch/given-z3'; echo sat; echo '$model'"
+    run "$menduvo" solve cases/case-a.case --keep "$scratch/given"
+    result 'z3 is given the text' eval '[ "$status" = 1 ] && cmp -s "$scratch/given-z3" "$scratch/text"'
+    result 'the text is kept' cmp -s "$scratch/given/case-a.smt2" "$scratch/text"
+    run "$menduvo" solve cases/case-a.source --solver z3
+    result 'so it is where the case is given as source' cmp -s "$scratch/given-z3" "$scratch/text"
+    # One that gives a model the second time.
+    : >"$scratch/runs"
+    fake other "echo >>'$scratch/runs'; cat >'$scratch/given-'\$(wc -l <'$scratch/runs'); echo sat
+        [ \"\$(wc -l <'$scratch/runs')\" = 1 ] || echo '$model'"
+    says 'another solver is given the text twice' 1 'violated: record 4' \
+        "$menduvo" solve cases/case-a.case --solver-command other --keep "$scratch/given-other"
+    result 'first the text alone' cmp -s "$scratch/given-1" "$scratch/text"
+    { echo '(set-option :produce-models true)' && cat "$scratch/text" && echo "(get-value ($(echo v{0..11})))"; } >"$scratch/asked-for"
+    result 'then with what asks for a model' cmp -s "$scratch/given-2" "$scratch/asked-for"
+    result 'and no more often' test "$(wc -l <"$scratch/runs")" = 2
+    result 'the text alone is kept' cmp -s "$scratch/given-other/case-a.smt2" "$scratch/text"
+    says 'cvc5 as any other, which has no models unless it is told' 1 'violated: record 9' \
+        "$menduvo" solve cases/lost-update.case --solver-command "$cvc5 --lang=smt2 -"
+    # The case with record 8, its other assert, made 1.
+    "$menduvo" smt cases/interlock-broken.case >"$scratch/text"
+    cp cases/interlock-broken.case "$scratch/alone.case"
+    fields 0 16 0 1 | dd of="$scratch/alone.case" bs=2 seek=$((16 + 8 * 7 + 4)) conv=notrunc status=none
+    "$menduvo" smt "$scratch/alone.case" >"$scratch/alone.smt2"
+    fake z3 "cat >'$scratch/given-z3'; echo unsat"
+    run "$menduvo" solve cases/interlock-broken.case --assert 17
+    result 'an assert alone is asked about by the text of that case' eval \
+        '[ "$status" = 0 ] && cmp -s "$scratch/given-z3" "$scratch/alone.smt2" && ! cmp -s "$scratch/given-z3" "$scratch/text"'
+    rm "$scratch/fakes/z3"
+}
+
 # A model is asked for only after sat, of any solver.
 models() {
     fake other 'tee -a "${0%/*}/../heard" >"${0%/*}/../last"; echo unsat'
@@ -278,7 +312,7 @@ dying() {
 
 folders() {
     mkdir "$scratch/folder" && cp cases/case-a.case cases/interlock.case "$scratch/folder"
-    fake z3 "if grep -q '18 constraints'; then echo sat; echo '$model'; else echo unsat; fi"
+    fake z3 "if grep -qF '$of_case_a'; then echo sat; echo '$model'; else echo unsat; fi"
     cd "$scratch" || exit
     run "$menduvo" solve folder
     without_times
@@ -299,11 +333,11 @@ folders() {
     mkdir "$scratch/hollow"
     says 'a folder without cases' 3 'no file in it ends in .source or .case' "$menduvo" solve "$scratch/hollow"
     # One that hangs among others.
-    fake z3 'case $(cat) in *"18 constraints"*) exec sleep 600 ;; *) echo unsat ;; esac'
+    fake z3 "case \$(cat) in *'$of_case_a'*) exec sleep 600 ;; *) echo unsat ;; esac"
     mkdir "$scratch/busy" && cp cases/{case-a,interlock,lock-order}.case "$scratch/busy"
     says 'a case that keeps the solver busy stops no other' 3 '3 cases: 0 violated, 2 unsat, 0 vacuous, 1 timeout' \
         "$menduvo" solve "$scratch/busy" --timeout 1.5
-    fake z3 "case \$(cat) in *'18 constraints'*) echo sat; echo '$model' ;; *) sleep 600 ;; esac"
+    fake z3 "case \$(cat) in *'$of_case_a'*) echo sat; echo '$model' ;; *) sleep 600 ;; esac"
     says 'a violation wins over a timeout' 1 '1 violated, 0 unsat, 0 vacuous, 2 timeout' "$menduvo" solve "$scratch/busy" --timeout 1.5
     parallel_jobs
     as_known
@@ -313,7 +347,7 @@ folders() {
 parallel_jobs() {
     fake z3 "text=\$(cat); here=\${0%/*}/..
         case \$text in
-        *'18 constraints'*) : >\$here/first; until [ -e \$here/second ]; do sleep 0.02; done; sleep 0.2; echo sat; echo '$model' ;;
+        *'$of_case_a'*) : >\$here/first; until [ -e \$here/second ]; do sleep 0.02; done; sleep 0.2; echo sat; echo '$model' ;;
         *) until [ -e \$here/first ]; do sleep 0.02; done; : >\$here/second; echo unsat ;;
         esac"
     rm "$scratch/busy/lock-order.case"
@@ -327,7 +361,7 @@ parallel_jobs() {
 # A line is there before the end, and stays where the command is interrupted; what was kept stays too, and is resumed.
 as_known() {
     fake z3 "text=\$(cat); echo \$\$ >>\${0%/*}/../dying
-        case \$text in *'18 constraints'*) echo sat; echo '$model' ;; *) exec sleep 600 ;; esac"
+        case \$text in *'$of_case_a'*) echo sat; echo '$model' ;; *) exec sleep 600 ;; esac"
     : >"$scratch/dying"
     run timeout -s INT 4 "$menduvo" solve "$scratch/busy" --keep "$scratch/partly"
     result 'an interrupt leaves the line that is known' eval '[[ $out = *"busy/case-a.case"*"violated"* ]] && [[ $out != *"2 cases"* ]]'
@@ -431,8 +465,8 @@ resuming() {
     echo >>"$scratch/again/case-a.reply"
     resume
     result 'a reply that has changed' eval '[ "$status" = 3 ] && [[ $out = *"what was filed with this answer has changed"* ]]'
-    # The case is unsat, and whether its assert is reached takes too long.
-    fake z3 'text=$(cat); case $text in *"L1 != 0: assert 0"*) exec sleep 600 ;; *) echo unsat ;; esac'
+    # The case is unsat, and whether its assert is reached takes too long: there the assert's expression is 0.
+    fake z3 'text=$(cat); case $text in *"(ite (= #x0000 #x0000) #x0000 #x0001)"*) exec sleep 600 ;; *) echo unsat ;; esac'
     run "$menduvo" solve "$scratch/between.case" --keep "$scratch/open" --timeout 1.5
     result 'a question is open' eval '[ "$status" = 0 ] && [[ $out = *"not known whether it is reached: z3 gave no answer in time"* ]]'
     run bash -c "'$menduvo' solve '$scratch/between.case' | head -n 1"
@@ -451,7 +485,7 @@ resuming() {
 progress() {
     local long=$scratch/a-folder-with-a-long-name-that-fits-no-terminal
     mkdir "$long" && cp cases/case-a.case cases/interlock.case "$long"
-    fake z3 "sleep 0.1; if grep -q '18 constraints'; then echo sat; echo '$model'; else echo unsat; fi"
+    fake z3 "sleep 0.1; if grep -qF '$of_case_a'; then echo sat; echo '$model'; else echo unsat; fi"
     env PATH="$seen" script -qec "stty cols 40; '$menduvo' solve '$long' --jobs 2 2>&1 >'$scratch/table' | cat" /dev/null >"$scratch/typed" </dev/null
     result 'no progress where standard error is no terminal' test ! -s "$scratch/typed"
     env PATH="$seen" script -qec "stty cols 40; '$menduvo' solve '$long' --jobs 2 >'$scratch/table'" /dev/null >"$scratch/typed" </dev/null
@@ -473,7 +507,7 @@ real_solvers() {
             "$menduvo" replay cases/lost-update.case "$scratch/$solver/lost-update.schedule"
         says "$solver, its own reply is replayed" 1 'violated: record 9' \
             "$menduvo" replay cases/lost-update.case "$scratch/$solver/lost-update.reply"
-        { cat "$scratch/$solver/lost-update.smt2" && echo '(get-model)'; } >"$scratch/model.smt2"
+        { echo '(set-option :produce-models true)' && cat "$scratch/$solver/lost-update.smt2" && echo '(get-model)'; } >"$scratch/model.smt2"
         "$solver" "$scratch/model.smt2" >"$scratch/whole.model"
         says "$solver, its reply to get-model is replayed" 1 'violated: record 9' \
             "$menduvo" replay cases/lost-update.case "$scratch/whole.model"
@@ -485,10 +519,11 @@ real_solvers() {
     says 'demo with a solver' 0 'z3 looks for itself' "$menduvo" demo
 }
 
-z3=$(type -P z3)
+z3=$(type -P z3) cvc5=$(type -P cvc5)
 says 'the command is built' 0 'menduvo 0.' "$menduvo" --version
 begin_default_timeout
 answers
+given
 models
 vacuous
 by_trying

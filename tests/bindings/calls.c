@@ -1,11 +1,15 @@
 /* Every call of bindings/menduvo.h from C: a case on standard input, an assignment as arguments. Prints the numbers of each answer
- * and what was written; then refusals 10 to 12, with what the slices still hold. */
+ * and what was written; then refusals 1 and 10 to 12, with what the slices still hold. */
 #include "menduvo.h"
 #include <stdio.h>
 #include <stdlib.h>
 
 static void tell(const char *call, MenduvoNumbers n) {
     printf("%s: %u %u %u %u %u\n", call, n.refusal, n.place, n.answer, n.first, n.second);
+}
+
+static void tell_text(const char *call, MenduvoTextNumbers n) {
+    printf("%s: %u %u %lu\n", call, n.refusal, n.place, (unsigned long)n.bytes);
 }
 
 static void tell_slice(const uint16_t *numbers, size_t count) {
@@ -34,12 +38,23 @@ int main(int argc, char **argv) {
     MenduvoNumbers listed = menduvo_listing(bytes, length, text, MENDUVO_MOST_LISTING_BYTES);
     tell("listing", listed);
     fwrite(text, 1, listed.first, stdout);
+    MenduvoTextNumbers measured = menduvo_smt_length(bytes, length);
+    tell_text("smt_length", measured);
+    text[measured.bytes] = 'x';
+    tell_text("smt_text", menduvo_smt_text(bytes, length, text, measured.bytes));
+    fwrite(text, 1, measured.bytes + 1, stdout);
+    printf("\n");
 
     tell("encode, short", menduvo_encode(bytes, length, kept, 2));
     tell("decode, short", menduvo_decode(bytes, length, assignment, count, kept, 2));
     tell("check, one number less", menduvo_check(bytes, length, assignment, count - 1));
     tell("replay, one number less", menduvo_replay(bytes, length, schedule, schedule_length - 1, kept, 2));
     tell("listing, short", menduvo_listing(bytes, length, text, 1));
+    tell_text("smt_text, short", menduvo_smt_text(bytes, length, (uint8_t *)kept, 4));
+    tell_text("smt_text, one byte less", menduvo_smt_text(bytes, length, text, measured.bytes - 1));
+    tell_text("smt_text, one byte more", menduvo_smt_text(bytes, length, text, measured.bytes + 1));
+    tell_text("smt_length, a byte less of the case", menduvo_smt_length(bytes, length - 1));
+    tell_text("smt_text, a byte less of the case", menduvo_smt_text(bytes, length - 1, (uint8_t *)kept, 4));
     tell_slice(kept, 2);
     return 0;
 }

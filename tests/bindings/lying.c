@@ -45,6 +45,25 @@ MenduvoNumbers menduvo_listing(const uint8_t *case_, size_t case_len, uint8_t *t
     return answer(1, 0, lie_is("listing") ? 1 : 0);
 }
 
+/* A text that is longer than its room, or refusals that no text has. */
+static MenduvoTextNumbers text_answer(size_t bytes) {
+    MenduvoTextNumbers numbers = {lie_is("text refused") ? 11 : 0, lie_is("text place") ? 1 : 0, bytes};
+    if (lie_is("text refused, with bytes")) numbers.refusal = 10;
+    if (lie_is("text refused")) numbers.bytes = 0;
+    return numbers;
+}
+
+MenduvoTextNumbers menduvo_smt_length(const uint8_t *case_, size_t case_len) {
+    (void)case_, (void)case_len;
+    return text_answer(7);
+}
+
+MenduvoTextNumbers menduvo_smt_text(const uint8_t *case_, size_t case_len, uint8_t *text, size_t text_len) {
+    (void)case_, (void)case_len;
+    memset(text, lie_is("text bytes") ? 0xff : 'x', text_len);
+    return text_answer(lie_is("text longer") ? text_len + 1 : text_len);
+}
+
 MenduvoNumbers menduvo_replay(const uint8_t *case_, size_t case_len, const uint16_t *schedule, size_t schedule_len,
                               uint16_t *items, size_t items_len) {
     (void)case_, (void)case_len, (void)schedule, (void)schedule_len, (void)items_len;

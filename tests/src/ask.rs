@@ -1,7 +1,7 @@
 //! Asking the library under test, with slices of the right size, and with
 //! marked slices that show what was touched.
 
-use crate::calls::{Calls, Checked, Decoded, Encoded, Listed, Refusal, Replayed, Verdict};
+use crate::calls::{Calls, Checked, Decoded, Encoded, Listed, Refusal, Replayed, Spelled, Verdict};
 use crate::draft::Draft;
 use crate::report::{Outcome, Tally};
 use crate::table::{MOST_LISTING_BYTES, MOST_NUMBERS};
@@ -54,12 +54,13 @@ pub fn listing(calls: &dyn Calls, case: &[u8]) -> Result<String, String> {
 }
 
 /// Demands that the listing of a case is one refusal, that each of the other
-/// five calls meets it, and that none of these touches what it was lent.
+/// seven calls meets it, and that none of these touches what it was lent.
 pub fn refused_by_all(calls: &dyn Calls, case: &[u8], refusal: Refusal, tally: &mut Tally) -> Outcome {
     let about = || format!("case {case:?}");
     tally.same(calls.accept(case), Verdict::from(refusal), about)?;
     let line = format!("{} {}\n", refusal.number, refusal.place);
     tally.same(listing(calls, case)?, line, about)?;
+    tally.same(calls.smt_length(case), Spelled::from(refusal), about)?;
     for room in [0, MOST_NUMBERS] {
         let (mut table, mut schedule, mut items) = (marks(room), marks(room), marks(room));
         tally.same(calls.encode(case, &mut table), Encoded::from(refusal), about)?;
@@ -71,6 +72,9 @@ pub fn refused_by_all(calls: &dyn Calls, case: &[u8], refusal: Refusal, tally: &
         for slice in [table, schedule, items] {
             tally.holds(slice == marks(room), || format!("{}: a slice was touched", about()))?;
         }
+        let mut text = byte_marks(room);
+        tally.same(calls.smt_text(case, &mut text), Spelled::from(refusal), about)?;
+        tally.holds(text == byte_marks(room), || format!("{}: the text was touched", about()))?;
     }
     Ok(())
 }

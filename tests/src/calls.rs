@@ -1,4 +1,4 @@
-//! The six calls of the library and their replies.
+//! The eight calls of the library and their replies.
 //!
 //! Both the second implementation and the proved library stand behind the
 //! trait `Calls`, so that each test can be run on either of them.
@@ -70,6 +70,18 @@ pub enum Listed {
     },
 }
 
+#[derive(Clone, Copy, Debug, PartialEq, Eq)]
+pub enum Spelled {
+    /// How many bytes the text of the constraints has.
+    Text {
+        bytes: usize,
+    },
+    Refused {
+        number: u16,
+        place: u16,
+    },
+}
+
 pub trait Calls {
     fn accept(&self, case: &[u8]) -> Verdict;
     fn encode(&self, case: &[u8], table: &mut [u16]) -> Encoded;
@@ -77,6 +89,8 @@ pub trait Calls {
     fn decode(&self, case: &[u8], assignment: &[u16], schedule: &mut [u16]) -> Decoded;
     fn replay(&self, case: &[u8], schedule: &[u16], items: &mut [u16]) -> Replayed;
     fn listing(&self, case: &[u8], text: &mut [u8]) -> Listed;
+    fn smt_length(&self, case: &[u8]) -> Spelled;
+    fn smt_text(&self, case: &[u8], text: &mut [u8]) -> Spelled;
 }
 
 /// Every reply can be made from a refusal.
@@ -90,7 +104,7 @@ macro_rules! replies_that_can_refuse {
     )* };
 }
 
-replies_that_can_refuse!(Verdict, Encoded, Checked, Decoded, Replayed, Listed);
+replies_that_can_refuse!(Verdict, Encoded, Checked, Decoded, Replayed, Listed, Spelled);
 
 impl Verdict {
     pub fn refusal(self) -> Option<Refusal> {

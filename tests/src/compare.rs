@@ -100,17 +100,22 @@ pub fn lengths(calls: &dyn Calls, count: u64, tally: &mut Tally) -> Outcome {
 
 /// Runs the rounds, each with a random generator and a case of its own, and
 /// names the seed if one fails.
-fn rounds(base: u64, count: u64, mut round: impl FnMut(&mut Random, &Draft) -> Outcome) -> Outcome {
+fn rounds(base: u64, count: u64, round: impl FnMut(&mut Random, &Draft) -> Outcome) -> Outcome {
+    rounds_of(&SHAPES, base, count, round)
+}
+
+/// The same with other shapes, taken in turn.
+pub fn rounds_of(shapes: &[Shape], base: u64, count: u64, mut round: impl FnMut(&mut Random, &Draft) -> Outcome) -> Outcome {
     for seed in base..base + count {
         let mut random = Random::from_seed(seed);
-        let draft = accepted(&mut random, SHAPES[seed as usize % SHAPES.len()]);
+        let draft = accepted(&mut random, shapes[seed as usize % shapes.len()]);
         round(&mut random, &draft).map_err(|message| format!("seed {seed}: {message}"))?;
     }
     Ok(())
 }
 
 /// An accepted file, two damaged ones, a random one and a scratched one.
-fn files(random: &mut Random, draft: &Draft) -> [Vec<u8>; 5] {
+pub fn files(random: &mut Random, draft: &Draft) -> [Vec<u8>; 5] {
     let number = random.between(1, 9);
     let later = (number < 9).then(|| random.between(number + 1, 9));
     [

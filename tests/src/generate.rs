@@ -75,6 +75,9 @@ pub const BUSY: Shape = Shape {
 /// As busy, with inputs.
 pub const BUSY_WITH_INPUTS: Shape = Shape { inputs: 40, switches: (2, 4), lines: (2, 4), ..BUSY };
 
+/// More inputs than a text has sources, and comparisons of them.
+pub const MANY_INPUTS: Shape = Shape { inputs: 30, globals: (1, 3), mutexes: (0, 2), lines: (3, 12), locals: 3, ..BUSY };
+
 /// Four threads, most of them short.
 pub const FOUR_THREADS: Shape = Shape { threads: (4, 4), switches: (4, 8), lines: (0, 3), ..BUSY };
 

@@ -4,12 +4,13 @@
 //! all that make sense. The last line is `N passed, M failed`.
 //! `-- write-cases FOLDER COUNT` writes random small cases.
 
-#![forbid(unsafe_code)]
+#![deny(unsafe_code)]
 
 mod ask;
 mod calls;
 mod command;
 mod compare;
+mod compare_text;
 mod damage;
 mod damage_source;
 mod demand3;
@@ -23,12 +24,14 @@ mod line;
 mod program;
 #[cfg(feature = "proved")]
 mod proved;
+#[cfg(feature = "proved")]
+mod proved_text;
 mod random;
 mod report;
 mod samples;
+mod script;
 mod search;
 mod second;
-mod smt;
 mod solver;
 mod table;
 mod vary;

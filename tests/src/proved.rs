@@ -1,6 +1,7 @@
 //! The proved library, through its safe wrapper in `bindings/rust`.
 
-use crate::calls::{Calls, Checked, Decoded, Encoded, Listed, Replayed, Verdict};
+use crate::calls::{Calls, Checked, Decoded, Encoded, Listed, Replayed, Spelled, Verdict};
+use crate::proved_text;
 
 pub struct Proved;
 
@@ -48,5 +49,13 @@ impl Calls for Proved {
             menduvo::Listed::Text { bytes } => Listed::Text { bytes },
             menduvo::Listed::Refused { number, place } => Listed::Refused { number, place },
         }
+    }
+
+    fn smt_length(&self, case: &[u8]) -> Spelled {
+        proved_text::smt_length(case)
+    }
+
+    fn smt_text(&self, case: &[u8], text: &mut [u8]) -> Spelled {
+        proved_text::smt_text(case, text)
     }
 }

@@ -85,19 +85,28 @@ pub struct Report {
     group: String,
     passed: u64,
     failed: u64,
+    left_out: u64,
     comparisons: u64,
     started: Instant,
 }
 
 impl Report {
     pub fn new() -> Report {
-        Report { totals: Arc::default(), group: String::new(), passed: 0, failed: 0, comparisons: 0, started: Instant::now() }
+        Report {
+            totals: Arc::default(),
+            group: String::new(),
+            passed: 0,
+            failed: 0,
+            left_out: 0,
+            comparisons: 0,
+            started: Instant::now(),
+        }
     }
 
     pub fn begin_group(&mut self, name: &str) {
         self.totals.lock().expect("no check panics while it counts").group = name.to_string();
         self.group = name.to_string();
-        (self.passed, self.failed, self.comparisons) = (0, 0, 0);
+        (self.passed, self.failed, self.left_out, self.comparisons) = (0, 0, 0, 0);
         self.started = Instant::now();
     }
 
@@ -121,10 +130,20 @@ impl Report {
         }
     }
 
+    /// Tells of a check that cannot be made here, and counts it.
+    pub fn leave_out(&mut self, name: &str, reason: &str) {
+        self.left_out += 1;
+        println!("left out {}: {name}: {reason}", self.group);
+    }
+
     /// One line for the group.
     pub fn end_group(&self) {
+        let left_out = match self.left_out {
+            0 => String::new(),
+            checks => format!(", {checks} left out"),
+        };
         println!(
-            "{:<14} {:>3} passed, {} failed, {} comparisons, {:.1} s",
+            "{:<14} {:>3} passed, {} failed{left_out}, {} comparisons, {:.1} s",
             self.group,
             self.passed,
             self.failed,

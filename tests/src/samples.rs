@@ -76,3 +76,27 @@ pub const GUARDED_COUNTER_VALUE_ROWS: [[u16; 6]; 16] = [
     [5, 12, 0, 0, 0, 0],
     [4, 13, 0, 11, 0, 0],
 ];
+
+/// Four threads of 64 lines, as many switches and items as there can be: six
+/// inputs with the highest record numbers, so that their names are long, and 250
+/// times the same line, guarded.
+pub fn filled_up(line: Line) -> Draft {
+    let inputs = |count: usize| vec![input(0); count];
+    let lines = |count: usize| [inputs(count), vec![line.guarded(1); 64 - count]].concat();
+    let most = Draft::new(4, 15).with_globals(&[0xffff; 8]).with_mutexes(4);
+    let counts = [2, 1, 1, 2].into_iter().enumerate();
+    let draft = counts.fold(most, |draft, (thread, count)| draft.with_thread(thread, &lines(count)));
+    let (mut number, mut last) = (0, 250);
+    let renumber = |line: &Line| {
+        let next = if line.guard == 0 { &mut last } else { &mut number };
+        *next += 1;
+        *next
+    };
+    draft.renumbered(&draft.records.iter().map(renumber).collect::<Vec<u16>>())
+}
+
+/// The largest text that was found: a guarded store of a comparison has the facts
+/// of the comparison, and what it reads where its guard is false.
+pub fn largest() -> Draft {
+    filled_up(store(0, [LESS, 0, 0, 0]))
+}

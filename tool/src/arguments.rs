@@ -25,6 +25,7 @@ pub enum Call {
     Make { source: Source, file: OsString, force: bool },
     Source { case: Source },
     List { cases: Vec<Source>, words: bool, json: bool },
+    Smt { case: Source, file: Option<OsString>, force: bool },
     Show { cases: Vec<Source>, json: bool },
     Check { case: Source, assignment: Source, json: bool },
     Decode { case: Source, assignment: Source },
@@ -126,6 +127,7 @@ fn call(parts: &mut Parts) -> Result<Call, Failure> {
         "make" => Call::Make { source: parts.next("SOURCE")?, file: parts.output("CASE")?, force: parts.has("--force") },
         "source" => Call::Source { case: parts.next("CASE")? },
         "list" => Call::List { cases: parts.cases()?, words: parts.has("--words"), json: parts.has("--json") },
+        "smt" => smt(parts)?,
         "show" => Call::Show { cases: parts.cases()?, json: parts.has("--json") },
         "check" => Call::Check { case: parts.case()?, assignment: parts.next("ASSIGNMENT")?, json: parts.has("--json") },
         "decode" => Call::Decode { case: parts.case()?, assignment: parts.next("ASSIGNMENT")? },
@@ -159,6 +161,15 @@ fn help(parts: &mut Parts) -> Result<Call, Failure> {
             let page = named(&command).ok_or_else(|| parts.usage(&format!("there is no command '{command}'")))?;
             Ok(Call::Help(Some(page)))
         }
+    }
+}
+
+fn smt(parts: &mut Parts) -> Result<Call, Failure> {
+    let (case, file, force) = (parts.case()?, parts.value("-o"), parts.has("--force"));
+    match (&file, force) {
+        (Some(file), _) if file.is_empty() => Err(parts.usage("-o FILE is missing")),
+        (None, true) => Err(parts.usage("--force needs -o")),
+        _ => Ok(Call::Smt { case, file, force }),
     }
 }
 

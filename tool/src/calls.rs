@@ -81,6 +81,17 @@ impl Loaded {
         Ok(Loaded { name, stem, case: Case { names, ..case }, table: Table { rows, variables }, source, alone: None })
     }
 
+    /// The constraints as SMT-LIB text: the one text of the case.
+    pub fn text(&self) -> Result<String, Failure> {
+        let refused =
+            |refusal: Refusal| Failure::Other(format!("{}: the library refused an accepted case: {refusal}", self.name));
+        let mut text = vec![0; menduvo::smt_length(&self.case.bytes).map_err(refused)?];
+        let bytes = menduvo::smt_text(&self.case.bytes, &mut text).map_err(refused)?;
+        text.truncate(bytes);
+        String::from_utf8(text)
+            .map_err(|_| Failure::Other(format!("{}: the library wrote an SMT-LIB text that is no text", self.name)))
+    }
+
     /// Another case in the place of this one, under its name.
     pub fn changed(&self, bytes: Vec<u8>) -> Result<Loaded, Failure> {
         Loaded::named(self.name.clone(), self.stem.clone(), self.draft(bytes))

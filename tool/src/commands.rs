@@ -11,8 +11,8 @@ use crate::run::Run;
 use crate::solve::Asserts;
 use crate::words::{all, numbers_in_lines};
 use crate::{
-    completion, demands, demo, each, file, help, keep, least, make, manual, report, run, said::Said, several, show, step, told,
-    verified,
+    completion, demands, demo, each, file, help, keep, least, make, manual, report, run, said::Said, several, show, smt, step,
+    told, verified,
 };
 use std::ffi::OsStr;
 use std::path::Path;
@@ -27,6 +27,7 @@ pub fn perform(call: Call, output: &mut Output) -> Result<Status, Failure> {
         Call::Make { source, file, force } => make::make(&source, &file, force, output),
         Call::Source { case } => make::source(&case, output),
         Call::List { cases, words, json } => each(&cases, json, output, |case, json| list(case, words, json)),
+        Call::Smt { case, file, force } => smt::smt(&case, file.as_deref(), force, output),
         Call::Show { cases, json } => each(&cases, json, output, show),
         Call::Check { case, assignment, json } => check(&case, &assignment, json).tell(output),
         Call::Decode { case, assignment } => decode(&case, &assignment, output),

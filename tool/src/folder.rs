@@ -59,7 +59,11 @@ impl Folder {
         let manifest = Manifest { made: (*made).clone(), answer, ..Manifest::default() };
         let mut folder = Folder { files: Vec::new(), manifest };
         folder.case(check)?;
-        folder.add(CONSTRAINTS, "the constraints as text for solvers (SMT-LIB 2, logic QF_BV)", solved.text.clone());
+        folder.add(
+            CONSTRAINTS,
+            "the constraints as the proved library writes them for solvers (SMT-LIB 2, QF_BV)",
+            solved.text.clone(),
+        );
         folder.replies(CONSTRAINTS, "reply", &solved.asked);
         folder.run(loaded, &solved.verdict);
         let about = "for each assert, whether a complete legal run within the bound reaches it";

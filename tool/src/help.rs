@@ -80,6 +80,17 @@ pub const PAGES: &[Page] = &[
                is not there; the exit status is then 3 where something failed, else 2.\n",
     },
     Page {
+        name: "smt",
+        usage: "smt CASE [-o FILE]",
+        summary: "print the constraints as text for solvers",
+        options: &[SWITCHES, Choice { name: "-o", value: "FILE", does: "write the text to this file; - is standard output" }, FORCE],
+        more: "SMT-LIB 2, logic QF_BV, as docs/SMT-TEXT.md spells it byte for byte, so that a case has one text. The proved library\n\
+               writes it: an assignment meets the constraints exactly where it makes every assertion true, and the first that it\n\
+               makes false is the first constraint that it fails. 'solve' sends just this text, and 'file' files it.\n\
+               It asks for no model: add (get-value (v0 v1 ..)) after it, or let the solver print one (z3 -model).\n\
+               Exit status 2 where the case is refused; nothing is printed or written then.\n",
+    },
+    Page {
         name: "show",
         usage: "show CASE..",
         summary: "print the threads as readable text",
@@ -187,7 +198,7 @@ pub const PAGES: &[Page] = &[
             },
             JSON,
         ],
-        more: "The constraints go to the solver as SMT-LIB text. Its assignment is checked, decoded and replayed by the\n\
+        more: "The solver gets the text that 'smt' prints. Its assignment is checked, decoded and replayed by the\n\
                proved library; the run is printed as by 'replay'. For each assert it is told whether a complete legal run\n\
                within the bound reaches it with a true guard: of one that is never reached, nothing was checked.\n\
                DIR: every file in it that ends in .source, and each that ends in .case and has no source of the same name.\n\

@@ -71,6 +71,7 @@ mod values;
 mod verified;
 mod verify;
 mod walk;
+mod wishes;
 mod words;
 
 use failure::Failure;

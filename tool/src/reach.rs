@@ -10,7 +10,6 @@ use crate::alone::with_constants;
 use crate::calls::{Ending, Loaded};
 use crate::case::{Case, Kind};
 use crate::failure::Failure;
-use crate::smt;
 use crate::solve::{verdict, Ask, Verdict};
 use crate::solver::Asked;
 use crate::words::{count, enumeration};
@@ -111,7 +110,7 @@ impl Reach {
         let mut open = self.open();
         while !open.is_empty() {
             let changed = loaded.changed(changed(&loaded.case, &open))?;
-            let text = smt::text(&changed);
+            let text = changed.text()?;
             let asked = asking.ask(&text, changed.table.variables);
             let answer = verdict(&changed, &asked);
             self.questions.push(Question { records: open.clone(), text, asked });

@@ -30,22 +30,23 @@ With menduvo, which makes again all that follows from the case and the replies, 
   menduvo verify FOLDER
   menduvo verify FOLDER --solver z3     asks again as well
 Any solver that reads SMT-LIB 2 can be asked about the *.smt2 files; one that printed no model after sat
-was asked once more, with (get-value (v0 v1 ..)) after the text. By hand, run.txt can be followed beside
-show.txt where there is a run.
+was asked once more, with (set-option :produce-models true) before the text and (get-value (v0 v1 ..))
+after it. By hand, run.txt can be followed beside show.txt where there is a run.
 ";
 
 const PROVED: &str = "\
 WHAT WAS PROVED, AND WHAT WAS NOT
 
 Proved by machine, of the library's code and for all cases: that the listing has just the constraints
-below; that they are met exactly where a complete legal run within the bound breaks an assertion; and
-what the checker, decoder and replayer answer. So a violation does not rest on the solver: where there is
-one, the assignment was checked, decoded and replayed. The proofs rest on their definitions, on the prover
-and on the front end of its toolchain.
-Not proved: that constraints.smt2 says what the listing and the case say; the solver's word where it says
-unsat, also where it says that an assert is never reached; the compiler that made the library's machine
-code; the texts and the picture; that the case says what its source, or the controller, does. A run in
-another order of threads, or with more switches, is outside of all this.
+below; that they are met exactly where a complete legal run within the bound breaks an assertion; that
+constraints.smt2 is true of an assignment exactly where it meets them; and what the checker, decoder and
+replayer answer. So a violation does not rest on the solver: where there is one, the assignment was
+checked, decoded and replayed. The proofs rest on their definitions, on the prover and on the front end of
+its toolchain.
+Not proved: the solver's word where it says unsat, also where it says that an assert is never reached; the
+compiler that made the library's machine code; the other texts and the picture; that the case says what its
+source, or the controller, does. A run in another order of threads, or with more switches, is outside of
+all this.
 ";
 
 /// How a source is laid out, where one is filed.

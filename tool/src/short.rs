@@ -8,6 +8,7 @@ use crate::case::Case;
 use crate::json::{list, Json};
 use crate::smt;
 use crate::solve::{verdict, Ask, Found, Verdict};
+use crate::wishes;
 use crate::words::{count, enumeration};
 
 /// The most questions that are asked for a shorter run: a few for switches and blocks, and at most about 20 for an input.
@@ -47,19 +48,21 @@ enum Asked {
 
 struct Search<'a> {
     loaded: &'a Loaded,
+    /// The case's own question.
+    text: &'a str,
     asking: &'a dyn Ask,
     best: Found,
     wishes: Vec<String>,
     questions: usize,
 }
 
-/// The verdict with a short run in the place of the one that was found.
-pub fn shortened(loaded: &Loaded, asking: &dyn Ask, verdict: Verdict) -> Verdict {
+/// The verdict with a short run in the place of the one that was found to the question of this text.
+pub fn shortened(loaded: &Loaded, text: &str, asking: &dyn Ask, verdict: Verdict) -> Verdict {
     let Verdict::Violated(best) = verdict else {
         return verdict;
     };
     let before = length(&loaded.case, &best.schedule);
-    let mut search = Search { loaded, asking, best, wishes: Vec::new(), questions: 0 };
+    let mut search = Search { loaded, text, asking, best, wishes: Vec::new(), questions: 0 };
     let stopped = (0..before.len()).try_for_each(|place| search.make_least(place)).err();
     let Search { best, questions, .. } = search;
     let length = length(&loaded.case, &best.schedule);
@@ -86,9 +89,9 @@ fn least(case: &Case, place: usize) -> u16 {
 /// The wish that a number of a length is at most this.
 fn wish(loaded: &Loaded, place: usize, most: u16) -> String {
     match place {
-        SWITCHES => smt::blocks_up_to(&loaded.case, most),
-        BLOCKS => smt::blocks_with_lines_at_most(&loaded.case, most),
-        input => smt::input_at_most(loaded, loaded.case.inputs()[input - INPUTS], most),
+        SWITCHES => wishes::blocks_up_to(&loaded.case, most),
+        BLOCKS => wishes::blocks_with_lines_at_most(&loaded.case, most),
+        input => wishes::input_at_most(loaded, loaded.case.inputs()[input - INPUTS], most),
     }
 }
 
@@ -123,7 +126,7 @@ impl Search<'_> {
         }
         self.questions += 1;
         let wishes = [self.wishes.as_slice(), &[wish(self.loaded, place, most)]].concat();
-        let asked = self.asking.ask(&smt::text_with(self.loaded, &wishes), self.loaded.table.variables);
+        let asked = self.asking.ask(&smt::with_wishes(self.text, &wishes), self.loaded.table.variables);
         match verdict(self.loaded, &asked) {
             Verdict::Violated(found) => {
                 let (new, old) = (length(&self.loaded.case, &found.schedule), self.length());

@@ -1,5 +1,5 @@
-//! From a case to a run: table, SMT-LIB text, solvers, assignment, and then the library's check, decoding and replay; and which
-//! asserts the answer is about.
+//! From a case to a run: the library's table and SMT-LIB text, solvers, assignment, and then the library's check, decoding and
+//! replay; and which asserts the answer is about.
 
 use crate::calls::{Ending, Loaded};
 use crate::failure::{Failure, Status};
@@ -9,7 +9,6 @@ use crate::numbers::Model;
 use crate::reach::Reach;
 use crate::run::{self, Run};
 use crate::short::{self, Short};
-use crate::smt;
 use crate::solver::{self, Answer, Asked, Solver};
 use crate::words::enumeration;
 use std::thread;
@@ -148,7 +147,7 @@ impl Wanted {
         // These are many questions, whatever the limit of the first.
         let limit = self.settings.limit.unwrap_or(Some(LIMIT_OF_MANY));
         let many = Asking { limit, ..asking.clone() };
-        solve_and(loaded, asking, asking, Some(&|verdict| short::shortened(loaded, &many, verdict)), tell)
+        solve_and(loaded, asking, asking, Some(&|text, verdict| short::shortened(loaded, text, &many, verdict)), tell)
     }
 }
 
@@ -162,23 +161,26 @@ pub fn solve_by(loaded: &Loaded, first: &dyn Ask, others: &dyn Ask, tell: &mut d
     solve_and(loaded, first, others, None, tell)
 }
 
+/// What makes something else of a violation that was found to the question of a text.
+type Making<'a> = &'a dyn Fn(&str, Verdict) -> Verdict;
+
 /// The same, where something else is made of a violation: it is told as it is, and then what was made of it.
 fn solve_and(
     loaded: &Loaded,
     first: &dyn Ask,
     others: &dyn Ask,
-    made: Option<&dyn Fn(Verdict) -> Verdict>,
+    made: Option<Making>,
     tell: &mut dyn FnMut(&Verdict),
 ) -> Result<Solved, Failure> {
     let begin = Instant::now();
-    let text = smt::text(loaded);
+    let text = loaded.text()?;
     let (asked, verdict, reach) = thread::scope(|scope| {
         let aside = scope.spawn(|| Reach::of(loaded, others));
         let asked = first.ask(&text, loaded.table.variables);
         let mut verdict = verdict(loaded, &asked);
         tell(&verdict);
         if let (Some(made), Verdict::Violated(_)) = (made, &verdict) {
-            verdict = made(verdict);
+            verdict = made(&text, verdict);
             tell(&verdict);
         }
         let reach = aside.join().unwrap_or_else(|_| Err(Failure::Other("the search for reached asserts failed".to_string())));

@@ -129,7 +129,7 @@ impl Solver {
         let first = self.asked(text, variables, limit);
         match first.answer {
             Answer::Sat(ref model) if model.values.len() != variables => {
-                self.asked(&format!("{text}{}", smt::get_values(variables)), variables, limit).after_sat(variables)
+                self.asked(&smt::with_model(text, variables), variables, limit).after_sat(variables)
             }
             _ => first,
         }

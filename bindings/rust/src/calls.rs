@@ -1,7 +1,7 @@
-//! The six calls: safe functions on slices.
+//! The eight calls: safe functions on slices.
 
-use crate::library::{self, read, Numbers};
-use crate::{Checked, Decoded, Encoded, Listed, Replayed, Verdict};
+use crate::library::{self, read, read_text, Numbers};
+use crate::{Checked, Decoded, Encoded, Listed, Refusal, Replayed, Verdict};
 
 /// Whether the other calls take this case. Refusals 1 to 9.
 pub fn accept(case: &[u8]) -> Verdict {
@@ -79,4 +79,17 @@ pub fn listing(case: &[u8], text: &mut [u8]) -> Listed {
             _ => None,
         },
     )
+}
+
+/// How many bytes the SMT-LIB text of the case has: the room that [`smt_text`] needs. Refusals 1 to 9.
+pub fn smt_length(case: &[u8]) -> Result<usize, Refusal> {
+    read_text(library::smt_length(case), usize::MAX)
+}
+
+/// Writes the constraints of the case as SMT-LIB 2, logic QF_BV: the one text that `docs/SMT-TEXT.md` spells byte for byte, in
+/// ASCII. The first assertion that an assignment makes false is the first constraint that it fails. The answer is how many bytes
+/// were written. Refusals 1 to 10.
+pub fn smt_text(case: &[u8], text: &mut [u8]) -> Result<usize, Refusal> {
+    let numbers = library::smt_text(case, text);
+    read_text(numbers, text.len())
 }

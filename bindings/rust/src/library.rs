@@ -1,5 +1,8 @@
 //! The C interface of `bindings/menduvo.h`, and all unsafe code of this repository.
 
+use crate::Refusal;
+use std::fmt::Debug;
+
 /// An answer in the document's numbers, as C has it.
 #[repr(C)]
 #[derive(Clone, Copy, Debug)]
@@ -9,6 +12,15 @@ pub struct Numbers {
     pub answer: u16,
     pub first: u16,
     pub second: u16,
+}
+
+/// An answer about the text of a case, as C has it.
+#[repr(C)]
+#[derive(Clone, Copy, Debug)]
+pub struct TextNumbers {
+    pub refusal: u16,
+    pub place: u16,
+    pub bytes: usize,
 }
 
 unsafe extern "C" {
@@ -32,6 +44,8 @@ unsafe extern "C" {
         items_len: usize,
     ) -> Numbers;
     fn menduvo_listing(case: *const u8, case_len: usize, text: *mut u8, text_len: usize) -> Numbers;
+    fn menduvo_smt_length(case: *const u8, case_len: usize) -> TextNumbers;
+    fn menduvo_smt_text(case: *const u8, case_len: usize, text: *mut u8, text_len: usize) -> TextNumbers;
 }
 
 // SAFETY, of every call below: each pointer and its length are those of one slice, which is lent until the call returns and
@@ -64,8 +78,15 @@ pub fn listing(case: &[u8], text: &mut [u8]) -> Numbers {
     unsafe { menduvo_listing(case.as_ptr(), case.len(), text.as_mut_ptr(), text.len()) }
 }
 
-/// The answer that the numbers stand for. Numbers that stand for none cannot come from the proved library: then something else
-/// was linked in its place, and nothing that it says can be used.
+pub fn smt_length(case: &[u8]) -> TextNumbers {
+    unsafe { menduvo_smt_length(case.as_ptr(), case.len()) }
+}
+
+pub fn smt_text(case: &[u8], text: &mut [u8]) -> TextNumbers {
+    unsafe { menduvo_smt_text(case.as_ptr(), case.len(), text.as_mut_ptr(), text.len()) }
+}
+
+/// The answer that the numbers stand for.
 pub fn read<Answer>(
     numbers: Numbers,
     refused: impl FnOnce(u16, u16) -> Answer,
@@ -76,7 +97,20 @@ pub fn read<Answer>(
         Numbers { refusal: 1..=15, answer: 0, first: 0, second: 0, .. } => Some(refused(numbers.refusal, numbers.place)),
         _ => None,
     };
-    answer.unwrap_or_else(|| {
-        panic!("libmenduvo.a gave numbers that stand for no answer, so it is not the proved library: {numbers:?}")
-    })
+    answer.unwrap_or_else(|| stand_for_none(&numbers))
+}
+
+/// How many bytes a text has, at most so many, or why there is none.
+pub fn read_text(numbers: TextNumbers, most: usize) -> Result<usize, Refusal> {
+    match numbers {
+        TextNumbers { refusal: 0, place: 0, bytes } if bytes <= most => Ok(bytes),
+        TextNumbers { refusal: number @ 1..=10, place, bytes: 0 } => Err(Refusal { number, place }),
+        _ => stand_for_none(&numbers),
+    }
+}
+
+/// Numbers that stand for no answer cannot come from the proved library: then something else was linked in its place, and nothing
+/// that it says can be used.
+fn stand_for_none(numbers: &dyn Debug) -> ! {
+    panic!("libmenduvo.a gave numbers that stand for no answer, so it is not the proved library: {numbers:?}")
 }

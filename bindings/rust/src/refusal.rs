@@ -3,8 +3,8 @@
 use std::error::Error;
 use std::fmt::{self, Display, Formatter};
 
-/// Why a call was refused, as the variant `Refused` of every answer has it: the number, 1 to 15, and the place, which is 0 but
-/// for 9 and 14 (a record) and 15 (a constraint), each counted from 1.
+/// Why a call was refused, as the variant `Refused` of an answer has it, or the `Err` of the calls on a case's text: the number, 1
+/// to 15, and the place, which is 0 but for 9 and 14 (a record) and 15 (a constraint), each counted from 1.
 #[derive(Clone, Copy, Debug, PartialEq, Eq)]
 pub struct Refusal {
     pub number: u16,

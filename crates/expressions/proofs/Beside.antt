@@ -45,7 +45,8 @@ nothing-spelt h = left-end (left-start h refl) refl
 
 module _ (op : ℕ) (x y : Term) {p : Bool} (e : p ≡ hasFacts op x y) {d : List ℕ} {at : ℕ} where
   module _ (t : p ≡ true) {a : List ℕ} {r : ℕ} where
-    pub before-some : (sources : List ℕ) → Spelt (factHeads (comparison op) x y sources sources) d at a r → Spelt (factsBefore sources op x y) d at a r
+    pub before-some : (sources : List ℕ) → Spelt (factHeads (comparison op) x y sources sources) d at a r
+        → Spelt (factsBefore sources op x y) d at a r
     unfolding factsBefore
     before-some sources put = rw (sym e ∙ t) put
 
@@ -90,7 +91,8 @@ module _ (v w : Term) {e₀ e₁ e₂ e₃ e₄ e₅ : List ℕ} {start p₁ p�
 
 -- The equations of a case's lines.
 module _ {case : Case} {sources : Sources} (s : HasSources case sources) (v : Term) (op : ℕ) (x y : Term) {d a : List ℕ} {start p : ℕ} where
-  pub first-spelt : op ≡ 0 → Spelt (formulaText (same (sourcesOf case) v x)) d start a p → Spelt (formulaText (isExpression (sourcesOf case) v op x y)) d start a p
+  pub first-spelt : op ≡ 0 → Spelt (formulaText (same (sourcesOf case) v x)) d start a p
+      → Spelt (formulaText (isExpression (sourcesOf case) v op x y)) d start a p
   unfolding isExpression
   first-spelt h put = rw (eq-eqb op 0 h) put
 
@@ -100,12 +102,14 @@ module _ {case : Case} {sources : Sources} (s : HasSources case sources) (v : Te
     beside-spelt base equation behind =
         spelt-as (rw (s .list, sym (s .many)) (sym (with-facts-text (sourcesOf case) op x y base))) (spelt-then (before (s .few)) (spelt-then equation (behind (s .few))))
 
-    pub expression-spelt : (op ≡ 0 → ⊥) → Spelt (formulaText (equal v (expression op x y))) a p b q → (sources .count ≤ 6 → Spelt (factsBehind (sources .count) op x y) b q e r)
+    pub expression-spelt : (op ≡ 0 → ⊥) → Spelt (formulaText (equal v (expression op x y))) a p b q
+        → (sources .count ≤ 6 → Spelt (factsBehind (sources .count) op x y) b q e r)
         → Spelt (formulaText (isExpression (sourcesOf case) v op x y)) d start e r
     unfolding isExpression
     expression-spelt h equation behind = rw (ne-eqb op 0 h) (beside-spelt (equal v (expression op x y)) equation behind)
 
     pub is-truth-spelt : Spelt (formulaText (equal v (choice (isZero (expression op x y)) (constant 0) (constant 1)))) a p b q
-        → (sources .count ≤ 6 → Spelt (factsBehind (sources .count) op x y) b q e r) → Spelt (formulaText (isTruth (sourcesOf case) v op x y)) d start e r
+        → (sources .count ≤ 6 → Spelt (factsBehind (sources .count) op x y) b q e r)
+        → Spelt (formulaText (isTruth (sourcesOf case) v op x y)) d start e r
     unfolding isTruth
     is-truth-spelt equation behind = beside-spelt (equal v (choice (isZero (expression op x y)) (constant 0) (constant 1))) equation behind

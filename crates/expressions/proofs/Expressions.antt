@@ -39,7 +39,8 @@ module _ (op : ℕ) where
     unfolding expression
     expression-first h put = rw (eq-eqb op 0 h) put
 
-    pub expression-bit : {b e : List ℕ} {place r : ℕ} → 5 ≤ op → Spelt (ascii "(ite ") d start a at → Spelt (formulaText (test (comparison op) x y)) a at b place
+    pub expression-bit : {b e : List ℕ} {place r : ℕ} → 5 ≤ op
+        → Spelt (ascii "(ite ") d start a at → Spelt (formulaText (test (comparison op) x y)) a at b place
         → Spelt (ascii " #x0001 #x0000)") b place e r → Spelt (termText (expression op x y)) d start e r
     unfolding expression termText fourHex
     expression-bit h word compared rest = rw (ne-eqb op 0 (λ e. omega (arith, e, h)), le-ltb op 5 h) (spelt-then word (spelt-then compared rest))

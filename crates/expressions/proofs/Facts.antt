@@ -20,7 +20,7 @@ use Rattle.expressions.specs.Facts.{factHead, factHeadsWith, factHeads}
 -- One fact, as it is put: words that stand together are put together.
 words-of-fact : (A B C D : List ℕ)
     → ascii "(and (=> (and " ++ (A ++ (ascii " " ++ (B ++ (ascii ") (not (xor " ++ (C ++ (ascii " " ++ (D ++ ascii "))) ")))))))
-      ≡ ascii "(and " ++ (two (ascii "(=> ") (two (ascii "(and ") A B) (ascii "(not " ++ (two (ascii "(xor ") C D ++ ascii ")")) ++ ascii " ")
+    ≡ ascii "(and " ++ (two (ascii "(=> ") (two (ascii "(and ") A B) (ascii "(not " ++ (two (ascii "(xor ") C D ++ ascii ")")) ++ ascii " ")
 words-of-fact A B C D = simp append-assoc
 
 module _ {e₁ e₂ e₃ e₄ e₅ e₆ e₇ e₈ e₉ e₀ : List ℕ} {start p₁ p₂ p₃ p₄ p₅ p₆ p₇ p₈ r : ℕ} (t : Test) (x y : Term) (s u : ℕ) {v w : ℕ} where
@@ -47,7 +47,8 @@ module _ {heads : List ℕ → List ℕ} {xs : List ℕ} {count : ℕ} {before :
   going-start h = record { same = refl; upto = omega arith; left = λ few. left-start h refl }
 
   module _ {j : ℕ} {out : List ℕ} {at : ℕ} (v : Going heads xs count before start j out at) where
-    pub going-more : (head : ℕ → List ℕ) → ((s : ℕ) (ss : List ℕ) → heads (s ∷ ss) ≡ head s ++ heads ss) → (j ≡ count → ⊥) → j < length xs → {a : List ℕ} {place : ℕ}
+    pub going-more : (head : ℕ → List ℕ) → ((s : ℕ) (ss : List ℕ) → heads (s ∷ ss) ≡ head s ++ heads ss) → (j ≡ count → ⊥) → j < length xs
+        → {a : List ℕ} {place : ℕ}
         → length a ≡ length out → (count ≤ 6 → Spelt (head (getD xs j 0)) out at a place) → Going heads xs count before start (j + 1) a place
     going-more head e n h l put = record {
       same = l ∙ v .same;
@@ -67,13 +68,15 @@ module _ {heads : List ℕ → List ℕ} {xs : List ℕ} {count : ℕ} {before :
 
 -- The two loops: over the second sources, and over the first.
 module _ (t : Test) (x y : Term) {xs : List ℕ} {count : ℕ} {before : List ℕ} {start j : ℕ} {out : List ℕ} {at : ℕ} {a : List ℕ} {place : ℕ} where
-  pub seconds-go-on : (s : ℕ) → Going (factHeadsWith t x y s) xs count before start j out at → (j ≡ count → ⊥) → j < length xs → Spelt (factHead t x y s (getD xs j 0)) out at a place
+  pub seconds-go-on : (s : ℕ) → Going (factHeadsWith t x y s) xs count before start j out at → (j ≡ count → ⊥) → j < length xs
+      → Spelt (factHead t x y s (getD xs j 0)) out at a place
       → Going (factHeadsWith t x y s) xs count before start (j + 1) a place
   unfolding factHeadsWith
   seconds-go-on s v n h put = going-more v (factHead t x y s) (λ u others. refl) n h (put .same) (λ few. put)
 
   pub firsts-go-on : (sources : List ℕ) → Going (factHeads t x y sources) xs count before start j out at → (j ≡ count → ⊥) → j < length xs
-      → length a ≡ length out → (count ≤ 6 → Spelt (factHeadsWith t x y (getD xs j 0) sources) out at a place) → Going (factHeads t x y sources) xs count before start (j + 1) a place
+      → length a ≡ length out → (count ≤ 6 → Spelt (factHeadsWith t x y (getD xs j 0) sources) out at a place)
+      → Going (factHeads t x y sources) xs count before start (j + 1) a place
   unfolding factHeads
   firsts-go-on sources v n h l put = going-more v (λ (s : ℕ). factHeadsWith t x y s sources) (λ s firsts. refl) n h l put
 

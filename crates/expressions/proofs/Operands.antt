@@ -29,7 +29,8 @@ operand-local x c p h e = rw (ne-eqb x 16 h) e
 
 -- The guard of a line says that its local is not zero, or that it is.
 module _ (l : Line) (p : ℕ) {guard : ℕ} {x : Term} {d a : List ℕ} {start at : ℕ} (is : x ≡ localWith p) (e : l .guard ≡ guard) where
-  pub guard-not-zero : {b f : List ℕ} {place r : ℕ} → guard < 17 → Spelt (ascii "(not ") d start a at → Spelt (formulaText (isZero x)) a at b place → Spelt (ascii ")") b place f r
+  pub guard-not-zero : {b f : List ℕ} {place r : ℕ} → guard < 17
+      → Spelt (ascii "(not ") d start a at → Spelt (formulaText (isZero x)) a at b place → Spelt (ascii ")") b place f r
       → Spelt (formulaText (guardTrue l p)) d start f r
   unfolding guardTrue formulaText
   guard-not-zero h word inner close = rw (lt-ltb (l .guard) 17 (omega (arith, e, h)), ← is) (spelt-then word (spelt-then inner close))

@@ -4,7 +4,8 @@ ghost use Prim.Native.Nat.{_≤_};
 ghost use Rattle.model.specs.CaseFile.{Line, Case};
 ghost use Rattle.smt.specs.Term.{constant, choice, test};
 ghost use Rattle.smt.specs.Spelling.{operationWord, termText, formulaText};
-ghost use Rattle.script.specs.Assertions.{equal, isZero, localWith, mostSources, sourcesOf, isVariable, guardTrue, operand as operandTerm, comparison, operation, expression, isExpression, isTruth};
+ghost use Rattle.script.specs.Assertions.{equal, isZero, localWith, mostSources, sourcesOf, isVariable, guardTrue, operand as operandTerm};
+ghost use Rattle.script.specs.Assertions.{comparison, operation, expression, isExpression, isTruth};
 ghost use Rattle.spell.specs.Spelt.{Spelt};
 ghost use Rattle.spell.specs.Atoms.{atomTerm};
 ghost use Rattle.linked.specs.Shape.{HasSources};
@@ -98,7 +99,15 @@ pub fn put_expression(text: &mut [u8], start: usize, op: u16, x: Atom, y: Atom) 
 }
 
 // A fact: where x equals one source and y another, x and y compare as the sources do.
-fn put_fact(text: &mut [u8], start: usize, op: u16, x: Atom, y: Atom, first: u16, second: u16) -> usize
+fn put_fact(
+    text: &mut [u8],
+    start: usize,
+    op: u16,
+    x: Atom,
+    y: Atom,
+    first: u16,
+    second: u16,
+) -> usize
     ensures { λ r. ⌜ Spelt (factHead (comparison op) (atomTerm x) (atomTerm y) first second) (now (text .entry)) start (now (text .exit)) r ⌝ }
 {
     let s = Atom::Variable(value_variable(first));
@@ -115,7 +124,15 @@ fn put_fact(text: &mut [u8], start: usize, op: u16, x: Atom, y: Atom, first: u16
 }
 
 // The facts of one first source with each second one.
-fn put_facts_with(text: &mut [u8], start: usize, op: u16, x: Atom, y: Atom, first: u16, sources: Sources) -> usize
+fn put_facts_with(
+    text: &mut [u8],
+    start: usize,
+    op: u16,
+    x: Atom,
+    y: Atom,
+    first: u16,
+    sources: Sources,
+) -> usize
     ensures { λ r. ⌜ (sources .count ≤ mostSources → Spelt (factHeadsWith (comparison op) (atomTerm x) (atomTerm y) first (sourceList sources)) (now (text .entry)) start (now (text .exit)) r) ⌝ }
 {
     let mut at = start;
@@ -169,7 +186,14 @@ fn has_facts(op: u16, x: Atom, y: Atom) -> bool
 }
 
 // What stands before an equation with an expression, and what behind.
-fn put_facts_before(text: &mut [u8], start: usize, op: u16, x: Atom, y: Atom, sources: Sources) -> usize
+fn put_facts_before(
+    text: &mut [u8],
+    start: usize,
+    op: u16,
+    x: Atom,
+    y: Atom,
+    sources: Sources,
+) -> usize
     ensures { λ r. ⌜ (sources .count ≤ mostSources → Spelt (factsBefore (sourceList sources) op (atomTerm x) (atomTerm y)) (now (text .entry)) start (now (text .exit)) r) ⌝ }
 {
     if has_facts(op, x, y) {
@@ -213,7 +237,15 @@ fn put_truth_of(text: &mut [u8], start: usize, v: Atom, op: u16, x: Atom, y: Ato
 }
 
 // v is the expression, with the facts that stand beside it.
-pub fn put_is_expression(text: &mut [u8], start: usize, v: Atom, op: u16, x: Atom, y: Atom, sources: Sources) -> usize
+pub fn put_is_expression(
+    text: &mut [u8],
+    start: usize,
+    v: Atom,
+    op: u16,
+    x: Atom,
+    y: Atom,
+    sources: Sources,
+) -> usize
     ensures { λ r. ⌜ ((case : Case) → HasSources case sources → Spelt (formulaText (isExpression (sourcesOf case) (atomTerm v) op (atomTerm x) (atomTerm y))) (now (text .entry)) start (now (text .exit)) r) ⌝ }
 {
     if op == 0 {
@@ -225,7 +257,15 @@ pub fn put_is_expression(text: &mut [u8], start: usize, v: Atom, op: u16, x: Ato
 }
 
 // v is 1 if the expression is not zero, else 0, with the facts that stand beside it.
-pub fn put_is_truth(text: &mut [u8], start: usize, v: Atom, op: u16, x: Atom, y: Atom, sources: Sources) -> usize
+pub fn put_is_truth(
+    text: &mut [u8],
+    start: usize,
+    v: Atom,
+    op: u16,
+    x: Atom,
+    y: Atom,
+    sources: Sources,
+) -> usize
     ensures { λ r. ⌜ ((case : Case) → HasSources case sources → Spelt (formulaText (isTruth (sourcesOf case) (atomTerm v) op (atomTerm x) (atomTerm y))) (now (text .entry)) start (now (text .exit)) r) ⌝ }
 {
     let mut at = put_facts_before(text, start, op, x, y, sources);

@@ -50,6 +50,20 @@ module _ (case : Case) (sources : List ℕ) (l : Line) (a b : ℕ) {kind : Kind}
   in-unlock i put = spelt-as (rw (i, z)) put
 
 -- A guard that is false.
+old : (case : Case) (sources : List ℕ) (l : Line) (target n : ℕ) → Not2 n 5 6 → oldTarget case sources l target ≡ guardedOut (kindOf n) case sources l target
+unfolding guardedOut
+old case sources l target n other = go (kindOf n) (kind-view n)
+  where
+    go : (κ : Kind) → KindView n κ → oldTarget case sources l target ≡ guardedOut κ case sources l target
+    go compute w = refl
+    go store w = refl
+    go load w = refl
+    go input w = refl
+    go assert (is5 e) = absurd (other .0 .1 e)
+    go assume (is6 e) = absurd (other .1 e)
+    go lock w = refl
+    go unlock w = refl
+
 module _ (case : Case) (sources : List ℕ) (l : Line) (target : ℕ) {v : ℕ} (z : v ≡ 2 * (l .number - 1) + 1) {d e : List ℕ} {start r : ℕ} where
   pub out-assert : {kind : Kind} → kind ≡ assert → Spelt (formulaText (equal (variable v) (constant 1))) d start e r → Spelt (formulaText (guardedOut kind case sources l target)) d start e r
   unfolding guardedOut
@@ -59,23 +73,9 @@ module _ (case : Case) (sources : List ℕ) (l : Line) (target : ℕ) {v : ℕ} 
   unfolding guardedOut
   out-assume i put = spelt-as (rw (i, z)) put
 
-  old : (n : ℕ) → Not2 n 5 6 → oldTarget case sources l target ≡ guardedOut (kindOf n) case sources l target
-  unfolding guardedOut
-  old n other = go (kindOf n) (kind-view n)
-    where
-      go : (κ : Kind) → KindView n κ → oldTarget case sources l target ≡ guardedOut κ case sources l target
-      go compute w = refl
-      go store w = refl
-      go load w = refl
-      go input w = refl
-      go assert (is5 e) = absurd (other .0 .1 e)
-      go assume (is6 e) = absurd (other .1 e)
-      go lock w = refl
-      go unlock w = refl
-
   pub out-other : (n : ℕ) → Not2 n 5 6 → {G name : ℕ} → G ≡ case .G → name ≡ targetName G l → Spelt (formulaText (readName case sources (variable v) l name target)) d start e r
       → Spelt (formulaText (guardedOut (kindOf n) case sources l target)) d start e r
-  out-other n other g i put = spelt-as (rw (i, g, z) (ap formulaText (old n other))) put
+  out-other n other g i put = spelt-as (rw (i, g, z) (ap formulaText (old case sources l target n other))) put
 
 -- The whole line.
 module _ (case : Case) (sources : List ℕ) (l : Line) (guard a b target : ℕ) where

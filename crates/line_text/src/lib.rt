@@ -115,11 +115,11 @@ fn put_free(
     sources: Sources,
     l: Record,
     k: u16,
-    guard_copy: u16,
+    asked: u16,
     target: u16,
 ) -> usize
     requires { ⌜ shape .globals ≤ mostGlobals ⌝ }
-    ensures { λ r. ⌜ ((case : Case) → HasShape case shape → HasSources case sources → Spelt (formulaText (mutexFree case (sourcesOf case) (asLine l k) guard_copy target)) (now (text .entry)) start (now (text .exit)) r) ⌝ }
+    ensures { λ r. ⌜ ((case : Case) → HasShape case shape → HasSources case sources → Spelt (formulaText (mutexFree case (sourcesOf case) (asLine l k) asked target)) (now (text .entry)) start (now (text .exit)) r) ⌝ }
 {
     let name = target_name(shape.globals as usize, l);
     let zero = Atom::Constant(0);
@@ -128,7 +128,7 @@ fn put_free(
         return put_name(text, start, shape, sources, zero, l, k, name, target);
     }
     let mut at = put(text, start, b"(=> ");
-    at = put_guard(text, at, guard, guard_copy);
+    at = put_guard(text, at, guard, asked);
     at = put(text, at, b" ");
     at = put_name(text, at, shape, sources, zero, l, k, name, target);
     put(text, at, b")")

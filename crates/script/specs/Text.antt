@@ -17,6 +17,10 @@ use Rattle.script.specs.declared.TextNumbers.{TextNumbers}
 unfoldable pub smtText : List ℕ → List ℕ
 smtText bytes = scriptText (scriptOf (caseOf bytes))
 
+-- No text of an accepted case is longer than this: docs/SMT-TEXT.md.
+abbrev pub mostTextBytes : ℕ
+mostTextBytes = 2000000
+
 -- The call that says how long the text is, and the call that writes it.
 unfoldable pub measured : List ℕ → Spelled
 measured bytes = onCase (verdict bytes) Refused (Text (length (smtText bytes)))

@@ -1,5 +1,6 @@
 pub mod WalkBack
 pub mod Sixes
+pub mod NotedRows
 pub mod Previous
 pub mod Noting
 pub mod CopyHeads

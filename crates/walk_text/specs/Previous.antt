@@ -1,4 +1,4 @@
--- The copies before each line, noted from the numbers of a table.
+-- What is noted for each line, by record number, from the numbers of a table.
 -- Assumes nothing.
 use mathlib.Core.Path.{_≡_}
 use Prim.Native.Nat.{ℕ, zero, suc, _+_, _*_}
@@ -15,14 +15,14 @@ pub record HasTable (case : Case) (xs : List ℕ) (count : ℕ) : Type 0 where
   pub rest : List ℕ
   pub numbers : xs ≡ numbersOf (table case) ++ rest
 
--- "4, line, guard copy, a copy, b copy, target copy": a 4 has its line's copy, other rows have none.
-unfoldable pub noted : ℕ → ℕ → ℕ → List ℕ → List ℕ
-noted kind line copy previous = cond (eqb kind 4) (set previous line copy) previous
+-- A row of the kind in question has something to note for its line; other rows have nothing.
+unfoldable pub noted : ℕ → ℕ → ℕ → ℕ → List ℕ → List ℕ
+noted which kind line number notes = cond (eqb kind which) (set notes line number) notes
 
--- Row j of these numbers is noted, and so many rows from row j on.
-unfoldable pub notedRow : List ℕ → ℕ → List ℕ → List ℕ
-notedRow xs j previous = noted (getD xs (6 * j) 0) (getD xs (6 * j + 1) 0) (getD xs (6 * j + 5) 0) previous
+-- Row j of these numbers is noted, with the number at this place of the row, and so many rows from row j on.
+unfoldable pub notedRow : ℕ → ℕ → List ℕ → ℕ → List ℕ → List ℕ
+notedRow which place xs j notes = noted which (getD xs (6 * j) 0) (getD xs (6 * j + 1) 0) (getD xs (6 * j + place) 0) notes
 
-unfoldable pub notedFrom : List ℕ → ℕ → ℕ → List ℕ → List ℕ
-notedFrom xs j zero previous = previous
-notedFrom xs j (suc many) previous = notedFrom xs (suc j) many (notedRow xs j previous)
+unfoldable pub notedFrom : ℕ → ℕ → List ℕ → ℕ → ℕ → List ℕ → List ℕ
+notedFrom which place xs j zero notes = notes
+notedFrom which place xs j (suc many) notes = notedFrom which place xs (suc j) many (notedRow which place xs j notes)

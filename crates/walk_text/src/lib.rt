@@ -2,7 +2,8 @@
 ghost use mathlib.Core.Path.{_≡_};
 ghost use Prim.Native.Nat.{ℕ};
 ghost use mathlib.Core.List.{List};
-ghost use Rattle.model.specs.Limits.{mostLines};
+ghost use lib.ListN.{replicate};
+ghost use Rattle.model.specs.Limits.{mostLines, recordPlaces};
 ghost use Rattle.model.specs.CaseFile.{Case, caseOf};
 ghost use Rattle.smt.specs.Spelling.{formulaText};
 ghost use Rattle.script.specs.Assertions.{sourcesOf};
@@ -10,7 +11,7 @@ ghost use Rattle.laws.specs.Accepted.{Accepted};
 ghost use Rattle.spell.specs.Spelt.{Spelt};
 ghost use Rattle.linked.specs.Shape.{HasShape, HasSources};
 ghost use Rattle.walk_text.specs.Walk.{PreviousCopies, walkCopies, copyHead, HeadsPut};
-ghost use Rattle.walk_text.specs.Previous.{HasTable, notedRow};
+ghost use Rattle.walk_text.specs.Previous.{HasTable, notedRow, notedFrom};
 use linked::Shape;
 use linked::Sources;
 use linked::block_value;
@@ -26,23 +27,38 @@ use spell::put;
 use spell::put_closing;
 use spell::put_equal;
 
-// The kind of the rows that have a line's copies, and how many numbers a row has.
-const VALUE_ROW: u16 = 4;
-
+// How many numbers a row has; the kind of the rows that have a line's copies, and the place of the target's copy in them.
 const ROW: usize = 6;
 
-// Row j of a table: a 4 has, last of all, the copy of its line's target before the line.
-fn note_row(table: &[u16], j: u16, previous: &mut [u16])
-    ensures { λ r. ⌜ now (previous .exit) ≡ notedRow (now (table .entry)) j (now (previous .entry)) ⌝ }
+const VALUE_ROW: u16 = 4;
+
+const TARGET_COPY: u16 = 5;
+
+// Row j of a table: one of this kind has, at this place, what is noted for its line.
+fn note_row(table: &[u16], j: u16, kind: u16, place: u16, notes: &mut [u16])
+    ensures { λ r. ⌜ now (notes .exit) ≡ notedRow kind place (now (table .entry)) j (now (notes .entry)) ⌝ }
 {
     let from = ROW * j as usize;
-    if at(table, from) != VALUE_ROW {
+    if at(table, from) != kind {
         return;
     }
     let line = at(table, from + 1) as usize;
-    if line < previous.len() {
-        previous[line] = at(table, from + 5);
+    if line < notes.len() {
+        notes[line] = at(table, from + place as usize);
     }
+}
+
+// For each line of a case, by record number, what the rows of this kind have at this place: from a table of so many rows.
+pub fn note_rows(table: &[u16], count: u16, kind: u16, place: u16) -> [u16; RECORD_PLACES]
+    ensures { λ r. ⌜ r ≡ notedFrom kind place (now (table .entry)) 0 count (replicate recordPlaces 0) ⌝ }
+{
+    let mut notes = [0u16; RECORD_PLACES];
+    let mut j: u16 = 0;
+    while j < count {
+        note_row(table, j, kind, place, &mut notes);
+        j += 1;
+    }
+    notes
 }
 
 // For each line of a case, by record number, the copy of its target before it: from the table that the encoder has written, which has
@@ -50,13 +66,7 @@ fn note_row(table: &[u16], j: u16, previous: &mut [u16])
 pub fn previous_copies(table: &[u16], count: u16) -> [u16; RECORD_PLACES]
     ensures { λ r. ⌜ ((bytes : List ℕ) → Accepted bytes → HasTable (caseOf bytes) (now (table .entry)) count → PreviousCopies (caseOf bytes) r) ⌝ }
 {
-    let mut previous = [0u16; RECORD_PLACES];
-    let mut j: u16 = 0;
-    while j < count {
-        note_row(table, j, &mut previous);
-        j += 1;
-    }
-    previous
+    note_rows(table, count, VALUE_ROW, TARGET_COPY)
 }
 
 // The place after the heads of some copies, and how many there are.

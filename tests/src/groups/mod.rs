@@ -25,6 +25,7 @@ mod sources;
 mod sources_by_hand;
 mod step;
 mod tables;
+mod text;
 
 use crate::calls::Calls;
 use crate::command;
@@ -53,8 +54,9 @@ pub fn all() -> Vec<Group> {
         group("calls", "refusals 10 to 15 and their order", refusals_of_calls::run),
         group("generator", "random cases have all there is", generator::run),
         group("slices", "what calls leave in slices", slices::run),
+        group("text", "the constraints as SMT-LIB text", text::run),
         group("demand-3", "demand 3 by trying schedules", demand_3::run),
-        group("solvers", "z3 and cvc5 beside replay", solvers::run),
+        group("solvers", "solvers on the text beside replay", solvers::run),
         group("mutants", "deliberate mistakes are found", mutants::run),
     ];
     // Beside itself the second implementation would always be right.

@@ -3,6 +3,7 @@
 
 use crate::calls::Calls;
 use crate::compare::{checks, decodings, lengths, listings, replays, tables, verdicts, Comparison};
+use crate::compare_text::{texts, truths};
 use crate::demand3::compare;
 use crate::generate::{BUSY, BUSY_WITH_INPUTS, SMALL};
 use crate::report::{outcome_of, Outcome, Report, Tally};
@@ -11,14 +12,14 @@ use crate::second::{Second, Wrong, RIGHT};
 /// Rounds for each comparison: few, since a mistake should be found soon.
 const ROUNDS: u64 = 150;
 
-const MISTAKES: [(Wrong, &[Comparison]); 17] = [
+const MISTAKES: [(Wrong, &[Comparison]); 28] = [
     (Wrong::StrayNextUnseen, &[verdicts]),
     (Wrong::DropsA6, &[tables, demand_3]),
     (Wrong::FivesLast, &[tables]),
     (Wrong::GuardedStoreIsNoCopy, &[tables, demand_3]),
     (Wrong::EmptyThreadPassedOver, &[replays, demand_3_small]),
-    (Wrong::CopyFromEarlierBlock, &[checks, demand_3]),
-    (Wrong::NoWalkBack, &[checks, demand_3]),
+    (Wrong::CopyFromEarlierBlock, &[checks, demand_3, texts]),
+    (Wrong::NoWalkBack, &[checks, demand_3, texts]),
     (Wrong::ValuesBeforeBlocks, &[checks]),
     (Wrong::FalseInputKept, &[decodings, demand_3_with_inputs]),
     (Wrong::GoesOnAfterAssume, &[replays, demand_3]),
@@ -26,13 +27,36 @@ const MISTAKES: [(Wrong, &[Comparison]); 17] = [
     (Wrong::LengthsWrap, &[replays]),
     (Wrong::LengthBeforeRoom, &[decodings, lengths]),
     (Wrong::WritesThoughRefused, &[replays, lengths]),
-    (Wrong::ClearsTheTail, &[tables, decodings, replays, listings, lengths]),
+    (Wrong::ClearsTheTail, &[tables, decodings, replays, listings, lengths, texts]),
     (Wrong::PlaceBeforeNumber, &[listings, lengths]),
-    (Wrong::WritesThoughShort, &[listings, lengths]),
+    (Wrong::WritesThoughShort, &[listings, lengths, texts]),
+    (Wrong::NoLastLineEnd, &[texts, truths]),
+    (Wrong::SeventhSource, &[texts]),
+    (Wrong::SourcesByThread, &[texts]),
+    (Wrong::LinksOfConstants, &[texts]),
+    (Wrong::LastBlockElse, &[texts]),
+    (Wrong::ReaderBeforeCopy, &[texts]),
+    (Wrong::FactsOnce, &[texts]),
+    (Wrong::NoFalseInnermost, &[texts]),
+    (Wrong::LessOrEqual, &[texts, truths]),
+    (Wrong::InitialValueForgotten, &[texts, truths]),
+    (Wrong::OldValueOpen, &[texts, truths]),
 ];
 
-const ALL: [Comparison; 10] =
-    [verdicts, tables, checks, decodings, replays, listings, lengths, demand_3, demand_3_small, demand_3_with_inputs];
+const ALL: [Comparison; 12] = [
+    verdicts,
+    tables,
+    checks,
+    decodings,
+    replays,
+    listings,
+    lengths,
+    texts,
+    truths,
+    demand_3,
+    demand_3_small,
+    demand_3_with_inputs,
+];
 
 pub fn run(_: &dyn Calls, report: &mut Report) {
     report.check("no mistake", |tally| {

@@ -1,20 +1,20 @@
-//! Two solvers on tables turned into SMT-LIB text, beside exhaustive replay.
+//! Solvers on the constraints' text as the library under test writes it, beside
+//! exhaustive replay. Each must read it without a word of complaint.
 
 use std::collections::BTreeSet;
 use std::ops::Range;
 
 use crate::ask::{check, decode, reply};
 use crate::calls::{Calls, Checked, Replayed};
+use crate::compare_text::text_of;
 use crate::demand3::small_case;
 use crate::draft::Draft;
 use crate::enumerate::{block_lengths, schedules, with_each};
 use crate::generate::{Shape, BUSY, BUSY_WITH_INPUTS, FOUR_THREADS, SMALL};
 use crate::random::Random;
 use crate::report::{Outcome, Report, Tally};
-use crate::samples::{case_a, guarded_counter};
-use crate::smt;
-use crate::solver::{Answer, Solver, CVC5, Z3};
-use crate::table::table_of;
+use crate::samples::{case_a, guarded_counter, largest};
+use crate::solver::{other_than, Answer, Solver, ALL};
 
 /// Random cases for each solver: without inputs, and with one input each.
 const CASES: u64 = 130;
@@ -24,29 +24,49 @@ const OF_EACH: u64 = 30;
 /// Cases all of whose models are asked for, one after the other.
 const ALL_MODELS: usize = 12;
 
+type Check = fn(&dyn Calls, Solver, &mut Tally) -> Outcome;
+
+const CHECKS: [(&str, Check); 7] = [
+    ("cases by hand", by_hand),
+    ("random cases", many),
+    ("random cases with an input", with_an_input),
+    ("all models of a case", all_models),
+    ("an assertion that is left out", left_out),
+    ("an assertion that is changed", changed),
+    ("the largest text", largest_text),
+];
+
 pub fn run(calls: &dyn Calls, report: &mut Report) {
-    for solver in [Z3, CVC5] {
-        let mut check = |name: &str, body: fn(&dyn Calls, Solver, &mut Tally) -> Outcome| {
+    for solver in ALL {
+        let is_there = solver.is_there();
+        for (name, body) in CHECKS {
             let name = format!("{}: {name}", solver.name);
-            report.check(&name, |tally| body(calls, solver, tally));
-        };
-        check("cases by hand", by_hand);
-        check("random cases", many);
-        check("random cases with an input", with_an_input);
-        check("all models of a case", all_models);
+            if is_there || solver.is_needed {
+                report.check(&name, |tally| body(calls, solver, tally));
+            } else {
+                report.leave_out(&name, "the solver is not installed");
+            }
+        }
     }
+}
+
+fn text(calls: &dyn Calls, draft: &Draft) -> Result<String, String> {
+    String::from_utf8(text_of(calls, &draft.bytes())?).map_err(|_| format!("no text: {draft}"))
 }
 
 /// Case A, also with one switch less than it needs, a larger case, and one
 /// without any line.
 fn by_hand(calls: &dyn Calls, solver: Solver, tally: &mut Tally) -> Outcome {
-    let mut short = case_a();
-    short.switches = 1;
-    for (draft, sat) in [(case_a(), true), (short, false), (guarded_counter(), true), (Draft::new(2, 0), false)] {
+    for (draft, sat) in [(case_a(), true), (short(), false), (guarded_counter(), true), (Draft::new(2, 0), false)] {
         let is_sat = answers_like_replay(calls, solver, &draft, tally)?;
         tally.same(is_sat, sat, || format!("sat; case {draft}"))?;
     }
     Ok(())
+}
+
+/// Case A with one switch less than it needs.
+fn short() -> Draft {
+    Draft { switches: 1, ..case_a() }
 }
 
 fn case_of(seed: u64, shape: Shape) -> Draft {
@@ -68,8 +88,7 @@ fn many(calls: &dyn Calls, solver: Solver, tally: &mut Tally) -> Outcome {
 /// Without inputs: sat exactly when some schedule violates.
 fn answers_like_replay(calls: &dyn Calls, solver: Solver, draft: &Draft, tally: &mut Tally) -> Result<bool, String> {
     let violating = violating(calls, draft, schedules(draft, &[0]));
-    let table = table_of(calls, &draft.bytes())?;
-    let answer = solver.ask(&smt::text(draft, &table)?, table.variables)?;
+    let answer = solver.ask(&text(calls, draft)?, !violating.is_empty())?;
     let is_sat = matches!(answer, Answer::Sat(_));
     tally.same(is_sat, !violating.is_empty(), || format!("sat; case {draft}"))?;
     if let Answer::Sat(model) = answer {
@@ -110,8 +129,7 @@ fn with_an_input(calls: &dyn Calls, solver: Solver, tally: &mut Tally) -> Outcom
     let fits = |draft: &Draft| draft.inputs().len() == 1 && (1..=6).contains(&block_lengths(draft).len());
     let all_values: Vec<u16> = (0..=u16::MAX).collect();
     for draft in fitting_cases(10_000..20_000, BUSY_WITH_INPUTS, WITH_AN_INPUT, fits)? {
-        let table = table_of(calls, &draft.bytes())?;
-        match solver.ask(&smt::text(&draft, &table)?, table.variables)? {
+        match solver.ask(&text(calls, &draft)?, false)? {
             Answer::Sat(model) => {
                 model_violates(calls, &draft, &model, tally)?;
             }
@@ -133,16 +151,79 @@ fn all_models(calls: &dyn Calls, solver: Solver, tally: &mut Tally) -> Outcome {
     let fits = |draft: &Draft| (2..=6).contains(&violating_of(draft).len());
     for draft in fitting_cases(20_000..30_000, BUSY, ALL_MODELS, fits)? {
         let wanted = violating_of(&draft);
-        let table = table_of(calls, &draft.bytes())?;
-        let mut text = smt::text(&draft, &table)?;
+        let mut text = text(calls, &draft)?;
         let mut found = BTreeSet::new();
-        while let Answer::Sat(model) = solver.ask(&text, table.variables)? {
+        while let Answer::Sat(model) = solver.ask(&text, found.len() < wanted.len())? {
             let schedule = model_violates(calls, &draft, &model, tally)?;
             tally.holds(found.insert(schedule), || format!("two models for {draft}"))?;
             tally.holds(found.len() <= wanted.len(), || format!("too many models of {draft}"))?;
-            text.push_str(&smt::other_than(&model));
+            text = other_than(&text, &model)?;
         }
         tally.same(&found, &wanted, || format!("all models of {draft}"))?;
     }
     Ok(())
+}
+
+/// What is left of a text without the assertion of this number, from 1; or with
+/// another formula in it.
+fn with_assertion(text: &str, number: usize, formula: Option<&str>) -> String {
+    let mut assertion = 0;
+    let mut lines = String::new();
+    for line in text.lines() {
+        assertion += usize::from(line.starts_with("(assert"));
+        match formula {
+            _ if assertion != number || !line.starts_with("(assert") => lines += &format!("{line}\n"),
+            Some(formula) => lines += &format!("(assert {formula})\n"),
+            None => {}
+        }
+    }
+    lines
+}
+
+/// Case A with one switch is unsat, since thread 0 has block 0 alone. Without
+/// one assertion it is sat where the assert's value depends on that: a line of
+/// thread 0 may then stand in block 2, where nothing says what is read, or the
+/// assert's value or one that it comes from is open, or no assert is asked for.
+/// A 3 does not matter, as the 1s and the 2 leave block 1 at most, and that to
+/// line 4; nor do line 5 and the block value, which nobody reads.
+fn left_out(calls: &dyn Calls, solver: Solver, tally: &mut Tally) -> Outcome {
+    let whole = text(calls, &short())?;
+    let last = short().constraints();
+    for number in 1..=last {
+        let text = with_assertion(&whole, number, None);
+        tally.same(text.lines().count() + 1, whole.lines().count(), || format!("lines without {number}"))?;
+        let wanted = [2, 4, 6, 8, 11, 12, 13, 14, last].contains(&number);
+        let is_sat = matches!(solver.ask(&text, wanted)?, Answer::Sat(_));
+        tally.same(is_sat, wanted, || format!("sat without assertion {number}"))?;
+    }
+    Ok(())
+}
+
+/// Assertions of case A, each with a formula that makes the text unsat: blocks
+/// below 2 alone, thread 1 in a block of thread 0, a load of 1, a block value
+/// that is not what thread 1 stored, and no assert in the 7.
+const CHANGES: [(usize, &str); 5] = [
+    (8, "(bvult v6 #x0002)"),
+    (9, "(= (bvurem v8 #x0002) #x0000)"),
+    (13, "(= v5 #x0001)"),
+    (17, "(= v11 v10)"),
+    (18, "(or false false)"),
+];
+
+/// Case A is sat, and is not with one formula changed.
+fn changed(calls: &dyn Calls, solver: Solver, tally: &mut Tally) -> Outcome {
+    let whole = text(calls, &case_a())?;
+    for (number, formula) in CHANGES {
+        let text = with_assertion(&whole, number, Some(formula));
+        tally.holds(text != whole, || format!("assertion {number} is as before"))?;
+        let is_sat = matches!(solver.ask(&text, false)?, Answer::Sat(_));
+        tally.same(is_sat, false, || format!("sat with {formula} as assertion {number}"))?;
+    }
+    Ok(())
+}
+
+/// It has no assert, and so no model.
+fn largest_text(calls: &dyn Calls, solver: Solver, tally: &mut Tally) -> Outcome {
+    let answer = solver.ask(&text(calls, &largest())?, false)?;
+    tally.holds(matches!(answer, Answer::Unsat), || format!("{answer:?}"))
 }

@@ -1,5 +1,6 @@
 //! The second implementation: accept, encode, check, decode, replay and
-//! listing, written from document 01 alone and kept as plain as can be.
+//! listing, written from document 01 alone and kept as plain as can be; and the
+//! constraints as text, written from `docs/SMT-TEXT.md` as well.
 
 mod case;
 mod check;
@@ -8,12 +9,13 @@ mod encode;
 mod listing;
 mod read;
 mod replay;
+mod smt;
 pub mod source;
 mod wrong;
 
 pub use wrong::Wrong;
 
-use crate::calls::{Calls, Checked, Decoded, Encoded, Listed, Refusal, Replayed, Verdict};
+use crate::calls::{Calls, Checked, Decoded, Encoded, Listed, Refusal, Replayed, Spelled, Verdict};
 use case::Case;
 use check::Assigned;
 use read::{read, refusal};
@@ -51,6 +53,14 @@ pub fn listing(case: &[u8], text: &mut [u8]) -> Listed {
     RIGHT.listing(case, text)
 }
 
+pub fn smt_length(case: &[u8]) -> Spelled {
+    RIGHT.smt_length(case)
+}
+
+pub fn smt_text(case: &[u8], text: &mut [u8]) -> Spelled {
+    RIGHT.smt_text(case, text)
+}
+
 impl Calls for Second {
     fn accept(&self, case: &[u8]) -> Verdict {
         read(case, self.wrong).map_or_else(Verdict::from, |_| Verdict::Accepted)
@@ -74,6 +84,14 @@ impl Calls for Second {
 
     fn listing(&self, case: &[u8], text: &mut [u8]) -> Listed {
         self.try_listing(case, text).unwrap_or_else(Listed::from)
+    }
+
+    fn smt_length(&self, case: &[u8]) -> Spelled {
+        self.spelled(case).map_or_else(Spelled::from, |text| Spelled::Text { bytes: text.len() })
+    }
+
+    fn smt_text(&self, case: &[u8], text: &mut [u8]) -> Spelled {
+        self.try_smt_text(case, text).unwrap_or_else(Spelled::from)
     }
 }
 
@@ -152,6 +170,23 @@ impl Second {
         room_for(text.len(), output)?;
         self.write(text, output);
         Ok(Listed::Text { bytes: text.len() as u16 })
+    }
+
+    /// The text of a case, as `docs/SMT-TEXT.md` has it.
+    fn spelled(&self, bytes: &[u8]) -> Result<String, Refusal> {
+        let case = read(bytes, self.wrong)?;
+        Ok(smt::text(&case, &encode::rows(&case)))
+    }
+
+    fn try_smt_text(&self, bytes: &[u8], output: &mut [u8]) -> Result<Spelled, Refusal> {
+        let text = self.spelled(bytes)?;
+        let text = text.as_bytes();
+        if self.wrong == Wrong::WritesThoughShort && output.len() + 1 == text.len() {
+            self.write(&text[..output.len()], output);
+        }
+        room_for(text.len(), output)?;
+        self.write(text, output);
+        Ok(Spelled::Text { bytes: text.len() })
     }
 
     /// "An output slice is written from its start; numbers beyond the result

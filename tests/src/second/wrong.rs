@@ -54,4 +54,26 @@ pub enum Wrong {
     RecordAfterLargest,
     /// The printed source counts a thread's records from 1.
     RecordAtThread,
+    /// The text of the constraints does not end with a line's end.
+    NoLastLineEnd,
+    /// A seventh source is taken.
+    SeventhSource,
+    /// Sources stand by thread and chain, and not by record.
+    SourcesByThread,
+    /// A term is linked to a constant, too.
+    LinksOfConstants,
+    /// The last own block of a reading line is not asked for.
+    LastBlockElse,
+    /// The block of the reading line stands before the copy's.
+    ReaderBeforeCopy,
+    /// The facts of a comparison take two sources in one order alone.
+    FactsOnce,
+    /// The last assert of a 7 stands without a `false`.
+    NoFalseInnermost,
+    /// Op 6 is spelled as less or equal.
+    LessOrEqual,
+    /// The text has 0 for every item before block 0.
+    InitialValueForgotten,
+    /// The text leaves the value of a line open where its guard is false.
+    OldValueOpen,
 }

@@ -1,47 +1,14 @@
--- `previous_copies` notes each row of the table. Assumes nothing.
+-- `previous_copies` notes the 4s of the table. Assumes nothing.
 use borrow.Author.Needs.{needs}
-use Prim.Native.Nat.{_-_}
-use Rattle.walk_text.proofs.Noting.{Noting, noting-start, noting-more, noting-end}
+use Rattle.walk_text.proofs.Previous.{copies-noted}
 use Rattle.walk_text.proofs.previous_copies.Statement.{statement}
 use Rattle.walk_text.proofs.previous_copies.Tie as tie
 
-abbrev Inv-loop : tie.InvT-loop
-Inv-loop table count previous₀ j₀ previous j = Noting table count j previous
+note-rows-requires : tie.Need-note-rows-requires
+note-rows-requires c κs = search needs
 
-abbrev μ-loop : tie.MeasureT-loop
-μ-loop table count previous₀ j₀ previous j = count - j
-
-loop-holds : tie.Need-loop-holds Inv-loop μ-loop
-loop-holds c = noting-start
-
-slice-aggregate-note-row : tie.Need-slice-aggregate-note-row Inv-loop μ-loop
-slice-aggregate-note-row c = search needs
-
-note-row-requires : tie.Need-note-row-requires Inv-loop μ-loop
-note-row-requires c κs = search needs
-
-add-j : tie.Need-add-j Inv-loop μ-loop
-add-j c = search needs
-
-loop-less : tie.Need-loop-less Inv-loop μ-loop
-loop-less c = search needs
-
-loop-again : tie.Need-loop-again Inv-loop μ-loop
-loop-again c = noting-more (c .before .before .before .before .loop .inv) (c .before .before .before .loop-test .taken) (c .before .note-row .ensures)
-
-returns : tie.Need-returns Inv-loop μ-loop
-returns c = noting-end (c .before .loop .inv) (c .loop-test .left)
+returns : tie.Need-returns
+returns c = copies-noted (c .note-rows .ensures)
 
 pub previous-copies-spec : {M : Type 1} → statement M
-previous-copies-spec =
-    tie.close
-    (tie.spec
-    Inv-loop
-    μ-loop
-    loop-holds
-    slice-aggregate-note-row
-    note-row-requires
-    add-j
-    loop-less
-    loop-again
-    returns)
+previous-copies-spec = tie.close (tie.spec note-rows-requires returns)

@@ -1,0 +1,3 @@
+pub mod RecordLines
+pub mod Noted
+pub mod RowLines

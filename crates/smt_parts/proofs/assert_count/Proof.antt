@@ -1,0 +1,57 @@
+-- `assert_count` counts the asserts, a record at a time. Assumes nothing.
+use borrow.Author.Needs.{needs}
+use Prim.Native.Nat.{_+_, _-_}
+use native.Mathlib.Omega.{arith}
+use Rattle.model.specs.CaseFile.{records, kindOf}
+use Rattle.smt_parts.proofs.Asserts.{asserts-at-most-one, Numbering, numbering-start, numbering-more, numbering-end}
+use Rattle.smt_parts.proofs.assert_count.Statement.{statement}
+use Rattle.smt_parts.proofs.assert_count.Tie as tie
+
+abbrev Inv-loop : tie.InvT-loop
+Inv-loop case last n₀ k₀ n k = Numbering case k n
+
+abbrev μ-loop : tie.MeasureT-loop
+μ-loop case last n₀ k₀ n k = records case + 1 - k
+
+records-requires : tie.Need-records-requires Inv-loop μ-loop
+records-requires c κs = search needs
+
+loop-holds : tie.Need-loop-holds Inv-loop μ-loop
+loop-holds c = numbering-start _
+
+kind-of-requires : tie.Need-kind-of-requires Inv-loop μ-loop
+kind-of-requires c κs = search needs
+
+is-assert-requires : tie.Need-is-assert-requires Inv-loop μ-loop
+is-assert-requires c κs = search needs
+
+add-n : tie.Need-add-n Inv-loop μ-loop
+add-n c = omega (arith, asserts-at-most-one (kindOf (c .before .kind-of .result)), c .is-assert .ensures)
+
+add-k : tie.Need-add-k Inv-loop μ-loop
+add-k c = search needs
+
+loop-less : tie.Need-loop-less Inv-loop μ-loop
+loop-less c = search needs
+
+loop-again : tie.Need-loop-again Inv-loop μ-loop
+loop-again c = numbering-more (c .before .before .before .loop .inv) (search needs) (c .before .kind-of .ensures) (c .is-assert .ensures)
+
+returns : tie.Need-returns Inv-loop μ-loop
+returns c = numbering-end (c .before .loop .inv) (c .before .before .before .before .pre) (search needs)
+
+pub assert-count-spec : {M : Type 1} → statement M
+assert-count-spec =
+    tie.close
+    (tie.spec
+    Inv-loop
+    μ-loop
+    records-requires
+    loop-holds
+    kind-of-requires
+    is-assert-requires
+    add-n
+    add-k
+    loop-less
+    loop-again
+    returns)

@@ -1,0 +1,229 @@
+// Parts of a case's text: its sources and its shape, the declarations, the assertions of the order rows, and the goal.
+ghost use mathlib.Core.Path.{_≡_};
+ghost use Prim.Native.Nat.{ℕ};
+ghost use mathlib.Core.List.{List};
+ghost use Rattle.model.specs.CaseFile.{caseOf, kindOf};
+ghost use Rattle.laws.specs.Accepted.{Accepted, threadLines};
+ghost use Rattle.smt.specs.Term.{bvurem, bvule, constant, apply, test};
+ghost use Rattle.smt.specs.Spelling.{formulaText, declaration, declarations};
+ghost use Rattle.script.specs.Assertions.{equal, blockOf, someThreadBreaks};
+ghost use Rattle.spell.specs.Spelt.{Spelt};
+ghost use Rattle.linked.specs.Shape.{HasShape, HasSources};
+ghost use Rattle.smt_parts.specs.Sources.{Found, withSource};
+ghost use Rattle.smt_parts.specs.Goal.{HasThread, breakHead, breakHeads, allBreakHeads, asserts, assertsOf};
+use case_file::first_items;
+use case_file::first_of;
+use case_file::globals;
+use case_file::items;
+use case_file::kind_of;
+use case_file::next_of;
+use case_file::records;
+use case_file::switches;
+use case_file::threads;
+use linked::SOURCES;
+use linked::Shape;
+use linked::Sources;
+use linked::block_variable;
+use linked::value_variable;
+use spell::Atom;
+use spell::put;
+use spell::put_closing;
+use spell::put_constant;
+use spell::put_equal;
+use spell::put_two;
+use spell::put_variable;
+
+// Record k of a kind is one more source where it is an input and there is room.
+fn with_source(sources: Sources, kind: u16, k: u16) -> Sources
+    ensures { λ r. ⌜ ((xs : List ℕ) → Found xs sources → Found (withSource xs (kindOf kind) k) r) ⌝ }
+{
+    match kind {
+        4 => one_more(sources, k),
+        _ => sources,
+    }
+}
+
+fn one_more(sources: Sources, k: u16) -> Sources
+    ensures { λ r. ⌜ ((xs : List ℕ) → Found xs sources → Found (withSource xs (kindOf 4) k) r) ⌝ }
+{
+    let count = sources.count;
+    if SOURCES <= count {
+        return sources;
+    }
+    let mut records = sources.records;
+    records[count] = k;
+    Sources {
+        count: count + 1,
+        records,
+    }
+}
+
+// The sources of an accepted case.
+pub fn sources_of(case: &[u8]) -> Sources
+    requires { ⌜ Accepted (now case) ⌝ }
+    ensures { λ r. ⌜ HasSources (caseOf (now (case .entry))) r ⌝ }
+{
+    let last = records(case);
+    let mut sources = Sources {
+        count: 0,
+        records: [0u16; SOURCES],
+    };
+    let mut k = 1;
+    while k <= last {
+        sources = with_source(sources, kind_of(case, k), k as u16);
+        k += 1;
+    }
+    sources
+}
+
+// The shape of an accepted case.
+pub fn shape_of(case: &[u8]) -> Shape
+    requires { ⌜ Accepted (now case) ⌝ }
+    ensures { λ r. ⌜ HasShape (caseOf (now (case .entry))) r ⌝ }
+{
+    Shape {
+        threads: threads(case),
+        switches: switches(case),
+        globals: globals(case),
+        items: items(case) as u16,
+        base: (2 * records(case)) as u16,
+        first: first_items(case),
+    }
+}
+
+// The line that declares variable k.
+fn put_declaration(text: &mut [u8], start: usize, k: u16) -> usize
+    ensures { λ r. ⌜ Spelt (declaration k) (now (text .entry)) start (now (text .exit)) r ⌝ }
+{
+    let mut at = put(text, start, b"(declare-fun ");
+    at = put_variable(text, at, k as u32);
+    put(text, at, b" () (_ BitVec 16))\n")
+}
+
+// The lines that declare so many variables.
+pub fn put_declarations(text: &mut [u8], start: usize, count: u16) -> usize
+    ensures { λ r. ⌜ Spelt (declarations 0 count) (now (text .entry)) start (now (text .exit)) r ⌝ }
+{
+    let mut at = start;
+    let mut k: u16 = 0;
+    while k < count {
+        at = put_declaration(text, at, k);
+        k += 1;
+    }
+    at
+}
+
+// A 3: the block number of record k modulo the number of threads is its thread.
+pub fn put_three(text: &mut [u8], start: usize, k: u16, threads: u16, t: u16) -> usize
+    ensures { λ r. ⌜ Spelt (formulaText (equal (apply bvurem (blockOf k) (constant threads)) (constant t))) (now (text .entry)) start (now (text .exit)) r ⌝ }
+{
+    let block = Atom::Variable(block_variable(k));
+    let mut at = put(text, start, b"(= (bvurem ");
+    at = put_two(text, at, block, Atom::Constant(threads));
+    at = put(text, at, b" ");
+    at = put_constant(text, at, t);
+    put(text, at, b")")
+}
+
+// A 1: the block number of record k is at most that of record l.
+pub fn put_one(text: &mut [u8], start: usize, k: u16, l: u16) -> usize
+    ensures { λ r. ⌜ Spelt (formulaText (test bvule (blockOf k) (blockOf l))) (now (text .entry)) start (now (text .exit)) r ⌝ }
+{
+    let block = Atom::Variable(block_variable(k));
+    let next = Atom::Variable(block_variable(l));
+    let at = put(text, start, b"(bvule ");
+    put_two(text, at, block, next)
+}
+
+// A 2: the block number of record k is at most n.
+pub fn put_last(text: &mut [u8], start: usize, k: u16, n: u16) -> usize
+    ensures { λ r. ⌜ Spelt (formulaText (test bvule (blockOf k) (constant n))) (now (text .entry)) start (now (text .exit)) r ⌝ }
+{
+    let block = Atom::Variable(block_variable(k));
+    let at = put(text, start, b"(bvule ");
+    put_two(text, at, block, Atom::Constant(n))
+}
+
+// That the assert of record k breaks, or ..
+fn put_break(text: &mut [u8], start: usize, k: u16) -> usize
+    ensures { λ r. ⌜ Spelt (breakHead (kindOf 5) k) (now (text .entry)) start (now (text .exit)) r ⌝ }
+{
+    let value = Atom::Variable(value_variable(k));
+    let mut at = put(text, start, b"(or ");
+    at = put_equal(text, at, value, Atom::Constant(0));
+    put(text, at, b" ")
+}
+
+// The same for a record of any kind: only an assert breaks.
+fn put_head(text: &mut [u8], at: usize, kind: u16, k: u16) -> usize
+    ensures { λ r. ⌜ Spelt (breakHead (kindOf kind) k) (now (text .entry)) at (now (text .exit)) r ⌝ }
+{
+    match kind {
+        5 => put_break(text, at, k),
+        _ => at,
+    }
+}
+
+// Those of thread t.
+fn put_heads(text: &mut [u8], start: usize, case: &[u8], t: usize) -> usize
+    requires { ⌜ HasThread (now case) t ⌝ }
+    ensures { λ r. ⌜ Spelt (breakHeads (threadLines (now (case .entry)) t)) (now (text .entry)) start (now (text .exit)) r ⌝ }
+{
+    let mut at = start;
+    let mut k = first_of(case, t);
+    while k != 0 {
+        at = put_head(text, at, kind_of(case, k), k as u16);
+        k = next_of(case, k);
+    }
+    at
+}
+
+// Those of all threads.
+fn put_all_heads(text: &mut [u8], start: usize, case: &[u8]) -> usize
+    requires { ⌜ Accepted (now case) ⌝ }
+    ensures { λ r. ⌜ Spelt (allBreakHeads (caseOf (now (case .entry)) .threads)) (now (text .entry)) start (now (text .exit)) r ⌝ }
+{
+    let threads = threads(case) as usize;
+    let mut at = start;
+    let mut t = 0;
+    while t < threads {
+        at = put_heads(text, at, case, t);
+        t += 1;
+    }
+    at
+}
+
+fn is_assert(kind: u16) -> usize
+    ensures { λ r. ⌜ r ≡ asserts (kindOf kind) ⌝ }
+{
+    match kind {
+        5 => 1,
+        _ => 0,
+    }
+}
+
+// How many asserts an accepted case has.
+fn assert_count(case: &[u8]) -> usize
+    requires { ⌜ Accepted (now case) ⌝ }
+    ensures { λ r. ⌜ r ≡ assertsOf (caseOf (now (case .entry)) .threads) ⌝ }
+{
+    let last = records(case);
+    let mut n = 0;
+    let mut k = 1;
+    while k <= last {
+        n += is_assert(kind_of(case, k));
+        k += 1;
+    }
+    n
+}
+
+// A 7: some assert breaks.
+pub fn put_goal(text: &mut [u8], start: usize, case: &[u8]) -> usize
+    requires { ⌜ Accepted (now case) ⌝ }
+    ensures { λ r. ⌜ Spelt (formulaText (someThreadBreaks (caseOf (now (case .entry)) .threads))) (now (text .entry)) start (now (text .exit)) r ⌝ }
+{
+    let many = assert_count(case);
+    let mut at = put_all_heads(text, start, case);
+    at = put(text, at, b"false");
+    put_closing(text, at, many)
+}

@@ -1,0 +1,207 @@
+-- How long the lines of the assertions are at the most: of the order rows, of the 4s and 5s, of the 6s and of the goal.
+-- Assumes nothing. Met again in Text.
+use mathlib.Core.Path.{_≡_, refl, sym, ap, subst}
+use Prim.Native.Nat.{ℕ, zero, suc, _+_, _*_, _%_, _≤_}
+use mathlib.Core.Bool.{Bool, true, false, cond}
+use mathlib.Core.List.{List, [], _∷_, _++_, reverse}
+use native.Mathlib.Omega.{arith}
+use native.Mathlib.Nat.{mul-zero, mul-suc, mul-add}
+use lib.Dec.{eqb}
+use lib.ListN.{length, length-append, length-reverse}
+use Rattle.model.specs.Limits.{mostLines, mostItems}
+use Rattle.model.specs.CaseFile.{Kind, compute, store, load, input, assert, assume, lock, unlock, Line, Case, linesOf, itemCount, lineAt, sumOfLines}
+use Rattle.model.specs.Line.{itemName, targetName, guardName, operandA, operandB}
+use Rattle.model.specs.Copies.{latest, copyOf}
+use Rattle.model.specs.Holds.{fromRecord}
+use Rattle.model.specs.Table.{Row, row, followRow, lineOrderRows, orderRows, valueRow, demandRows, valueRows, allOrderRows, allValueRows, itemRows, blockRows}
+use Rattle.laws.specs.Order.{AllLines, AllThreads}
+use Rattle.laws.proofs.Counting.{sumFrom}
+use Rattle.smt.specs.Term.{constant, Formula, select}
+use Rattle.smt.specs.Spelling.{ascii, formulaText, assertion, assertionLines}
+use Rattle.script.specs.Assertions.{mostSources, equal, blockOf, valueOf, blockValue, valueBefore, same, ownBlocks, demandAssertion, walkBack, orBreaks, someBreaks, someThreadBreaks, assertionOf, assertionsOf}
+use Rattle.text_size.proofs.Formulas.{size, formula-text}
+use Rattle.text_size.proofs.ReadTexts.{before-atomic, same-size}
+use Rattle.text_size.proofs.Lines.{demandMost, assume-size, lock-size, line-most}
+use Rattle.text_size.proofs.Blocks.{lineCount, lines-counted, hits, hits-from-record, hits-at-most}
+
+module _ (case : Case) (sources : List ℕ) where
+  -- The lines of the assertions of some rows: each has ten bytes besides its formula.
+  unfoldable pub rowsSize : List Row → ℕ
+  rowsSize [] = 0
+  rowsSize (w ∷ ws) = 10 + size (assertionOf case sources w) + rowsSize ws
+
+  pub rows-append : (ws us : List Row) → rowsSize (ws ++ us) ≡ rowsSize ws + rowsSize us
+  unfolding rowsSize
+  rows-append [] us = omega arith
+  rows-append (w ∷ ws) us = omega (arith, rows-append ws us)
+
+  pub lines-text : (ws : List Row) → length (assertionLines (assertionsOf case sources ws)) ≤ rowsSize ws
+  unfolding rowsSize assertionsOf assertionLines assertion
+  lines-text [] = omega arith
+  lines-text (w ∷ ws) =
+      let f = assertionOf case sources w in
+      omega (
+        arith,
+        length-append (ascii "(assert " ++ (formulaText f ++ ascii ")\n")) (assertionLines (assertionsOf case sources ws)),
+        length-append (formulaText f) (ascii ")\n"),
+        formula-text f,
+        lines-text ws,
+      )
+
+  -- ---- The 3s, 1s and 2s.
+  follow-size : (l : Line) (ls : List Line) → size (assertionOf case sources (followRow case l ls)) ≤ 21
+  unfolding followRow assertionOf size
+  follow-size l [] = omega arith
+  follow-size l (next ∷ ls) = omega arith
+
+  thread-size : (t : ℕ) (l : Line) → size (assertionOf case sources (row 3 (l .number) (case .T) t 0 0)) ≤ 33
+  unfolding assertionOf size
+  thread-size t l = omega arith
+
+  line-order-size : (t : ℕ) (earlier : List Line) (l : Line) (ls : List Line) → rowsSize (lineOrderRows case t earlier l ls) ≤ 74
+  unfolding lineOrderRows rowsSize
+  line-order-size t earlier l ls = omega (arith, thread-size t l, follow-size l ls)
+
+  order-size : (t : ℕ) (earlier ls : List Line) → rowsSize (orderRows case t earlier ls) ≤ 74 * length ls
+  unfolding orderRows rowsSize
+  order-size t earlier [] = omega arith
+  order-size t earlier (l ∷ ls) =
+      omega (arith, rows-append (lineOrderRows case t earlier l ls) (orderRows case t (l ∷ earlier) ls), line-order-size t earlier l ls, order-size t (l ∷ earlier) ls)
+
+  pub all-order-size : (t : ℕ) (threads : List (List Line)) → rowsSize (allOrderRows case t threads) ≤ 74 * lineCount threads
+  unfolding allOrderRows rowsSize
+  all-order-size t [] = omega arith
+  all-order-size t (ls ∷ threads) =
+      omega (arith, rows-append (orderRows case t [] ls) (allOrderRows case (suc t) threads), order-size t [] ls, lines-counted ls, all-order-size (suc t) threads)
+
+  -- ---- The goal.
+  or-size : (κ : Kind) (l : Line) (f : Formula) → size (orBreaks κ l f) ≤ 23 + size f
+  unfolding orBreaks size
+  or-size compute l f = omega arith
+  or-size store l f = omega arith
+  or-size load l f = omega arith
+  or-size input l f = omega arith
+  or-size assert l f = omega arith
+  or-size assume l f = omega arith
+  or-size lock l f = omega arith
+  or-size unlock l f = omega arith
+
+  breaks-size : (ls : List Line) (f : Formula) → size (someBreaks ls f) ≤ 23 * length ls + size f
+  unfolding someBreaks
+  breaks-size [] f = omega arith
+  breaks-size (l ∷ ls) f = omega (arith, or-size (l .kind) l (someBreaks ls f), breaks-size ls f)
+
+  pub goal-size : (threads : List (List Line)) → size (someThreadBreaks threads) ≤ 5 + 23 * lineCount threads
+  unfolding someThreadBreaks size
+  goal-size [] = omega arith
+  goal-size (ls ∷ threads) = omega (arith, breaks-size ls (someThreadBreaks threads), lines-counted ls, goal-size threads)
+
+  module _ (few : length sources ≤ mostSources) where
+    -- ---- The 4s and 5s, of lines that their numbers find.
+    module _ (reads : ℕ) (own : (t : ℕ) → 371 + 366 * length (ownBlocks case t) ≤ reads) (small : reads ≤ 3900) where
+      of-kind : (κ : Kind) (l : Line) → l .kind ≡ κ → (guard target : ℕ) {n : ℕ} → size (demandAssertion κ case sources l guard target) ≤ n
+          → size (demandAssertion (l .kind) case sources l guard target) ≤ n
+      of-kind κ l e guard target {n} h = subst (λ (kind : Kind). size (demandAssertion kind case sources l guard target) ≤ n) (sym e) h
+
+      demand-size : (κ : Kind) (earlier : List Line) (l : Line) → lineAt case (l .number) .kind ≡ κ → rowsSize (demandRows κ case earlier l) ≤ demandMost case sources few reads κ
+      unfolding demandRows rowsSize assertionOf
+      demand-size compute earlier l e = omega arith
+      demand-size store earlier l e = omega arith
+      demand-size load earlier l e = omega arith
+      demand-size input earlier l e = omega arith
+      demand-size assert earlier l e = omega arith
+      demand-size assume earlier l e =
+          omega (arith, of-kind assume (lineAt case (l .number)) e 0 0 (assume-size case sources few reads own (lineAt case (l .number)) 0 0))
+      demand-size lock earlier l e =
+          let guard = copyOf (case .G) (guardName l) earlier in
+          let target = copyOf (case .G) (targetName (case .G) l) earlier in
+          omega (arith, of-kind lock (lineAt case (l .number)) e guard target (lock-size case sources few reads own (lineAt case (l .number)) guard target))
+      demand-size unlock earlier l e = omega arith
+
+      value-size : (earlier : List Line) (l : Line) → lineAt case (l .number) ≡ l
+          → 10 + size (assertionOf case sources (valueRow case earlier l)) + rowsSize (demandRows (l .kind) case earlier l) ≤ 4017 + reads
+      unfolding assertionOf
+      value-size earlier l found = omega (arith, four, demand-size (l .kind) earlier l (ap (λ (m : Line). m .kind) found))
+        where
+          four : 10 + size (assertionOf case sources (valueRow case earlier l)) + demandMost case sources few reads (l .kind) ≤ 4017 + reads
+          four = rw found (line-most case sources few reads own small l (copyOf (case .G) (guardName l) earlier) (copyOf (case .G) (operandA l) earlier)
+              (copyOf (case .G) (operandB l) earlier) (copyOf (case .G) (targetName (case .G) l) earlier))
+
+      values-size : (earlier ls : List Line) → AllLines (λ l. lineAt case (l .number) ≡ l) ls → rowsSize (valueRows case earlier ls) ≤ (4017 + reads) * length ls
+      unfolding valueRows rowsSize
+      values-size earlier [] found = omega (arith, mul-zero (4017 + reads))
+      values-size earlier (l ∷ ls) found =
+          omega (
+            arith,
+            rows-append (demandRows (l .kind) case earlier l) (valueRows case (l ∷ earlier) ls),
+            value-size earlier l (found .0),
+            values-size (l ∷ earlier) ls (found .1),
+            mul-suc (4017 + reads) (length ls),
+          )
+
+      pub all-values-size : (threads : List (List Line)) → AllThreads (λ l. lineAt case (l .number) ≡ l) threads
+          → rowsSize (allValueRows case threads) ≤ (4017 + reads) * lineCount threads
+      unfolding allValueRows rowsSize
+      all-values-size [] found = omega (arith, mul-zero (4017 + reads))
+      all-values-size (ls ∷ threads) found =
+          omega (
+            arith,
+            rows-append (valueRows case [] ls) (allValueRows case threads),
+            values-size [] ls (found .0),
+            ap (λ (many : ℕ). (4017 + reads) * many) (lines-counted ls),
+            all-values-size threads (found .1),
+            mul-add (4017 + reads) (sumOfLines (λ l. 1) ls) (lineCount threads),
+          )
+
+    -- ---- The 6s.
+    walk-size : (i g : ℕ) (ls : List Line) → size (walkBack case sources i g ls) ≤ 341 + 366 * hits case g ls
+    unfolding walkBack size
+    walk-size i g [] = base
+      where
+        base : size (same sources (blockValue case i g) (valueBefore case i g)) ≤ 341
+        base = same-size case sources few (blockValue case i g) (valueBefore case i g) (omega arith) (before-atomic case i g)
+    walk-size i g (l ∷ ls) = go (eqb (targetName (case .G) l) (itemName g)) refl (walk-size i g ls)
+      where
+        here : Formula
+        here = walkBack case sources i g ls
+
+        go : (q : Bool) → eqb (targetName (case .G) l) (itemName g) ≡ q → size here ≤ 341 + 366 * hits case g ls
+            → size (cond q (select (equal (blockOf (l .number)) (constant i)) (same sources (blockValue case i g) (valueOf (l .number))) here) here) ≤ 341 + 366 * hits case g (l ∷ ls)
+        go true e later = rw e (omega (arith, same-size case sources few (blockValue case i g) (valueOf (l .number)) (omega arith) (omega arith)))
+        go false e later = rw e (omega arith)
+
+    item-size : (i g k : ℕ) → size (assertionOf case sources (row 6 g i k 0 0)) ≤ 341 + 366 * hits case g (reverse (linesOf case (i % case .T)))
+    unfolding assertionOf
+    item-size i g k =
+        let lines = reverse (linesOf case (i % case .T)) in
+        omega (arith, walk-size i g (fromRecord k lines), hits-from-record case g k lines)
+
+    items-size : (i g many : ℕ)
+        → rowsSize (itemRows case (reverse (linesOf case (i % case .T))) i g many) ≤ 351 * many + 366 * sumFrom (λ j. hits case j (reverse (linesOf case (i % case .T)))) g many
+    unfolding itemRows rowsSize
+    items-size i g zero = omega arith
+    items-size i g (suc many) =
+        omega (arith, item-size i g (latest (case .G) (itemName g) (reverse (linesOf case (i % case .T)))), items-size i (suc g) many)
+
+    module _ (short : (t : ℕ) → length (linesOf case t) ≤ mostLines) (items : itemCount case ≤ mostItems) where
+      block-size : (i : ℕ) → rowsSize (itemRows case (reverse (linesOf case (i % case .T))) i 0 (itemCount case)) ≤ 27636
+      block-size i =
+          let lines = reverse (linesOf case (i % case .T)) in
+          omega (
+            arith,
+            items-size i 0 (itemCount case),
+            hits-at-most case lines 0 (itemCount case),
+            length-reverse (linesOf case (i % case .T)),
+            short (i % case .T),
+          )
+
+      pub blocks-size : (i many : ℕ) → rowsSize (blockRows case i many) ≤ 27636 * many
+      unfolding blockRows rowsSize
+      blocks-size i zero = omega arith
+      blocks-size i (suc many) =
+          omega (
+            arith,
+            rows-append (itemRows case (reverse (linesOf case (i % case .T))) i 0 (itemCount case)) (blockRows case (suc i) many),
+            block-size i,
+            blocks-size (suc i) many,
+          )

@@ -1,0 +1,1 @@
+// How long the text of a case is at the most (proofs/Text.antt); there is no code here.

@@ -1,0 +1,324 @@
+//! The constraints as SMT-LIB text, written from `docs/SMT-TEXT.md` and
+//! document 01 alone. What is quoted here stands on that page.
+
+use super::case::{Case, Record, ASSERT, ASSUME, COMPUTE, INPUT, LOAD, LOCK, STORE, UNLOCK};
+use super::encode::Row;
+use super::wrong::Wrong;
+
+const MOST_SOURCES: usize = 6;
+
+/// "The lines, in this order".
+pub fn text(case: &Case, rows: &[Row]) -> String {
+    let speller = Speller::new(case, rows);
+    let mut lines = vec!["(set-logic QF_BV)".to_string()];
+    lines.extend((0..case.variables()).map(|number| format!("(declare-fun v{number} () (_ BitVec 16))")));
+    lines.extend(rows.iter().map(|&row| format!("(assert {})", speller.formula(row))));
+    lines.push("(check-sat)".into());
+    let text = lines.join("\n");
+    match case.wrong {
+        Wrong::NoLastLineEnd => text,
+        _ => text + "\n",
+    }
+}
+
+fn constant(number: u16) -> String {
+    format!("#x{number:04x}")
+}
+
+fn is_constant(term: &str) -> bool {
+    term.starts_with('#')
+}
+
+fn equal(x: &str, y: &str) -> String {
+    format!("(= {x} {y})")
+}
+
+fn if_else(condition: &str, then: &str, other: &str) -> String {
+    format!("(ite {condition} {then} {other})")
+}
+
+/// "A, B and C is `(and A (and B C))`", with the last part given apart.
+fn nested(connective: &str, parts: Vec<String>, innermost: String) -> String {
+    parts.into_iter().rev().fold(innermost, |rest, part| format!("({connective} {part} {rest})"))
+}
+
+/// The first formula whose condition is true, else the innermost one.
+fn chosen(cases: Vec<(String, String)>, innermost: String) -> String {
+    cases.into_iter().rev().fold(innermost, |rest, (condition, formula)| if_else(&condition, &formula, &rest))
+}
+
+struct Speller<'a> {
+    case: &'a Case,
+    rows: &'a [Row],
+    /// "the values of the input lines with the lowest record numbers, at most
+    /// six, in ascending order of the record numbers"
+    sources: Vec<String>,
+}
+
+impl<'a> Speller<'a> {
+    fn new(case: &'a Case, rows: &'a [Row]) -> Self {
+        let mut speller = Speller { case, rows, sources: Vec::new() };
+        let most = match case.wrong {
+            Wrong::SeventhSource => MOST_SOURCES + 1,
+            _ => MOST_SOURCES,
+        };
+        let mut inputs = case.inputs();
+        if case.wrong != Wrong::SourcesByThread {
+            inputs.sort();
+        }
+        speller.sources = inputs.into_iter().take(most).map(|line| speller.value(line)).collect();
+        speller
+    }
+
+    /// "block of k, for record k: variable 2(k − 1)"
+    fn block(&self, line: u16) -> String {
+        format!("v{}", 2 * (usize::from(line) - 1))
+    }
+
+    /// "value of k: variable 2(k − 1) + 1"
+    fn value(&self, line: u16) -> String {
+        format!("v{}", 2 * (usize::from(line) - 1) + 1)
+    }
+
+    /// "item g after block i: variable 2R + i × (G + M) + g"
+    fn after(&self, item: usize, block: usize) -> String {
+        format!("v{}", 2 * self.case.records.len() + block * self.case.items() + item)
+    }
+
+    /// "item g before block i: the constant that is its initial value for
+    /// i = 0 (0 for a mutex), else the variable item g after block i − 1"
+    fn before(&self, item: usize, block: usize) -> String {
+        match block {
+            0 if self.case.wrong == Wrong::InitialValueForgotten => constant(0),
+            0 => constant(self.case.initial_value(item)),
+            _ => self.after(item, block - 1),
+        }
+    }
+
+    /// "local with copy p: `#x0000` where p is 0, else value of p"
+    fn local(&self, copy: u16) -> String {
+        match copy {
+            0 => constant(0),
+            _ => self.value(copy),
+        }
+    }
+
+    /// "The own blocks of a thread t: t, t + T, t + 2T and on, up to n".
+    fn own_blocks(&self, line: u16) -> Vec<usize> {
+        let mut chains = self.case.chains.iter();
+        let thread = chains.position(|chain| chain.contains(&line)).expect("each line is in a chain");
+        (thread..=self.case.switches).step_by(self.case.threads).collect()
+    }
+
+    /// "X is Y, for two terms": a link for each source, and the equation
+    /// innermost, "where both are variables".
+    fn is(&self, x: &str, y: &str) -> String {
+        let linked = !is_constant(x) && !is_constant(y) || self.case.wrong == Wrong::LinksOfConstants;
+        let link = |source: &String| format!("(not (xor {} {}))", equal(x, source), equal(y, source));
+        let links = if linked { self.sources.iter().map(link).collect() } else { Vec::new() };
+        nested("and", links, equal(x, y))
+    }
+
+    /// "X is item g as line k reads it with copy p".
+    fn is_read(&self, x: &str, item: usize, line: u16, copy: u16) -> String {
+        let reader = self.block(line);
+        let in_block = |block: usize| (equal(&reader, &constant(block as u16)), self.is(x, &self.before(item, block)));
+        let mut cases: Vec<(String, String)> = self.own_blocks(line).into_iter().map(in_block).collect();
+        // The other blocks are excluded by the 1s, 2s and 3s, but the page has the case.
+        let innermost = match (self.case.wrong, cases.pop()) {
+            (Wrong::LastBlockElse, Some((_, formula))) => formula,
+            (_, last) => {
+                cases.extend(last);
+                "true".into()
+            }
+        };
+        let before = chosen(cases, innermost);
+        if copy == 0 {
+            return before;
+        }
+        let here = self.is(x, &self.value(copy));
+        match self.case.wrong {
+            Wrong::CopyFromEarlierBlock => here,
+            Wrong::ReaderBeforeCopy => if_else(&equal(&reader, &self.block(copy)), &here, &before),
+            _ => if_else(&equal(&self.block(copy), &reader), &here, &before),
+        }
+    }
+
+    /// "The guard of line k with copy p"; none for guard 0.
+    fn guard(&self, record: &Record, copy: u16) -> Option<String> {
+        let is_zero = equal(&self.local(copy), &constant(0));
+        match record.guard {
+            0 => None,
+            1..=16 => Some(format!("(not {is_zero})")),
+            _ => Some(is_zero),
+        }
+    }
+
+    /// "Operands of a line with copy p: the constant c where the operand is
+    /// 16, else local with copy p."
+    fn operand(&self, record: &Record, operand: u16, copy: u16) -> String {
+        match operand {
+            16 => constant(record.c),
+            _ => self.local(copy),
+        }
+    }
+
+    /// The formula of each constraint, by its six numbers.
+    fn formula(&self, row: Row) -> String {
+        let [kind, line, ..] = row;
+        match kind {
+            1 => format!("(bvule {} {})", self.block(line), self.block(row[2])),
+            2 => format!("(bvule {} {})", self.block(line), constant(row[2])),
+            3 => equal(&format!("(bvurem {} {})", self.block(line), constant(row[2])), &constant(row[3])),
+            4 => self.value_formula(row),
+            5 => self.demand_formula(row),
+            6 => self.block_value_formula(row),
+            _ => self.violation_formula(),
+        }
+    }
+
+    /// "For guard 0 it is `IN`, else `(ite G IN OUT)`".
+    fn value_formula(&self, row: Row) -> String {
+        let [_, line, guard_copy, ..] = row;
+        let record = self.case.record(line);
+        match self.guard(record, guard_copy) {
+            None => self.value_guarded_in(record, row),
+            Some(guard) if self.case.wrong == Wrong::OldValueOpen => {
+                format!("(=> {guard} {})", self.value_guarded_in(record, row))
+            }
+            Some(guard) => if_else(&guard, &self.value_guarded_in(record, row), &self.value_guarded_out(record, row)),
+        }
+    }
+
+    /// "`IN`, by the kind of line k".
+    fn value_guarded_in(&self, record: &Record, row: Row) -> String {
+        let [_, line, _, a_copy, b_copy, _] = row;
+        let value = self.value(line);
+        let a = self.operand(record, record.a, a_copy);
+        let b = self.operand(record, record.b, b_copy);
+        match record.kind {
+            COMPUTE | STORE if record.op == 0 => self.is(&value, &a),
+            COMPUTE | STORE => self.with_facts(record, &a, &b, equal(&value, &expression(self.case.wrong, record, &a, &b))),
+            LOAD => self.is_read(&value, usize::from(record.a), line, a_copy),
+            INPUT => "true".into(),
+            LOCK => equal(&value, &constant(1)),
+            UNLOCK => equal(&value, &constant(0)),
+            _ => {
+                let is_zero = equal(&expression(self.case.wrong, record, &a, &b), &constant(0));
+                let truth = if_else(&is_zero, &constant(0), &constant(1));
+                self.with_facts(record, &a, &b, equal(&value, &truth))
+            }
+        }
+    }
+
+    /// "`OUT`, by the kind of line k".
+    fn value_guarded_out(&self, record: &Record, row: Row) -> String {
+        let [_, line, _, _, _, target_copy] = row;
+        let value = self.value(line);
+        match record.kind {
+            COMPUTE | LOAD | INPUT => self.is(&value, &self.local(target_copy)),
+            STORE | LOCK | UNLOCK => self.is_read(&value, self.target_item(record), line, target_copy),
+            _ => equal(&value, &constant(1)),
+        }
+    }
+
+    fn target_item(&self, record: &Record) -> usize {
+        let name = record.target_name().expect("the line has a target");
+        self.case.item_number(name).expect("the target is an item")
+    }
+
+    /// "F with the facts of a comparison, for a line with op 5 or 6 whose
+    /// operands X and Y are both variables".
+    fn with_facts(&self, record: &Record, x: &str, y: &str, formula: String) -> String {
+        if record.op < 5 || is_constant(x) || is_constant(y) {
+            return formula;
+        }
+        let mut facts = Vec::new();
+        for (place, s) in self.sources.iter().enumerate() {
+            let from = if self.case.wrong == Wrong::FactsOnce { place } else { 0 };
+            facts.extend(self.sources[from..].iter().map(|u| fact(self.case.wrong, record, [x, y], [s, u])));
+        }
+        nested("and", facts, formula)
+    }
+
+    /// "5, line k, guard copy, target copy: for an assume `(= V #x0001)`. For
+    /// a lock: with F for '`#x0000` is the mutex as line k reads it'".
+    fn demand_formula(&self, row: Row) -> String {
+        let [_, line, guard_copy, target_copy, ..] = row;
+        let record = self.case.record(line);
+        if record.kind == ASSUME {
+            return equal(&self.value(line), &constant(1));
+        }
+        let is_free = self.is_read(&constant(0), self.target_item(record), line, target_copy);
+        match self.guard(record, guard_copy) {
+            None => is_free,
+            Some(guard) => format!("(=> {guard} {is_free})"),
+        }
+    }
+
+    /// "Walking back from p over the copies of g in its thread, p first, then
+    /// p's own target copy and on until there is none".
+    fn block_value_formula(&self, row: Row) -> String {
+        let [_, item, block, last_copy, ..] = row;
+        let after = self.after(usize::from(item), usize::from(block));
+        let mut cases = Vec::new();
+        let mut copy = last_copy;
+        while copy != 0 {
+            cases.push((equal(&self.block(copy), &constant(block)), self.is(&after, &self.value(copy))));
+            copy = self.target_copy(copy);
+        }
+        if self.case.wrong == Wrong::NoWalkBack {
+            cases.truncate(1);
+        }
+        chosen(cases, self.is(&after, &self.before(usize::from(item), usize::from(block))))
+    }
+
+    /// The target copy in the 4 of a line.
+    fn target_copy(&self, line: u16) -> u16 {
+        let row = self.rows.iter().find(|row| row[0] == 4 && row[1] == line);
+        row.expect("each line has a 4")[5]
+    }
+
+    /// "7: with the assert lines by thread and chain".
+    fn violation_formula(&self) -> String {
+        let lines = self.case.chains.iter().flatten().copied();
+        let asserts = lines.filter(|&line| self.case.record(line).kind == ASSERT);
+        let mut zeros: Vec<String> = asserts.map(|line| equal(&self.value(line), &constant(0))).collect();
+        let innermost = match (self.case.wrong, zeros.pop()) {
+            (Wrong::NoFalseInnermost, Some(zero)) => zero,
+            (_, last) => {
+                zeros.extend(last);
+                "false".into()
+            }
+        };
+        nested("or", zeros, innermost)
+    }
+}
+
+/// "`(C X Y)` is `(= X Y)` for op 5 and `(bvult X Y)` for op 6".
+fn comparison(wrong: Wrong, op: u16, x: &str, y: &str) -> String {
+    match (op, wrong) {
+        (5, _) => equal(x, y),
+        (_, Wrong::LessOrEqual) => format!("(bvule {x} {y})"),
+        _ => format!("(bvult {x} {y})"),
+    }
+}
+
+/// "`(=> (and (= X S) (= Y U)) (not (xor (C X Y) (C S U))))`"
+fn fact(wrong: Wrong, record: &Record, [x, y]: [&str; 2], [s, u]: [&str; 2]) -> String {
+    let ours = comparison(wrong, record.op, x, y);
+    let theirs = comparison(wrong, record.op, s, u);
+    format!("(=> (and {} {}) (not (xor {ours} {theirs})))", equal(x, s), equal(y, u))
+}
+
+/// "The expression with operands X and Y".
+fn expression(wrong: Wrong, record: &Record, x: &str, y: &str) -> String {
+    match record.op {
+        0 => x.into(),
+        1 => format!("(bvadd {x} {y})"),
+        2 => format!("(bvsub {x} {y})"),
+        3 => format!("(bvand {x} {y})"),
+        4 => format!("(bvor {x} {y})"),
+        op => if_else(&comparison(wrong, op, x, y), &constant(1), &constant(0)),
+    }
+}
