@@ -6,11 +6,13 @@ use mathlib.Core.List.{List, [], _∷_, _++_}
 use native.Mathlib.Omega.{arith}
 use native.Mathlib.Numerals.{add-one}
 use lib.ListN.{length, drop, drop-of-length-le}
+use Rattle.model.specs.Limits.{mostConstraints}
 use Rattle.model.specs.CaseFile.{caseOf}
 use Rattle.model.specs.Assignment.{variables}
 use Rattle.model.specs.Table.{Row, table, numbersOf}
 use Rattle.smt.specs.Term.{Formula}
 use Rattle.smt.specs.Spelling.{ascii, formulaText, logicLine, declarations, assertion, assertionLines, questionLine, scriptText}
+use Rattle.laws.proofs.Sizes.{table-rows}
 use Rattle.script.specs.Assertions.{sourcesOf, assertionsOf, scriptOf}
 use Rattle.script.specs.Text.{smtText}
 use Rattle.spell.specs.Spelt.{top, Spelt}
@@ -30,6 +32,9 @@ unfolding assertion
 assertion-spelt f word formula close = spelt-then word (spelt-then formula close)
 
 module _ {bytes xs : List ℕ} {count : ℕ} (h : RowsHanded bytes xs count) where
+  pub rows-few : count ≤ mostConstraints
+  rows-few = omega (arith, h .has .rows, table-rows bytes (h .accepted))
+
   comes : (j : ℕ) → j < count → drop j (table (caseOf bytes)) ≡ rowAt xs j ∷ drop (suc j) (table (caseOf bytes))
   comes j below = rw (h .has .numbers) (row-comes (table (caseOf bytes)) (h .has .rest) j (omega (arith, h .has .rows)))
 

@@ -1,7 +1,7 @@
 -- The assertion of a row by its kind. Assumes nothing. Met again in `line_of` and `put_row`.
 use mathlib.Core.Path.{_≡_, subst}
 use mathlib.Core.Logic.{_≢_}
-use Prim.Native.Nat.{ℕ}
+use Prim.Native.Nat.{ℕ, _≤_}
 use mathlib.Core.List.{List}
 use native.Mathlib.Omega.{arith}
 use borrow.Author.Tests.{ne-eqb}
@@ -12,24 +12,26 @@ use Rattle.model.specs.Table.{Row}
 use Rattle.smt.specs.Term.{bvurem, bvule, constant, apply, test}
 use Rattle.smt.specs.Spelling.{ascii, formulaText}
 use Rattle.script.specs.Assertions.{equal, blockOf, sourcesOf, lineAssertion, demandAssertion, someThreadBreaks, assertionOf}
-use Rattle.case_file.specs.Present.{HasRecord}
 use Rattle.case_file.specs.Records.{recordOf, asLine}
 use Rattle.case_file.specs.declared.Record.{Record}
 use Rattle.spell.specs.Spelt.{Spelt}
+use Rattle.linked.specs.declared.Shape.{Shape}
+use Rattle.linked.specs.declared.Sources.{Sources}
 use Rattle.line_threads.proofs.RecordLines.{record-is-line}
 use Rattle.walk_text.specs.Walk.{walkCopies}
-use Rattle.smt_text.specs.Rows.{rowAssertion, LineThere, RowKnown}
+use Rattle.smt_text.specs.Rows.{rowAssertion, LineThere, RowKnown, RowHanded}
 
 -- ---- The line of a 4 or a 5.
 
 module _ {bytes threads : List ℕ} {k : ℕ} (h : LineThere bytes threads k) where
-  pub record-there : HasRecord bytes k
-  record-there = record { counted = omega (arith, h .number .some); inside = omega (arith, h .accepted .size, h .number .low) }
-
   pub line-there : {t : ℕ} {l : Record} → t ≡ getD threads k 0 → l ≡ recordOf bytes t k → asLine l k ≡ lineAt (caseOf bytes) k
   line-there et el =
       rw (el, et, h .lines k (h .number .some) (h .number .low))
       (record-is-line (h .accepted) k (h .number .some) (h .number .low))
+
+pub line-handed : {bytes previous threads : List ℕ} {shape : Shape} {sources : Sources} {w : Row} {kind : ℕ} → RowHanded bytes shape sources previous threads w
+    → w .kind ≡ kind → kind ≤ 5 → LineThere bytes threads (w .one)
+line-handed h e low = record { accepted = h .accepted; lines = h .lines; number = h .known .line (omega (arith, e)) }
 
 -- ---- What is spelled for a kind is the row's assertion.
 
@@ -70,8 +72,17 @@ module _ (bytes : List ℕ) (w : Row) {d a : List ℕ} {start r : ℕ} where
   unfolding assertionOf
   goal-spelt e put = rw e put
 
-  pub other-spelt : w .kind ≢ 1 → w .kind ≢ 2 → w .kind ≢ 3 → w .kind ≢ 4 → w .kind ≢ 5 → w .kind ≢ 6 → w .kind ≢ 7 → Spelt (ascii "false") d start a r
-      → RowSpelt bytes w d start a r
+  -- the test of a kind leaves what it is not
+  pub other-spelt : ((((((Unit {0} × w .kind ≢ 1) × w .kind ≢ 2) × w .kind ≢ 3) × w .kind ≢ 4) × w .kind ≢ 5) × w .kind ≢ 6) × w .kind ≢ 7
+      → Spelt (ascii "false") d start a r → RowSpelt bytes w d start a r
   unfolding assertionOf formulaText
-  other-spelt n1 n2 n3 n4 n5 n6 n7 put =
-      rw (ne-eqb (w .kind) 3 n3, ne-eqb (w .kind) 1 n1, ne-eqb (w .kind) 2 n2, ne-eqb (w .kind) 4 n4, ne-eqb (w .kind) 5 n5, ne-eqb (w .kind) 6 n6, ne-eqb (w .kind) 7 n7) put
+  other-spelt n put =
+      rw (
+        ne-eqb (w .kind) 3 (n .0 .0 .0 .0 .1),
+        ne-eqb (w .kind) 1 (n .0 .0 .0 .0 .0 .0 .1),
+        ne-eqb (w .kind) 2 (n .0 .0 .0 .0 .0 .1),
+        ne-eqb (w .kind) 4 (n .0 .0 .0 .1),
+        ne-eqb (w .kind) 5 (n .0 .0 .1),
+        ne-eqb (w .kind) 6 (n .0 .1),
+        ne-eqb (w .kind) 7 (n .1),
+      ) put

@@ -1,75 +1,57 @@
+-- `put_assertions` puts the rows one after the other. Assumes nothing.
+use borrow.Author.Needs.{needs}
+use Prim.Native.Nat.{_-_}
+use Rattle.smt_text.proofs.Assertions.{rows-few, row-handed, Asserting, asserting-start, asserting-more, asserting-end}
 use Rattle.smt_text.proofs.put_assertions.Statement.{statement}
 use Rattle.smt_text.proofs.put_assertions.Tie as tie
-use Rattle.smt_text.proofs.put_assertions.Reads as reads
-use Rattle.smt_text.proofs.put_assertions.Lts as lts
-use Rattle.line_threads.proofs.threads_of.Reads as threads-of-reads
-use Rattle.smt_parts.proofs.shape_of.Reads as shape-of-reads
-use Rattle.smt_parts.proofs.sources_of.Reads as sources-of-reads
-use Rattle.smt_text.proofs.put_assertion.Reads as put-assertion-reads
-use Rattle.smt_text.proofs.row_at.Reads as row-at-reads
-use Rattle.walk_text.proofs.previous_copies.Reads as previous-copies-reads
 
 abbrev Inv-loop : tie.InvT-loop
-Inv-loop text₀ start case table count shape sources previous threads place₀ j₀ text place j = ?
+Inv-loop text₀ start case table count shape sources previous threads place₀ j₀ text place j = Asserting case count text₀ start j text place
 
 abbrev μ-loop : tie.MeasureT-loop
-μ-loop text₀ start case table count shape sources previous threads place₀ j₀ text place j = ?
+μ-loop text₀ start case table count shape sources previous threads place₀ j₀ text place j = count - j
 
--- src/lib.rt:148:9
 shape-of-requires : tie.Need-shape-of-requires Inv-loop μ-loop
-shape-of-requires c κs = ?
+shape-of-requires c κs = search needs
 
--- src/lib.rt:149:9
 sources-of-requires : tie.Need-sources-of-requires Inv-loop μ-loop
-sources-of-requires c κs = ?
+sources-of-requires c κs = search needs
 
--- src/lib.rt:150:20
 previous-copies-requires : tie.Need-previous-copies-requires Inv-loop μ-loop
-previous-copies-requires c κs = ?
+previous-copies-requires c κs = search needs
 
--- src/lib.rt:151:19
 threads-of-requires : tie.Need-threads-of-requires Inv-loop μ-loop
-threads-of-requires c κs = ?
+threads-of-requires c κs = search needs
 
--- src/lib.rt:154:5
 loop-holds : tie.Need-loop-holds Inv-loop μ-loop
-loop-holds c = ?
+loop-holds c = asserting-start (search needs)
 
--- src/lib.rt:155:13
 row-at-requires : tie.Need-row-at-requires Inv-loop μ-loop
-row-at-requires c κs = ?
+row-at-requires c κs = search needs
 
--- src/lib.rt:156:66
 slice-aggregate-put-assertion : tie.Need-slice-aggregate-put-assertion Inv-loop μ-loop
-slice-aggregate-put-assertion c = ?
+slice-aggregate-put-assertion c = search needs
 
--- src/lib.rt:156:77
 slice-aggregate-put-assertion-2 : tie.Need-slice-aggregate-put-assertion-2 Inv-loop μ-loop
-slice-aggregate-put-assertion-2 c = ?
+slice-aggregate-put-assertion-2 c = search needs
 
--- src/lib.rt:156:9
 put-assertion-requires : tie.Need-put-assertion-requires Inv-loop μ-loop
-put-assertion-requires c κs = ?
+put-assertion-requires c κs = row-handed (c .before .before .before .before .before .before .before .before .before .before .before .before .before .pre) (c .before .before .before .before .before .before .before .before .before .shape-of .ensures) (c .before .before .before .before .before .before .before .before .sources-of .ensures) (c .before .before .before .before .before .before .before .previous-copies .ensures _ (c .before .before .before .before .before .before .before .before .before .before .before .before .before .pre .accepted) (c .before .before .before .before .before .before .before .before .before .before .before .before .before .pre .has)) (c .before .before .before .before .before .before .threads-of .ensures _ (c .before .before .before .before .before .before .before .before .before .before .before .before .before .pre .accepted) (c .before .before .before .before .before .before .before .before .before .before .before .before .before .pre .has)) (c .before .before .before .before .loop-test .taken) (c .before .before .before .row-at .ensures)
 
--- src/lib.rt:157:9
 add-j : tie.Need-add-j Inv-loop μ-loop
-add-j c = ?
+add-j c = let few = rows-few (c .before .before .before .before .before .before .before .before .before .before .before .before .before .before .before .before .pre) in search needs
 
--- src/lib.rt:154:5
 loop-less : tie.Need-loop-less Inv-loop μ-loop
-loop-less c = ?
+loop-less c = search needs
 
--- src/lib.rt:154:5
 loop-again : tie.Need-loop-again Inv-loop μ-loop
-loop-again c = ?
+loop-again c = asserting-more (c .before .before .before .before .before .before .before .before .before .before .before .before .before .before .before .before .pre) (c .before .before .before .before .before .before .before .before .loop .inv) (c .before .before .before .before .before .before .before .loop-test .taken) (c .before .before .before .before .before .before .row-at .ensures) (c .before .before .put-assertion .ensures)
 
--- src/lib.rt:138:1
 same-length : tie.Need-same-length Inv-loop μ-loop
-same-length c = ?
+same-length c = c .before .loop .inv .left .spelt .same
 
--- src/lib.rt:138:1
 returns : tie.Need-returns Inv-loop μ-loop
-returns c = ?
+returns c = asserting-end (c .before .before .before .before .before .before .before .before .before .pre) (c .before .loop .inv) (c .loop-test .left)
 
 pub put-assertions-spec : {M : Type 1} → statement M
 put-assertions-spec =

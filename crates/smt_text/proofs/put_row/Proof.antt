@@ -1,125 +1,89 @@
+-- `put_row` is by the kind of the row. Assumes nothing.
 use borrow.Author.Needs.{needs}
+use Rattle.smt_text.proofs.Rows.{line-handed, follows-spelt, last-spelt, thread-spelt, value-spelt, demand-spelt, walk-spelt, goal-spelt, other-spelt}
 use Rattle.smt_text.proofs.put_row.Statement.{statement}
 use Rattle.smt_text.proofs.put_row.Tie as tie
-use Rattle.smt_text.proofs.put_row.Reads as reads
-use Rattle.smt_text.proofs.put_row.Lts as lts
-use Rattle.line_text.proofs.put_demand.Reads as put-demand-reads
-use Rattle.line_text.proofs.put_line.Reads as put-line-reads
-use Rattle.smt_parts.proofs.put_goal.Reads as put-goal-reads
-use Rattle.smt_parts.proofs.put_last.Reads as put-last-reads
-use Rattle.smt_parts.proofs.put_one.Reads as put-one-reads
-use Rattle.smt_parts.proofs.put_three.Reads as put-three-reads
-use Rattle.smt_text.proofs.line_of.Reads as line-of-reads
-use Rattle.spell.proofs.put.Reads as put-reads
-use Rattle.walk_text.proofs.put_walk.Reads as put-walk-reads
 
--- src/lib.rt:212:14
 put-one-requires : tie.Need-put-one-requires
 put-one-requires c κs = search needs
 
--- src/lib.rt:213:14
 put-last-requires : tie.Need-put-last-requires
 put-last-requires c κs = search needs
 
--- src/lib.rt:214:14
 put-three-requires : tie.Need-put-three-requires
 put-three-requires c κs = search needs
 
--- src/lib.rt:216:17
 line-of-requires : tie.Need-line-of-requires
-line-of-requires c κs = ?
+line-of-requires c κs = line-handed (c .before .before .before .before .before .pre) (c .match .keys4) (search needs)
 
--- src/lib.rt:223:13
 put-line-requires : tie.Need-put-line-requires
 put-line-requires c κs = search needs
 
--- src/lib.rt:226:17
 line-of-requires-2 : tie.Need-line-of-requires-2
-line-of-requires-2 c κs = ?
+line-of-requires-2 c κs = line-handed (c .before .before .before .before .before .pre) (c .match .keys5) (search needs)
 
--- src/lib.rt:227:13
 put-demand-requires : tie.Need-put-demand-requires
 put-demand-requires c κs = search needs
 
--- src/lib.rt:229:14
 put-walk-requires : tie.Need-put-walk-requires
 put-walk-requires c κs = search needs
 
--- src/lib.rt:230:14
 put-goal-requires : tie.Need-put-goal-requires
 put-goal-requires c κs = search needs
 
--- src/lib.rt:231:31
 slice-aggregate-put : tie.Need-slice-aggregate-put
 slice-aggregate-put c = search needs
 
--- src/lib.rt:231:14
 put-requires : tie.Need-put-requires
 put-requires c κs = search needs
 
--- src/lib.rt:197:1
 same-length : tie.Need-same-length
 same-length c = search needs
 
--- src/lib.rt:197:1
 returns : tie.Need-returns
-returns c = ?
+returns c = follows-spelt _ _ (c .before .before .before .before .match .keys1) (c .before .before .put-one .ensures)
 
--- src/lib.rt:197:1
 same-length-2 : tie.Need-same-length-2
 same-length-2 c = search needs
 
--- src/lib.rt:197:1
 returns-2 : tie.Need-returns-2
-returns-2 c = ?
+returns-2 c = last-spelt _ _ (c .before .before .before .before .match .keys2) (c .before .before .put-last .ensures)
 
--- src/lib.rt:197:1
 same-length-3 : tie.Need-same-length-3
 same-length-3 c = search needs
 
--- src/lib.rt:197:1
 returns-3 : tie.Need-returns-3
-returns-3 c = ?
+returns-3 c = thread-spelt _ _ (c .before .before .before .before .match .keys3) (c .before .before .put-three .ensures)
 
--- src/lib.rt:197:1
 same-length-4 : tie.Need-same-length-4
 same-length-4 c = search needs
 
--- src/lib.rt:197:1
 returns-4 : tie.Need-returns-4
-returns-4 c = ?
+returns-4 c = value-spelt _ _ (c .before .before .before .before .line-of .ensures) (c .before .before .before .before .before .match .keys4) (c .before .before .put-line .ensures _ (c .before .before .before .before .before .before .before .before .before .before .pre .shaped) (c .before .before .before .before .before .before .before .before .before .before .pre .sourced))
 
--- src/lib.rt:197:1
 same-length-5 : tie.Need-same-length-5
 same-length-5 c = search needs
 
--- src/lib.rt:197:1
 returns-5 : tie.Need-returns-5
-returns-5 c = ?
+returns-5 c = demand-spelt _ _ (c .before .before .before .before .line-of2 .ensures) (c .before .before .before .before .before .match .keys5) (c .before .before .put-demand .ensures _ (c .before .before .before .before .before .before .before .before .before .before .pre .shaped) (c .before .before .before .before .before .before .before .before .before .before .pre .sourced))
 
--- src/lib.rt:197:1
 same-length-6 : tie.Need-same-length-6
 same-length-6 c = search needs
 
--- src/lib.rt:197:1
 returns-6 : tie.Need-returns-6
-returns-6 c = ?
+returns-6 c = walk-spelt _ _ (c .before .before .before .before .before .before .before .before .before .pre .known) (c .before .before .before .before .match .keys6) (c .before .before .put-walk .ensures _ (c .before .before .before .before .before .before .before .before .before .pre .shaped) (c .before .before .before .before .before .before .before .before .before .pre .sourced))
 
--- src/lib.rt:197:1
 same-length-7 : tie.Need-same-length-7
 same-length-7 c = search needs
 
--- src/lib.rt:197:1
 returns-7 : tie.Need-returns-7
-returns-7 c = ?
+returns-7 c = goal-spelt _ _ (c .before .before .before .before .match .keys7) (c .before .before .put-goal .ensures)
 
--- src/lib.rt:197:1
 same-length-8 : tie.Need-same-length-8
 same-length-8 c = search needs
 
--- src/lib.rt:197:1
 returns-8 : tie.Need-returns-8
-returns-8 c = ?
+returns-8 c = other-spelt _ _ (c .before .before .before .before .before .match .rest) (c .before .before .put .ensures)
 
 pub put-row-spec : {M : Type 1} → statement M
 put-row-spec =
