@@ -19,7 +19,6 @@ use Rattle.model.specs.declared.Verdict.the-variants as verdicts
 use Rattle.model.specs.declared.Encoded.{Encoded}
 use Rattle.model.specs.declared.Encoded.the-variants.{Table}
 use Rattle.model.specs.declared.Encoded.the-variants as encodeds
-use Rattle.laws.specs.Written.{numbersAt}
 use Rattle.laws.proofs.OnCase.{on-accepted, on-refused}
 use Rattle.laws.proofs.Accepted.{accepted-of}
 use Rattle.laws.proofs.Writing.{numbers-from-start}

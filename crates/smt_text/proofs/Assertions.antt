@@ -1,15 +1,14 @@
 -- The assertions of a table one after the other, and the whole text. Assumes nothing. Met again in `put_assertion`, `put_assertions` and
 -- `write_script`.
-use mathlib.Core.Path.{_≡_, refl, sym, ap, _∙_}
+use mathlib.Core.Path.{_≡_, refl}
 use Prim.Native.Nat.{ℕ, suc, _+_, _≤_, _<_}
 use mathlib.Core.List.{List, [], _∷_, _++_}
 use native.Mathlib.Omega.{arith}
 use native.Mathlib.Numerals.{add-one}
-use lib.ListN.{length, drop, drop-of-length-le}
+use lib.ListN.{drop, drop-of-length-le}
 use Rattle.model.specs.Limits.{mostConstraints}
 use Rattle.model.specs.CaseFile.{caseOf}
-use Rattle.model.specs.Assignment.{variables}
-use Rattle.model.specs.Table.{Row, table, numbersOf}
+use Rattle.model.specs.Table.{Row, table}
 use Rattle.smt.specs.Term.{Formula}
 use Rattle.smt.specs.Spelling.{ascii, formulaText, logicLine, declarations, assertion, assertionLines, questionLine, scriptText}
 use Rattle.laws.proofs.Sizes.{table-rows}

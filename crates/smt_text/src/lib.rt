@@ -135,13 +135,7 @@ fn write_script(
 }
 
 // The assertions of so many constraints of the table, which are all.
-fn put_assertions(
-    text: &mut [u8],
-    start: usize,
-    case: &[u8],
-    table: &[u16],
-    count: u16,
-) -> usize
+fn put_assertions(text: &mut [u8], start: usize, case: &[u8], table: &[u16], count: u16) -> usize
     requires { ⌜ RowsHanded (now case) (now table) count ⌝ }
     ensures { λ r. ⌜ Spelt (assertionLines (tableAssertions (now (case .entry)))) (now (text .entry)) start (now (text .exit)) r ⌝ }
 {
@@ -193,7 +187,7 @@ fn put_assertion(
     put(text, place, b")\n")
 }
 
-// The assertion of a row, by its kind. No row has another one.
+// The assertion of a row, by its kind, which is one of seven.
 fn put_row(
     text: &mut [u8],
     start: usize,
