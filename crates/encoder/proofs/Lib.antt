@@ -6,3 +6,4 @@ pub mod Series
 pub mod Parts
 pub mod Counts
 pub mod Answer
+pub mod WholeTable

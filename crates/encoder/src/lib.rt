@@ -32,11 +32,17 @@ use line::ORDER_ROWS;
 use line::target_name;
 use line::value_rows;
 use model::Encoded;
+use model::ITEMS;
 use model::LOCALS;
+use model::MOST_RECORDS;
+use model::MOST_SWITCHES;
 use model::NAMES;
 use model::THREADS;
 use model::Verdict;
 use rows::ROW;
+
+// The largest table has four constraints for each record, one for each block value and the goal, of six numbers each.
+pub const MOST_NUMBERS: usize = ROW * (4 * MOST_RECORDS + MOST_SWITCHES as usize * ITEMS + 1);
 
 // The table of a case: refusals 1 to 9, then 10; else its constraints, six numbers each, from the slice's start.
 pub fn encode(case: &[u8], table: &mut [u16]) -> Encoded

@@ -8,21 +8,18 @@ use native.Mathlib.Omega.{arith}
 use native.Mathlib.Nat.{suc-add}
 use borrow.Author.Tests.{le-leb, lt-leb, leb-true, leb-false}
 use lib.Dec.{leb}
-use lib.ListN.{length, drop, length-append}
+use lib.ListN.{length, length-append}
 use Rattle.model.specs.Limits.{mostTableNumbers, mostListingBytes}
-use Rattle.model.specs.Lists.{writtenOver}
 use Rattle.model.specs.CaseFile.{caseOf}
 use Rattle.model.specs.Accept.{verdict}
 use Rattle.model.specs.Assignment.{variables}
 use Rattle.model.specs.Table.{Row, table, numbersOf}
-use Rattle.model.specs.Answers.{encoded, afterEncoded, encodedInto}
+use Rattle.model.specs.Answers.{encoded, encodedInto}
 use Rattle.model.specs.Listing.{numbersLine, rowLine, rowLines, listingText, listed, afterListed, listedInto, listedNumbers}
 use Rattle.model.specs.declared.Verdict.{Verdict}
 use Rattle.model.specs.declared.Verdict.the-variants.{Accepted}
 use Rattle.model.specs.declared.Verdict.the-variants as verdicts
 use Rattle.model.specs.declared.Encoded.{Encoded}
-use Rattle.model.specs.declared.Encoded.the-variants.{Table}
-use Rattle.model.specs.declared.Encoded.the-variants as encodeds
 use Rattle.model.specs.declared.Listed.{Listed}
 use Rattle.model.specs.declared.Listed.the-variants.{Text, Refused}
 use Rattle.laws.specs.Written.{numbersAt, Put}
@@ -30,7 +27,8 @@ use Rattle.laws.proofs.OnCase.{on-accepted, on-refused}
 use Rattle.laws.proofs.Views.{LeView, within, beyond, le-view}
 use Rattle.laws.proofs.Accepted.{accepted-of}
 use Rattle.laws.proofs.Writing.{numbers-from-start, put-size}
-use Rattle.laws.proofs.Sizes.{table-rows, table-numbers}
+use Rattle.laws.proofs.Sizes.{table-rows}
+use Rattle.encoder.proofs.WholeTable.{table-fits, case-refused, table-written}
 use Rattle.listing_text.specs.Text.{sixAt, sixLines, rowCount, textOf, WholeText}
 use Rattle.listing_text.proofs.Rows.{line-size}
 use Rattle.listing_text.proofs.Answer.{lines-size}
@@ -84,34 +82,22 @@ module _ (bytes : List ℕ) where
 
 -- The encoder's answer, with room for every table.
 module _ (bytes : List ℕ) (room : ℕ) (large : room ≡ mostTableNumbers) where
-  table-fits : verdict bytes ≡ Accepted → encoded bytes room ≡ Table (length (table (caseOf bytes))) (variables (caseOf bytes))
-  unfolding encoded
-  table-fits e = rw (on-accepted _ _ _ e, le-leb (length (numbersOf (table (caseOf bytes)))) room (omega (arith, table-numbers bytes (accepted-of bytes e))))
-
-  case-refused : (number place : ℕ) → verdict bytes ≡ verdicts.Refused number place → encoded bytes room ≡ encodeds.Refused number place
-  unfolding encoded
-  case-refused number place e = on-refused _ _ _ number place e
-
   -- The rows that it says it has written are in its slice.
   pub rows-fit : (r : Encoded) → r ≡ encoded bytes room → 6 * rowCount r ≤ room
   rows-fit r er = go (verdict bytes) refl
     where
       go : (v : Verdict) → verdict bytes ≡ v → 6 * rowCount r ≤ room
-      go Accepted e = rw (er, table-fits e) (omega (arith, table-rows bytes (accepted-of bytes e)))
-      go (verdicts.Refused number place) e = rw (er, case-refused number place e) (omega arith)
+      go Accepted e = rw (er, table-fits bytes room large e) (omega (arith, table-rows bytes (accepted-of bytes e)))
+      go (verdicts.Refused number place) e = rw (er, case-refused bytes room large number place e) (omega arith)
 
 module _ (bytes slice : List ℕ) (large : length slice ≡ mostTableNumbers) where
-  table-written : verdict bytes ≡ Accepted → encodedInto bytes slice ≡ numbersOf (table (caseOf bytes)) ++ drop (length (numbersOf (table (caseOf bytes)))) slice
-  unfolding encodedInto writtenOver
-  table-written e = ap (λ (q : Encoded). afterEncoded q (numbersOf (table (caseOf bytes))) slice) (table-fits bytes (length slice) large e)
-
   pub answer-text : (r : Encoded) (x : List ℕ) → r ≡ encoded bytes (length slice) → x ≡ encodedInto bytes slice → textOf r x ≡ listingText bytes
   unfolding textOf
   answer-text r x er ex = go (verdict bytes) refl
     where
       go : (v : Verdict) → verdict bytes ≡ v → textOf r x ≡ listingText bytes
       go Accepted e =
-          rw (er, table-fits bytes (length slice) large e, ex, table-written e, listing-accepted bytes e)
+          rw (er, table-fits bytes (length slice) large e, ex, table-written bytes slice large e, listing-accepted bytes e)
           (ap (λ (text : List ℕ). numbersLine (length (table (caseOf bytes)) ∷ (variables (caseOf bytes) ∷ [])) ++ text) (rows-listed (table (caseOf bytes)) _))
       go (verdicts.Refused number place) e = rw (er, case-refused bytes (length slice) large number place e, listing-refused bytes number place e)
 

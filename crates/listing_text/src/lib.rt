@@ -9,16 +9,11 @@ ghost use Rattle.model.specs.Limits.{mostListingBytes};
 ghost use Rattle.model.specs.Listing.{digit, decimal, numbersLine, listed, listedInto};
 ghost use Rattle.laws.specs.Written.{numbersAt, Put};
 ghost use Rattle.listing_text.specs.Text.{ended, sixAt, sixLines, textOf, TableAnswered, TextRoom};
+use encoder::MOST_NUMBERS;
 use model::Encoded;
-use model::ITEMS;
 use model::Listed;
-use model::MOST_RECORDS;
-use model::MOST_SWITCHES;
 
-// The largest table has four constraints for each record, one for each block value and the goal, of six numbers each.
-const MOST_NUMBERS: usize = 6 * (4 * MOST_RECORDS + MOST_SWITCHES as usize * ITEMS + 1);
-
-// No text is longer: six bytes for each of these numbers and for the two counts.
+// No text is longer: six bytes for each number of the largest table and for the two counts.
 pub const MOST_BYTES: usize = 6 * (2 + MOST_NUMBERS);
 
 // The listing's text, from the slice's start: a case's table, or the number and place of its refusal. Refusal 10 where the

@@ -1,0 +1,4 @@
+pub mod TableRows
+pub mod Rows
+pub mod Assertions
+pub mod Answer

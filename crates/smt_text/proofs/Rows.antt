@@ -1,0 +1,88 @@
+-- The assertion of a row by its kind. Assumes nothing. Met again in `line_of` and `put_row`.
+use mathlib.Core.Path.{_≡_, subst}
+use mathlib.Core.Logic.{_≢_}
+use Prim.Native.Nat.{ℕ, _≤_}
+use mathlib.Core.List.{List}
+use native.Mathlib.Omega.{arith}
+use borrow.Author.Tests.{ne-eqb}
+use lib.ListN.{getD}
+use Rattle.model.specs.Limits.{mostLines}
+use Rattle.model.specs.CaseFile.{Line, caseOf, lineAt}
+use Rattle.model.specs.Table.{Row}
+use Rattle.smt.specs.Term.{bvurem, bvule, constant, apply, test}
+use Rattle.smt.specs.Spelling.{ascii, formulaText}
+use Rattle.script.specs.Assertions.{equal, blockOf, sourcesOf, lineAssertion, demandAssertion, someThreadBreaks, assertionOf}
+use Rattle.case_file.specs.Records.{recordOf, asLine}
+use Rattle.case_file.specs.declared.Record.{Record}
+use Rattle.spell.specs.Spelt.{Spelt}
+use Rattle.linked.specs.declared.Shape.{Shape}
+use Rattle.linked.specs.declared.Sources.{Sources}
+use Rattle.line_threads.proofs.RecordLines.{record-is-line}
+use Rattle.walk_text.specs.Walk.{walkCopies}
+use Rattle.smt_text.specs.Rows.{rowAssertion, LineThere, RowKnown, RowHanded}
+
+-- ---- The line of a 4 or a 5.
+
+module _ {bytes threads : List ℕ} {k : ℕ} (h : LineThere bytes threads k) where
+  pub line-there : {t : ℕ} {l : Record} → t ≡ getD threads k 0 → l ≡ recordOf bytes t k → asLine l k ≡ lineAt (caseOf bytes) k
+  line-there et el =
+      rw (el, et, h .lines k (h .number .some) (h .number .low))
+      (record-is-line (h .accepted) k (h .number .some) (h .number .low))
+
+pub line-handed : {bytes previous threads : List ℕ} {shape : Shape} {sources : Sources} {w : Row} {kind : ℕ} → RowHanded bytes shape sources previous threads w
+    → w .kind ≡ kind → kind ≤ 5 → LineThere bytes threads (w .one)
+line-handed h e low = record { accepted = h .accepted; lines = h .lines; number = h .known .line (omega (arith, e)) }
+
+-- ---- What is spelled for a kind is the row's assertion.
+
+abbrev RowSpelt : List ℕ → Row → List ℕ → ℕ → List ℕ → ℕ → Type 0
+RowSpelt bytes w d start a r = Spelt (formulaText (rowAssertion bytes w)) d start a r
+
+module _ (bytes : List ℕ) (w : Row) {d a : List ℕ} {start r : ℕ} where
+  pub follows-spelt : w .kind ≡ 1 → Spelt (formulaText (test bvule (blockOf (w .one)) (blockOf (w .two)))) d start a r → RowSpelt bytes w d start a r
+  unfolding assertionOf
+  follows-spelt e put = rw e put
+
+  pub last-spelt : w .kind ≡ 2 → Spelt (formulaText (test bvule (blockOf (w .one)) (constant (w .two)))) d start a r → RowSpelt bytes w d start a r
+  unfolding assertionOf
+  last-spelt e put = rw e put
+
+  pub thread-spelt : w .kind ≡ 3 → Spelt (formulaText (equal (apply bvurem (blockOf (w .one)) (constant (w .two))) (constant (w .three)))) d start a r
+      → RowSpelt bytes w d start a r
+  unfolding assertionOf
+  thread-spelt e put = rw e put
+
+  module _ {l : Line} (same : l ≡ lineAt (caseOf bytes) (w .one)) where
+    pub value-spelt : w .kind ≡ 4 → Spelt (formulaText (lineAssertion (caseOf bytes) (sourcesOf (caseOf bytes)) l (w .two) (w .three) (w .four) (w .five))) d start a r
+        → RowSpelt bytes w d start a r
+    unfolding assertionOf
+    value-spelt e put = rw e (rw same at put)
+
+    pub demand-spelt : w .kind ≡ 5 → Spelt (formulaText (demandAssertion (l .kind) (caseOf bytes) (sourcesOf (caseOf bytes)) l (w .two) (w .three))) d start a r
+        → RowSpelt bytes w d start a r
+    unfolding assertionOf
+    demand-spelt e put =
+        rw e (subst (λ (l : Line). Spelt (formulaText (demandAssertion (l .kind) (caseOf bytes) (sourcesOf (caseOf bytes)) l (w .two) (w .three))) d start a r) same put)
+
+  pub walk-spelt : {previous : List ℕ} → RowKnown bytes previous w → w .kind ≡ 6
+      → Spelt (formulaText (walkCopies (caseOf bytes) (sourcesOf (caseOf bytes)) (w .two) (w .one) previous mostLines (w .three))) d start a r → RowSpelt bytes w d start a r
+  walk-spelt known e put = rw (known .walk e) at put
+
+  pub goal-spelt : w .kind ≡ 7 → Spelt (formulaText (someThreadBreaks (caseOf bytes .threads))) d start a r → RowSpelt bytes w d start a r
+  unfolding assertionOf
+  goal-spelt e put = rw e put
+
+  -- the test of a kind leaves what it is not
+  pub other-spelt : ((((((Unit {0} × w .kind ≢ 1) × w .kind ≢ 2) × w .kind ≢ 3) × w .kind ≢ 4) × w .kind ≢ 5) × w .kind ≢ 6) × w .kind ≢ 7
+      → Spelt (ascii "false") d start a r → RowSpelt bytes w d start a r
+  unfolding assertionOf formulaText
+  other-spelt n put =
+      rw (
+        ne-eqb (w .kind) 3 (n .0 .0 .0 .0 .1),
+        ne-eqb (w .kind) 1 (n .0 .0 .0 .0 .0 .0 .1),
+        ne-eqb (w .kind) 2 (n .0 .0 .0 .0 .0 .1),
+        ne-eqb (w .kind) 4 (n .0 .0 .0 .1),
+        ne-eqb (w .kind) 5 (n .0 .0 .1),
+        ne-eqb (w .kind) 6 (n .0 .1),
+        ne-eqb (w .kind) 7 (n .1),
+      ) put
