@@ -65,8 +65,8 @@ pub record Delivered (M : Type 1) : Type 2 where
   pub decode : decode-statement.statement M
   pub replay : replay-statement.statement M
   pub listing_text : listing-text-statement.statement M
-  pub smt_length : smt-length-statement.statement M
-  pub smt_text : smt-text-statement.statement M
+  pub smt-length : smt-length-statement.statement M
+  pub smt-text : smt-text-statement.statement M
   -- the calls that C and Rust link, whose answers are numbers;
   pub menduvo_accept : exported-accept-statement.statement M
   pub menduvo_encode : exported-encode-statement.statement M
@@ -74,8 +74,8 @@ pub record Delivered (M : Type 1) : Type 2 where
   pub menduvo_decode : exported-decode-statement.statement M
   pub menduvo_replay : exported-replay-statement.statement M
   pub menduvo_listing : exported-listing-statement.statement M
-  pub menduvo_smt_length : exported-smt-length-statement.statement M
-  pub menduvo_smt_text : exported-smt-text-statement.statement M
+  pub menduvo-smt-length : exported-smt-length-statement.statement M
+  pub menduvo-smt-text : exported-smt-text-statement.statement M
   -- demand 3 over what accept, encode, check, decode and replay answer;
   pub corresponds : ForEveryAcceptedCase
   -- the text that is written, as its own reader reads it: true of an assignment exactly where the checker says yes, and of some exactly
@@ -99,16 +99,16 @@ delivered = record {
   decode = decode-met.met;
   replay = replay-met.met;
   listing_text = listing-text-met.met;
-  smt_length = smt-length-met.met;
-  smt_text = smt-text-met.met;
+  smt-length = smt-length-met.met;
+  smt-text = smt-text-met.met;
   menduvo_accept = exported-accept-met.met;
   menduvo_encode = exported-encode-met.met;
   menduvo_check = exported-check-met.met;
   menduvo_decode = exported-decode-met.met;
   menduvo_replay = exported-replay-met.met;
   menduvo_listing = exported-listing-met.met;
-  menduvo_smt_length = exported-smt-length-met.met;
-  menduvo_smt_text = exported-smt-text-met.met;
+  menduvo-smt-length = exported-smt-length-met.met;
+  menduvo-smt-text = exported-smt-text-met.met;
   corresponds = demand-3;
   filed = every-text;
   sizes = sizes;

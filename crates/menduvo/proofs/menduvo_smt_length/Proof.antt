@@ -1,0 +1,17 @@
+-- `menduvo::menduvo_smt_length` meets its contract.
+-- Assumes nothing.
+use borrow.Author.Needs.{needs}
+use Rattle.menduvo.proofs.menduvo_smt_length.Statement.{statement}
+use Rattle.menduvo.proofs.menduvo_smt_length.Tie as tie
+
+smt-length-requires : tie.Need-smt-length-requires
+smt-length-requires c κs = search needs
+
+spelled-numbers-requires : tie.Need-spelled-numbers-requires
+spelled-numbers-requires c κs = search needs
+
+returns : tie.Need-returns
+returns c = cc
+
+pub menduvo-smt-length-spec : {M : Type 1} → statement M
+menduvo-smt-length-spec = tie.close (tie.spec smt-length-requires spelled-numbers-requires returns)
