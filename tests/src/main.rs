@@ -24,7 +24,6 @@ mod line;
 mod program;
 #[cfg(feature = "proved")]
 mod proved;
-#[cfg(feature = "proved")]
 mod random;
 mod report;
 mod samples;

@@ -153,8 +153,7 @@ fn at_random(calls: &dyn Calls, number: u16, later: Option<u16>, tally: &mut Tal
     Ok(())
 }
 
-/// What a random file meets is not known, but all six calls must say the
-/// same.
+/// What a random file meets is not known, but all calls must say the same.
 fn any_bytes(calls: &dyn Calls, tally: &mut Tally) -> Outcome {
     for seed in 0..OF_BYTES {
         let mut random = Random::from_seed(77_000_000 + seed);

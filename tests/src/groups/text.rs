@@ -21,7 +21,7 @@ use crate::script::Script;
 use crate::vary::filled;
 
 const PAGE: &str = include_str!("../../../docs/SMT-TEXT.md");
-/// "below two million bytes"
+/// "None is longer than two million bytes"
 const MOST_BYTES: usize = 2_000_000;
 
 pub fn run(calls: &dyn Calls, report: &mut Report) {
