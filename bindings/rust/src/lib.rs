@@ -41,3 +41,5 @@ pub const MOST_SCHEDULE_NUMBERS: usize = 272;
 pub const MOST_ITEMS: usize = 12;
 /// The most bytes that a listing has: a slice of so many is never refused with 10.
 pub const MOST_LISTING_BYTES: usize = 43_392;
+/// The most bytes that a text for solvers has: a slice of so many is never refused with 10.
+pub const MOST_SMT_BYTES: usize = 2_000_000;
