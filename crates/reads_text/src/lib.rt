@@ -44,7 +44,12 @@ fn put_block(
 {
     let before = value_before(shape, i, g);
     let mut at = put(text, start, b"(ite ");
-    at = put_equal(text, at, Atom::Variable(block_variable(k)), Atom::Constant(i));
+    at = put_equal(
+        text,
+        at,
+        Atom::Variable(block_variable(k)),
+        Atom::Constant(i),
+    );
     at = put(text, at, b" ");
     at = put_same(text, at, x, before, sources);
     put(text, at, b" ")
@@ -118,7 +123,12 @@ fn put_item(
         return put_before(text, start, shape, sources, x, k, g, t);
     }
     let mut at = put(text, start, b"(ite ");
-    at = put_equal(text, at, Atom::Variable(block_variable(p)), Atom::Variable(block_variable(k)));
+    at = put_equal(
+        text,
+        at,
+        Atom::Variable(block_variable(p)),
+        Atom::Variable(block_variable(k)),
+    );
     at = put(text, at, b" ");
     at = put_same(text, at, x, Atom::Variable(value_variable(p)), sources);
     at = put(text, at, b" ");

@@ -46,7 +46,7 @@ spelt-in {bytes} {before} {at = at} h e = record { same = ap length h ∙ length
 
 -- Nothing is spelled, or some bytes and then others.
 spelt-nothing : {out : List ℕ} {at : ℕ} → at ≤ top → Spelt [] out at out at
-spelt-nothing {out} {at} h = record { same = refl; place = sym (capped-below (at + 0) (omega arith) ∙ none) ; slice = λ fits few. sym (numbers-none out at) }
+spelt-nothing {out} {at} h = record { same = refl; place = sym (capped-below (at + 0) (omega arith) ∙ none); slice = λ fits few. sym (numbers-none out at) }
   where
     none : at + 0 ≡ at
     none = omega arith

@@ -115,19 +115,13 @@ fn put_copies(
     let mut many = 0;
     while many < MOST_LINES {
         if p == 0 {
-            return Heads {
-                place,
-                many,
-            };
+            return Heads { place, many };
         }
         place = put_copy(text, place, shape, sources, i, g, p);
         p = at(previous, p as usize);
         many += 1;
     }
-    Heads {
-        place,
-        many,
-    }
+    Heads { place, many }
 }
 
 // The copies of item g from `last` back, each asked whether it is in block i.
