@@ -11,7 +11,7 @@ use borrow.Author.Tests.{eq-eqb, ne-eqb, le-leb, lt-leb}
 use Rattle.model.specs.CaseFile.{Case}
 use Rattle.smt.specs.Term.{Term, constant, choice, Formula}
 use Rattle.smt.specs.Spelling.{ascii, two, three, fourHex, termText, formulaText}
-use Rattle.script.specs.Assertions.{equal, isZero, sourcesOf, isVariable, same, comparison, expression, facts, withFacts, isExpression, isTruth}
+use Rattle.script.specs.Assertions.{mostSources, equal, isZero, sourcesOf, isVariable, same, comparison, expression, facts, withFacts, isExpression, isTruth}
 use Rattle.spell.specs.Spelt.{top, Spelt}
 use Rattle.spell.specs.Atoms.{closing}
 use Rattle.spell.proofs.Spelling.{left-start, left-end, spelt-then}
@@ -37,7 +37,7 @@ module _ (op : ℕ) (x y : Term) where
     no-facts-of-constant t = rw (le-leb 5 op h, sym first ∙ t)
 
 -- What stands before and what behind.
-pub few-parentheses : (many : ℕ) → many ≤ 6 → many * many ≤ 36
+pub few-parentheses : (many : ℕ) → many ≤ mostSources → many * many ≤ mostSources * mostSources
 few-parentheses many h = mul-le-mul h h
 
 nothing-spelt : {out : List ℕ} {at : ℕ} → at ≤ top → Spelt [] out at out at
@@ -96,20 +96,20 @@ module _ {case : Case} {sources : Sources} (s : HasSources case sources) (v : Te
   unfolding isExpression
   first-spelt h put = rw (eq-eqb op 0 h) put
 
-  module _ {b e : List ℕ} {q r : ℕ} (before : sources .count ≤ 6 → Spelt (factsBefore (sourceList sources) op x y) d start a p) where
-    beside-spelt : (base : Formula) → Spelt (formulaText base) a p b q → (sources .count ≤ 6 → Spelt (factsBehind (sources .count) op x y) b q e r)
+  module _ {b e : List ℕ} {q r : ℕ} (before : sources .count ≤ mostSources → Spelt (factsBefore (sourceList sources) op x y) d start a p) where
+    beside-spelt : (base : Formula) → Spelt (formulaText base) a p b q → (sources .count ≤ mostSources → Spelt (factsBehind (sources .count) op x y) b q e r)
         → Spelt (formulaText (withFacts (sourcesOf case) op x y base)) d start e r
     beside-spelt base equation behind =
         spelt-as (rw (s .list, sym (s .many)) (sym (with-facts-text (sourcesOf case) op x y base))) (spelt-then (before (s .few)) (spelt-then equation (behind (s .few))))
 
     pub expression-spelt : (op ≡ 0 → ⊥) → Spelt (formulaText (equal v (expression op x y))) a p b q
-        → (sources .count ≤ 6 → Spelt (factsBehind (sources .count) op x y) b q e r)
+        → (sources .count ≤ mostSources → Spelt (factsBehind (sources .count) op x y) b q e r)
         → Spelt (formulaText (isExpression (sourcesOf case) v op x y)) d start e r
     unfolding isExpression
     expression-spelt h equation behind = rw (ne-eqb op 0 h) (beside-spelt (equal v (expression op x y)) equation behind)
 
     pub is-truth-spelt : Spelt (formulaText (equal v (choice (isZero (expression op x y)) (constant 0) (constant 1)))) a p b q
-        → (sources .count ≤ 6 → Spelt (factsBehind (sources .count) op x y) b q e r)
+        → (sources .count ≤ mostSources → Spelt (factsBehind (sources .count) op x y) b q e r)
         → Spelt (formulaText (isTruth (sourcesOf case) v op x y)) d start e r
     unfolding isTruth
     is-truth-spelt equation behind = beside-spelt (equal v (choice (isZero (expression op x y)) (constant 0) (constant 1))) equation behind

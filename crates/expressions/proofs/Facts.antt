@@ -8,7 +8,7 @@ use native.Mathlib.Nat.{zero-mul, suc-mul}
 use lib.ListN.{length, getD, replicate-append-replicate}
 use Rattle.smt.specs.Term.{Test, Term, variable, test, Formula}
 use Rattle.smt.specs.Spelling.{ascii, two, formulaText}
-use Rattle.script.specs.Assertions.{equal, valueOf, factOf, factsWith, facts}
+use Rattle.script.specs.Assertions.{mostSources, equal, valueOf, factOf, factsWith, facts}
 use Rattle.spell.specs.Spelt.{Spelt}
 use Rattle.spell.specs.Atoms.{closing}
 use Rattle.spell.proofs.Spelling.{spelt-then}
@@ -45,7 +45,7 @@ module _ (t : Test) (x y : Term) {xs : List ℕ} {count : ℕ} {before : List �
   seconds-go-on s v n h put = going-more v (factHead t x y s) (λ u others. refl) n h (put .same) (λ few. put)
 
   pub firsts-go-on : (sources : List ℕ) → Going (factHeads t x y sources) xs count before start j out at → (j ≡ count → ⊥) → j < length xs
-      → length a ≡ length out → (count ≤ 6 → Spelt (factHeadsWith t x y (getD xs j 0) sources) out at a place)
+      → length a ≡ length out → (count ≤ mostSources → Spelt (factHeadsWith t x y (getD xs j 0) sources) out at a place)
       → Going (factHeads t x y sources) xs count before start (j + 1) a place
   unfolding factHeads
   firsts-go-on sources v n h l put = going-more v (λ (s : ℕ). factHeadsWith t x y s sources) (λ s firsts. refl) n h l put

@@ -7,6 +7,7 @@ use native.Mathlib.Nat.{le-min, min-le-left, le-trans}
 use native.Mathlib.Numerals.{add-one}
 use lib.ListN.{length, getD, take, drop, drop-of-length-le, length-take}
 use lib.Seq.{drop-cons, getD-take}
+use Rattle.script.specs.Assertions.{mostSources}
 use Rattle.spell.specs.Spelt.{top, Spelt}
 use Rattle.spell.proofs.Spelling.{Left, left-start, left-more, left-end}
 
@@ -26,7 +27,7 @@ sources-end xs count j h = drop-of-length-le (take count xs) {i = j} (rw (length
 pub record Going (heads : List ℕ → List ℕ) (xs : List ℕ) (count : ℕ) (before : List ℕ) (start j : ℕ) (out : List ℕ) (at : ℕ) : Type 0 where
   pub same : length out ≡ length before
   pub upto : j ≤ count
-  pub left : count ≤ 6 → Left (heads (take count xs)) before start out at (heads (drop j (take count xs)))
+  pub left : count ≤ mostSources → Left (heads (take count xs)) before start out at (heads (drop j (take count xs)))
 
 module _ {heads : List ℕ → List ℕ} {xs : List ℕ} {count : ℕ} {before : List ℕ} {start : ℕ} where
   pub going-start : start ≤ top → Going heads xs count before start 0 before start
@@ -35,7 +36,7 @@ module _ {heads : List ℕ → List ℕ} {xs : List ℕ} {count : ℕ} {before :
   module _ {j : ℕ} {out : List ℕ} {at : ℕ} (v : Going heads xs count before start j out at) where
     pub going-more : (head : ℕ → List ℕ) → ((s : ℕ) (ss : List ℕ) → heads (s ∷ ss) ≡ head s ++ heads ss) → (j ≡ count → ⊥) → j < length xs
         → {a : List ℕ} {place : ℕ}
-        → length a ≡ length out → (count ≤ 6 → Spelt (head (getD xs j 0)) out at a place) → Going heads xs count before start (j + 1) a place
+        → length a ≡ length out → (count ≤ mostSources → Spelt (head (getD xs j 0)) out at a place) → Going heads xs count before start (j + 1) a place
     going-more head e n h l put = record {
       same = l ∙ v .same;
       upto = omega (arith, below);
@@ -46,8 +47,8 @@ module _ {heads : List ℕ → List ℕ} {xs : List ℕ} {count : ℕ} {before :
         below = omega (arith, v .upto)
 
     module _ (none : heads [] ≡ []) where
-      pub going-end : j ≡ count → count ≤ 6 → Spelt (heads (take count xs)) before start out at
+      pub going-end : j ≡ count → count ≤ mostSources → Spelt (heads (take count xs)) before start out at
       going-end e few = left-end (v .left few) (ap heads (sources-end xs count j (omega (arith, e))) ∙ none)
 
-      pub going-last : 6 ≤ j → count ≤ 6 → Spelt (heads (take count xs)) before start out at
+      pub going-last : mostSources ≤ j → count ≤ mostSources → Spelt (heads (take count xs)) before start out at
       going-last h few = left-end (v .left few) (ap heads (sources-end xs count j (omega (arith, few, h))) ∙ none)

@@ -1,6 +1,7 @@
 -- `put_links` puts one link after the other. Assumes nothing.
 use borrow.Author.Needs.{needs}
 use Prim.Native.Nat.{_-_}
+use Rattle.script.specs.Assertions.{mostSources}
 use Rattle.linked.specs.Links.{linkHeads}
 use Rattle.linked.proofs.Going.{Going, going-start, going-end, going-last}
 use Rattle.linked.proofs.Links.{links-go-on, no-links}
@@ -11,7 +12,7 @@ abbrev Inv-loop : tie.InvT-loop
 Inv-loop text₀ start x y sources at₀ j₀ text at j = Going (linkHeads x y) (sources .records) (sources .count) text₀ start j text at
 
 abbrev μ-loop : tie.MeasureT-loop
-μ-loop text₀ start x y sources at₀ j₀ text at j = 6 - j
+μ-loop text₀ start x y sources at₀ j₀ text at j = mostSources - j
 
 loop-holds : tie.Need-loop-holds Inv-loop μ-loop
 loop-holds c = going-start (search needs)
