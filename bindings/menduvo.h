@@ -43,7 +43,7 @@ extern "C" {
 #define MENDUVO_MOST_SCHEDULE_NUMBERS 272u  /* 16 block lengths, 256 input values */
 #define MENDUVO_MOST_ITEMS 12u              /* 8 globals, then 4 mutexes */
 #define MENDUVO_MOST_LISTING_BYTES 43392u   /* six for each number of the largest table, and for the two counts */
-#define MENDUVO_MOST_SMT_BYTES 2000000u      /* no text for solvers is longer */
+#define MENDUVO_MOST_SMT_BYTES 2000000u     /* no text for solvers is longer */
 
 /*
  * An answer.
