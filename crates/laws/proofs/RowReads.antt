@@ -9,11 +9,12 @@ use lib.Dec.{eqb, ltb}
 use Rattle.model.specs.Word.{nonzero}
 use Rattle.model.specs.Limits.{localCount}
 use Rattle.model.specs.CaseFile.{Line, Case, itemCount, lineAt}
-use Rattle.model.specs.Line.{noName, guardName, targetName, Reads, readsOf, guardTrue, valueOf}
-use Rattle.model.specs.Assignment.{Assignment}
+use Rattle.model.specs.Line.{noName, guardName, targetName, Reads, readsOf, guardTrue, valueOf, unrunValue}
+use Rattle.model.specs.Assignment.{Assignment, wasRun}
 use Rattle.model.specs.Copies.{copyOf, readName, readAfter, readsAfter}
 use Rattle.model.specs.Table.{valueRow}
 use Rattle.model.specs.Holds.{readsWith, holds}
+use Rattle.laws.specs.RowValue.{valueAfter}
 use Rattle.laws.proofs.Views.{LtView, below, above, lt-view}
 use Rattle.laws.proofs.Copies.{readName-no-name}
 
@@ -37,9 +38,10 @@ module _ (case : Case) (few : localCount + itemCount case ≤ noName) (α : Assi
   row-reads earlier l = ap (λ (f : ℕ → ℕ). readsOf (case .G) f l (α .value (l .number))) (fun-ext (copy-reads (α .block (l .number)) earlier))
 
   pub value-row-holds : (earlier : List Line) (l : Line) → lineAt case (l .number) ≡ l
-      → holds case α (valueRow case earlier l) ≡ eqb (α .value (l .number)) (valueOf l (readsAfter case α earlier l))
+      → holds case α (valueRow case earlier l) ≡ eqb (α .value (l .number)) (valueAfter case α earlier l)
   unfolding holds
-  value-row-holds earlier l found = rw found (ap (λ (reads : Reads). eqb (α .value (l .number)) (valueOf l reads)) (row-reads earlier l))
+  value-row-holds earlier l found =
+      rw found (ap (λ (reads : Reads). eqb (α .value (l .number)) (cond (wasRun case α (l .number)) (valueOf l reads) (unrunValue (l .kind)))) (row-reads earlier l))
 
   -- what constraint 5 reads of a lock
   abbrev pub lockReads : List Line → Line → Reads

@@ -2,14 +2,14 @@
 -- Assumes nothing. Met again where the schedule is written, and where its numbers are held below a bound.
 use mathlib.Core.Path.{_≡_, refl, ap}
 use Prim.Native.Nat.{ℕ, suc, _≤_}
-use mathlib.Core.Bool.{Bool, true, false, cond}
+use mathlib.Core.Bool.{Bool, true, false, cond, _&&_}
 use mathlib.Core.List.{List, [], _∷_}
 use native.Mathlib.Omega.{arith}
 use lib.Dec.{eqb}
 use lib.ListN.{length, length-append}
 use Rattle.model.specs.CaseFile.{Line, Case}
 use Rattle.model.specs.Line.{guardTrue, isInput}
-use Rattle.model.specs.Assignment.{Assignment}
+use Rattle.model.specs.Assignment.{Assignment, wasRun}
 use Rattle.model.specs.Copies.{readsAfter}
 use Rattle.model.specs.Schedule.{inputLines, allInputLines, linesInBlock, decodedValues, allDecodedValues}
 
@@ -18,7 +18,7 @@ module _ (case : Case) (α : Assignment) where
   unfolding decodedValues inputLines
   length-of-thread earlier [] = refl
   length-of-thread earlier (l ∷ ls) =
-      go (isInput (l .kind)) (cond (guardTrue l (readsAfter case α earlier l)) (α .value (l .number)) 0) (length-of-thread (l ∷ earlier) ls)
+      go (isInput (l .kind)) (cond (wasRun case α (l .number) && guardTrue l (readsAfter case α earlier l)) (α .value (l .number)) 0) (length-of-thread (l ∷ earlier) ls)
     where
       rest : List ℕ
       rest = decodedValues case α (l ∷ earlier) ls

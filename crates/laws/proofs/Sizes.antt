@@ -18,7 +18,7 @@ use Rattle.model.specs.Line.{isInput}
 use Rattle.model.specs.Assignment.{variables}
 use Rattle.model.specs.Table.{Row, lineOrderRows, orderRows, demandRows, valueRows, allOrderRows, allValueRows, itemRows, blockRows, runRows, goalRow, table, numbersOf}
 use Rattle.model.specs.Machine.{Outcome, refused14, cutOff, violated, clean}
-use Rattle.model.specs.Schedule.{inputLines, allInputLines, scheduleSize, blockLengths, lengthsAddUp, runOf}
+use Rattle.model.specs.Schedule.{inputLines, allInputLines, scheduleSize, blockLengths, lengthsFit, runOf}
 use Rattle.model.specs.Accept.{sizeOk, threadsOk, switchesOk, itemsOk, absentOk, linksOk, reachedOk, lengthsOk, brokenRecord, verdict}
 use Rattle.model.specs.Answers.{encoded, failedIn, decoded, answerOfRun, replayed, verdictNumbers, encodedNumbers, decodedNumbers, replayedNumbers}
 use Rattle.model.specs.declared.Verdict.{Verdict}
@@ -267,11 +267,11 @@ run-not-10 (cutOff k items) = λ ten. omega arith
 run-not-10 (violated k s) = λ ten. omega arith
 run-not-10 (clean s) = λ ten. omega arith
 
-replayed-not-10 : (sized adds-up : Bool) (outcome : Outcome)
-    → replayedNumbers (unless sized (replayeds.Refused 12 0) (unless adds-up (replayeds.Refused 13 0) (answerOfRun outcome))) .refusal ≢ 10
+replayed-not-10 : (sized fit : Bool) (outcome : Outcome)
+    → replayedNumbers (unless sized (replayeds.Refused 12 0) (unless fit (replayeds.Refused 13 0) (answerOfRun outcome))) .refusal ≢ 10
 replayed-not-10 true true outcome = run-not-10 outcome
 replayed-not-10 true false outcome = λ ten. omega arith
-replayed-not-10 false adds-up outcome = λ ten. omega arith
+replayed-not-10 false fit outcome = λ ten. omega arith
 
 pub never-too-short : (bytes : List ℕ) → NeverTooShort bytes
 unfolding encoded decoded replayed
@@ -294,6 +294,6 @@ never-too-short bytes = record {
     by-items : (schedule : List ℕ) (room : ℕ) → mostItems ≤ room → (v : Verdict) → verdict bytes ≡ v → replayedNumbers (replayed bytes schedule room) .refusal ≢ 10
     by-items schedule room h verdicts.Accepted e =
         rw (on-accepted _ _ _ e, le-leb (itemCount (caseOf bytes)) room (omega (arith, item-numbers bytes (accepted-of bytes e))))
-        (replayed-not-10 (eqb (length schedule) (scheduleSize (caseOf bytes))) (lengthsAddUp (caseOf bytes) (blockLengths (caseOf bytes) schedule))
+        (replayed-not-10 (eqb (length schedule) (scheduleSize (caseOf bytes))) (lengthsFit (caseOf bytes) (blockLengths (caseOf bytes) schedule))
         (runOf (caseOf bytes) schedule))
     by-items schedule room h (verdicts.Refused number place) e = rw (on-refused _ _ _ number place e) (refused-not-10 bytes number place e)

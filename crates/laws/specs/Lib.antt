@@ -4,6 +4,7 @@ pub mod Accepted
 pub mod Order
 pub mod AllHold
 pub mod RowCounts
+pub mod RowValue
 pub mod Written
 pub mod Bounded
 pub mod Sizes

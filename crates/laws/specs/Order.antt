@@ -1,7 +1,7 @@
 -- What holds of every line of a thread, and the order of a thread's block numbers: what constraints 1 to 3 say.
 -- Assumes nothing.
 use mathlib.Core.Path.{_≡_}
-use Prim.Native.Nat.{ℕ, _%_, _≤_, _<_}
+use Prim.Native.Nat.{ℕ, suc, _%_, _≤_, _<_}
 use mathlib.Core.List.{List, [], _∷_}
 use Rattle.model.specs.CaseFile.{Line, Case}
 
@@ -18,11 +18,12 @@ AllThreads P (ls ∷ threads) = AllLines P ls × AllThreads P threads
 abbrev pub Positive : Line → Type 0
 Positive l = 0 < l .number
 
--- Constraints 1, 2 and 3 at one line: its block number x is at least that of the line before, at most n, and the thread's.
+-- Constraints 1, 2 and 3 at one line: its block number x is at least that of the line before, at most n + 1, and the thread's unless it
+-- is n + 1, the number of a line that was not run.
 pub record InOrder (case : Case) (t low x : ℕ) : Type 0 where
   pub from : low ≤ x
-  pub upto : x ≤ case .n
-  pub mine : x % case .T ≡ t
+  pub upto : x ≤ suc (case .n)
+  pub mine : x ≤ case .n → x % case .T ≡ t
 
 -- Along a thread's lines, whose block numbers start from `low`.
 abbrev pub Ordered : Case → (ℕ → ℕ) → ℕ → ℕ → List Line → Type 0

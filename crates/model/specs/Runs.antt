@@ -1,4 +1,4 @@
--- Document 01, "Runs" and "What demand 3 compares": the run of a schedule step by step; when it is complete, is legal and violates.
+-- Document 01, "Runs" and "What demand 3 compares": the run of a schedule step by step; when it is legal and violates, as Two changes it.
 -- Assumes nothing.
 use mathlib.Core.Path.{_≡_}
 use Prim.Native.Nat.{ℕ, zero, suc, _%_, _≤_, _<_}
@@ -9,8 +9,8 @@ use lib.ListN.{length}
 use Rattle.model.specs.Word.{wordSize, AllBelow}
 use Rattle.model.specs.CaseFile.{Line, Case, linesOf}
 use Rattle.model.specs.Line.{Reads, valueOf, stops, breaks, strayInput}
-use Rattle.model.specs.Machine.{Memory, State, readsIn, stepped, start, restIn, memoryIn, afterBlock}
-use Rattle.model.specs.Schedule.{blockLengths, givenIn, scheduleSize, stepsOf, lengthsAddUp}
+use Rattle.model.specs.Machine.{Memory, State, readsIn, stepped, start, restIn, memoryIn, afterBlock, firstStrayLeft}
+use Rattle.model.specs.Schedule.{blockLengths, givenIn, scheduleSize, stepsOf, lengthsFit}
 
 -- "A step takes the thread's next line": the block that it is in, the line, and the memory that the line finds.
 pub record Step : Type 0 where
@@ -100,11 +100,7 @@ abbrev pub linesRun : Case → ℕ → List Step → List Line
 linesRun case t [] = []
 linesRun case t (s ∷ steps) = cond (eqb t (s .block % case .T)) (s .line ∷ linesRun case t steps) (linesRun case t steps)
 
--- "A run is complete when every thread has run all its lines, in chain order."
-abbrev pub Complete : Case → List ℕ → Type 0
-Complete case schedule = (t : ℕ) → t < case .T → linesRun case t (runSteps case schedule) ≡ linesOf case t
-
--- "It is legal when every guarded-in assume holds and every guarded-in lock finds its mutex at 0."
+-- Two: "A run is legal when nothing cuts it off": "every guarded-in assume holds and every guarded-in lock finds its mutex at 0."
 abbrev pub Legal : Case → List ℕ → Type 0
 Legal case schedule = None (ends case (givenIn case schedule)) (courseOf case schedule)
 
@@ -126,9 +122,21 @@ NoneStrays case schedule = None (strays case (givenIn case schedule)) (runSteps 
 abbrev pub FirstStray : Case → List ℕ → ℕ → Type 0
 FirstStray case schedule k = FirstAt (strays case (givenIn case schedule)) (runSteps case schedule) k
 
--- "It violates when it is complete and legal and some guarded-in assert is zero"
+-- Two: "An unrun input has value 0, otherwise 14 at the first such record by thread and chain": its record, among the lines that the
+-- blocks leave; 0 if there is none.
+abbrev pub linesLeft : Case → List ℕ → List (List Line)
+linesLeft case schedule = lastState case (givenIn case schedule) 0 (blockLengths case schedule) (start case) .rests
+
+abbrev pub unrunInput : Case → List ℕ → ℕ
+unrunInput case schedule = firstStrayLeft (givenIn case schedule) (linesLeft case schedule)
+
+-- ".. looked for after the last step, so that a cut-off and a 14 on the way come first": how 14 meets a schedule at record k.
+pub data Meets14 (case : Case) (schedule : List ℕ) (k : ℕ) : Type 0 where
+  on-the-way : FirstStray case schedule k → Meets14 case schedule k
+  after-the-last-step : NoneStrays case schedule → Legal case schedule → 0 < k → unrunInput case schedule ≡ k → Meets14 case schedule k
+
+-- Two: "and violates when it also contains a zero assert"
 pub record Violates (case : Case) (schedule : List ℕ) : Type 0 where
-  pub complete : Complete case schedule
   pub legal : Legal case schedule
   pub some-broken : (k : ℕ) × FirstBroken case schedule k
 
@@ -139,9 +147,11 @@ pub record InBlocks (case : Case) (schedule : List ℕ) : Type 0 where
   pub has-size : length schedule ≡ scheduleSize case
   pub few-steps : (t : ℕ) → t < case .T → stepsOf case t 0 (blockLengths case schedule) ≤ length (linesOf case t)
   pub none-strays : NoneStrays case schedule
+  pub none-left : Legal case schedule → unrunInput case schedule ≡ 0
 
 -- "The replayer takes a schedule when none of refusals 12 to 14 meets it"
 pub record Takes (case : Case) (schedule : List ℕ) : Type 0 where
   pub not-12 : length schedule ≡ scheduleSize case
-  pub not-13 : lengthsAddUp case (blockLengths case schedule) ≡ true
+  pub not-13 : lengthsFit case (blockLengths case schedule) ≡ true
   pub not-14 : NoneStrays case schedule
+  pub nor-after : Legal case schedule → unrunInput case schedule ≡ 0

@@ -8,7 +8,7 @@ use lib.Dec.{eqb, ltb, leb}
 use lib.ListN.{getD}
 use Rattle.model.specs.Limits.{localCount}
 use Rattle.model.specs.CaseFile.{Kind, compute, store, load, input, assert, assume, lock, unlock, Line, Case, itemCount, linesOf, lineAt}
-use Rattle.model.specs.Line.{itemName, operandA, targetName, isInput}
+use Rattle.model.specs.Line.{itemName, operandA, targetName, unrunValue, isInput}
 use Rattle.model.specs.Table.{Row, table}
 use Rattle.model.specs.Assignment.{variables}
 use Rattle.model.specs.Holds.{fromRecord}
@@ -171,11 +171,19 @@ guardedOut assume case sources l target = equal (valueOf (l .number)) (constant 
 guardedOut lock case sources l target = oldTarget case sources l target
 guardedOut unlock case sources l target = oldTarget case sources l target
 
--- A 4, a 5 and a 6.
+-- "A line with block number n + 1 was not run"
+abbrev pub notRun : Case → ℕ → Formula
+notRun case k = equal (blockOf k) (constant (suc (case .n)))
+
+-- A 4 and a 5 of a line that was run, and a 6.
 unfoldable pub lineAssertion : Case → List ℕ → Line → ℕ → ℕ → ℕ → ℕ → Formula
 lineAssertion case sources l guard a b target =
     cond (eqb (l .guard) 0) (guardedIn (l .kind) case sources l a b)
     (select (guardTrue l guard) (guardedIn (l .kind) case sources l a b) (guardedOut (l .kind) case sources l target))
+
+unfoldable pub valueAssertion : Case → List ℕ → ℕ → ℕ → ℕ → ℕ → ℕ → Formula
+valueAssertion case sources k guard a b target =
+    select (notRun case k) (equal (valueOf k) (constant (unrunValue (lineAt case k .kind)))) (lineAssertion case sources (lineAt case k) guard a b target)
 
 unfoldable pub mutexFree : Case → List ℕ → Line → ℕ → ℕ → Formula
 mutexFree case sources l guard target =
@@ -221,11 +229,11 @@ someThreadBreaks (ls ∷ threads) = someBreaks ls (someThreadBreaks threads)
 -- The assertion of a row, by its kind.
 unfoldable pub assertionOf : Case → List ℕ → Row → Formula
 assertionOf case sources w =
-    cond (eqb (w .kind) 3) (equal (apply bvurem (blockOf (w .one)) (constant (w .two))) (constant (w .three)))
+    cond (eqb (w .kind) 3) (join disjunction (notRun case (w .one)) (equal (apply bvurem (blockOf (w .one)) (constant (w .two))) (constant (w .three))))
     (cond (eqb (w .kind) 1) (test bvule (blockOf (w .one)) (blockOf (w .two)))
-    (cond (eqb (w .kind) 2) (test bvule (blockOf (w .one)) (constant (w .two)))
-    (cond (eqb (w .kind) 4) (lineAssertion case sources (lineAt case (w .one)) (w .two) (w .three) (w .four) (w .five))
-    (cond (eqb (w .kind) 5) (demandAssertion (lineAt case (w .one) .kind) case sources (lineAt case (w .one)) (w .two) (w .three))
+    (cond (eqb (w .kind) 2) (test bvule (blockOf (w .one)) (constant (suc (w .two))))
+    (cond (eqb (w .kind) 4) (valueAssertion case sources (w .one) (w .two) (w .three) (w .four) (w .five))
+    (cond (eqb (w .kind) 5) (join disjunction (notRun case (w .one)) (demandAssertion (lineAt case (w .one) .kind) case sources (lineAt case (w .one)) (w .two) (w .three)))
     (cond (eqb (w .kind) 6) (walkBack case sources (w .two) (w .one) (fromRecord (w .three) (reverse (linesOf case (w .two % case .T)))))
     (cond (eqb (w .kind) 7) (someThreadBreaks (case .threads)) (truth false)))))))
 
