@@ -1,1 +1,2 @@
 pub mod BlockValues
+pub mod Run

@@ -1,13 +1,18 @@
-// What is read of an assignment: the block number and the value of a record, and the items' values where a block starts.
+// What is read of an assignment: the block number and the value of a record, whether it was run, and the items' values where a block
+// starts.
 ghost use mathlib.Core.Path.{_≡_};
 ghost use Prim.Native.Nat.{_-_, _*_};
 ghost use Rattle.model.specs.Word.{wordSize};
 ghost use Rattle.model.specs.Limits.{mostItems};
+ghost use Rattle.model.specs.CaseFile.{caseOf};
+ghost use Rattle.model.specs.Assignment.{wasRun};
+ghost use Rattle.laws.specs.Accepted.{Accepted};
 ghost use Rattle.laws.specs.Bounded.{Bounded};
 ghost use Rattle.assignment.specs.Numbers.{recordBlock, recordValue, Filled, numberFrom, StartOf, HasItems, ItemsFrom, AtBlock};
 use case_file::first_items;
 use case_file::items;
 use case_file::records;
+use case_file::switches;
 use model::ITEMS;
 use numbers::at;
 
@@ -33,6 +38,14 @@ pub fn value_of(assignment: &[u16], k: u16) -> u16
     ensures { λ r. ⌜ r ≡ recordValue (now (assignment .entry)) k ⌝ }
 {
     at(assignment, start_of(k) + 1)
+}
+
+// Whether a line with block number i was run: a line that was not has n + 1. Nothing is read at a line before this is asked.
+pub fn was_run(case: &[u8], i: u16) -> bool
+    requires { ⌜ Accepted (now case) ⌝ }
+    ensures { λ r. ⌜ r ≡ wasRun (caseOf (now (case .entry))) i ⌝ }
+{
+    i != switches(case) + 1
 }
 
 // As many numbers as there can be items, from a place on: the length is fixed, so that they are copied at once.

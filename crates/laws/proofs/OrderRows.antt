@@ -19,21 +19,23 @@ use Rattle.laws.proofs.Views.{EqView, same, diff, eq-view}
 use Rattle.laws.proofs.AllHold.{all-hold-append, all-hold-split}
 
 -- Constraint 3 at a line with block number x.
-mine-of-three : (case : Case) (t x : ℕ) → not (not (eqb x (suc (case .n)))) || eqb (x % case .T) t ≡ true → x ≤ case .n → x % case .T ≡ t
+mine-of-three : (case : Case) (t x : ℕ) → not (wasRun case x) || eqb (x % case .T) t ≡ true → x ≤ case .n → x % case .T ≡ t
+unfolding wasRun
 mine-of-three case t x h few = eqb-true (x % case .T) t (rw (ne-eqb x (suc (case .n)) (λ e. absurd (omega (arith, e)))) at h)
 
 three-of-mine : (case : Case) (t x : ℕ) → x ≤ suc (case .n) → (x ≤ case .n → x % case .T ≡ t)
-    → not (not (eqb x (suc (case .n)))) || eqb (x % case .T) t ≡ true
+    → not (wasRun case x) || eqb (x % case .T) t ≡ true
+unfolding wasRun
 three-of-mine case t x upto mine = go (eq-view x (suc (case .n)))
   where
-    go : EqView x (suc (case .n)) → not (not (eqb x (suc (case .n)))) || eqb (x % case .T) t ≡ true
+    go : EqView x (suc (case .n)) → not (wasRun case x) || eqb (x % case .T) t ≡ true
     go (same p q) = rw q refl
     go (diff p q) = rw q (eq-eqb (x % case .T) t (mine (omega (arith, upto, p))))
 
 module _ (case : Case) (α : Assignment) where
   ordered-from : (t low : ℕ) (earlier : List Line) (l : Line) (ls : List Line) → low ≤ α .block (l .number)
       → AllHold case α (orderRows case t earlier (l ∷ ls)) → Ordered case (α .block) t low (l ∷ ls)
-  unfolding orderRows lineOrderRows followRow holds wasRun
+  unfolding orderRows lineOrderRows followRow holds
   ordered-from t low earlier l [] from h =
       (record { from = from; upto = leb-true (α .block (l .number)) (suc (case .n)) (h .1 .0); mine = mine-of-three case t (α .block (l .number)) (h .0) }, tt)
   ordered-from t low earlier l (l' ∷ ls) from h =
@@ -46,7 +48,7 @@ module _ (case : Case) (α : Assignment) where
   ordered-of-rows t earlier (l ∷ ls) h = ordered-from t 0 earlier l ls (omega arith) h
 
   rows-of-ordered : (t low : ℕ) (earlier ls : List Line) → Ordered case (α .block) t low ls → AllHold case α (orderRows case t earlier ls)
-  unfolding orderRows lineOrderRows followRow holds wasRun
+  unfolding orderRows lineOrderRows followRow holds
   rows-of-ordered t low earlier [] o = tt
   rows-of-ordered t low earlier (l ∷ []) o =
       (three-of-mine case t (α .block (l .number)) (o .0 .upto) (o .0 .mine), (le-leb (α .block (l .number)) (suc (case .n)) (o .0 .upto), tt))

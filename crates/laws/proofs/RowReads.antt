@@ -41,7 +41,7 @@ module _ (case : Case) (few : localCount + itemCount case ≤ noName) (α : Assi
       → holds case α (valueRow case earlier l) ≡ eqb (α .value (l .number)) (valueAfter case α earlier l)
   unfolding holds
   value-row-holds earlier l found =
-      rw found (ap (λ (reads : Reads). eqb (α .value (l .number)) (cond (wasRun case α (l .number)) (valueOf l reads) (unrunValue (l .kind)))) (row-reads earlier l))
+      rw found (ap (λ (reads : Reads). eqb (α .value (l .number)) (cond (wasRun case (α .block (l .number))) (valueOf l reads) (unrunValue (l .kind)))) (row-reads earlier l))
 
   -- what constraint 5 reads of a lock
   abbrev pub lockReads : List Line → Line → Reads

@@ -18,7 +18,7 @@ module _ (case : Case) (α : Assignment) where
   unfolding decodedValues inputLines
   length-of-thread earlier [] = refl
   length-of-thread earlier (l ∷ ls) =
-      go (isInput (l .kind)) (cond (wasRun case α (l .number) && guardTrue l (readsAfter case α earlier l)) (α .value (l .number)) 0) (length-of-thread (l ∷ earlier) ls)
+      go (isInput (l .kind)) (cond (wasRun case (α .block (l .number)) && guardTrue l (readsAfter case α earlier l)) (α .value (l .number)) 0) (length-of-thread (l ∷ earlier) ls)
     where
       rest : List ℕ
       rest = decodedValues case α (l ∷ earlier) ls

@@ -9,4 +9,4 @@ use Rattle.model.specs.Assignment.{Assignment, wasRun}
 use Rattle.model.specs.Copies.{readsAfter}
 
 abbrev pub valueAfter : Case → Assignment → List Line → Line → ℕ
-valueAfter case α earlier l = cond (wasRun case α (l .number)) (valueOf l (readsAfter case α earlier l)) (unrunValue (l .kind))
+valueAfter case α earlier l = cond (wasRun case (α .block (l .number))) (valueOf l (readsAfter case α earlier l)) (unrunValue (l .kind))
