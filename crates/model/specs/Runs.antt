@@ -100,7 +100,8 @@ abbrev pub linesRun : Case → ℕ → List Step → List Line
 linesRun case t [] = []
 linesRun case t (s ∷ steps) = cond (eqb t (s .block % case .T)) (s .line ∷ linesRun case t steps) (linesRun case t steps)
 
--- Two: "A run is legal when nothing cuts it off": "every guarded-in assume holds and every guarded-in lock finds its mutex at 0."
+-- Two: "A run is legal when nothing cuts it off", that is "when every guarded-in assume holds and every guarded-in lock finds its mutex
+-- at 0."
 abbrev pub Legal : Case → List ℕ → Type 0
 Legal case schedule = None (ends case (givenIn case schedule)) (courseOf case schedule)
 
@@ -130,7 +131,7 @@ linesLeft case schedule = lastState case (givenIn case schedule) 0 (blockLengths
 abbrev pub unrunInput : Case → List ℕ → ℕ
 unrunInput case schedule = firstStrayLeft (givenIn case schedule) (linesLeft case schedule)
 
--- ".. looked for after the last step, so that a cut-off and a 14 on the way come first": how 14 meets a schedule at record k.
+-- Two: ".. looked for after the last step", and so after a cut-off and a 14 on the way: how 14 meets a schedule at record k.
 pub data Meets14 (case : Case) (schedule : List ℕ) (k : ℕ) : Type 0 where
   on-the-way : FirstStray case schedule k → Meets14 case schedule k
   after-the-last-step : NoneStrays case schedule → Legal case schedule → 0 < k → unrunInput case schedule ≡ k → Meets14 case schedule k
