@@ -135,7 +135,7 @@ module _ (case : Case) (sources : List ℕ) where
           omega (
             arith,
             line-most case sources few reads own small l found (copyOf (case .G) (guardName l) earlier) (copyOf (case .G) (operandA l) earlier)
-            (copyOf (case .G) (operandB l) earlier) (copyOf (case .G) (targetName (case .G) l) earlier),
+                (copyOf (case .G) (operandB l) earlier) (copyOf (case .G) (targetName (case .G) l) earlier),
             demand-size (l .kind) earlier l (ap (λ (m : Line). m .kind) found),
           )
 
