@@ -5,10 +5,11 @@ use Prim.Native.Nat.{ℕ}
 use mathlib.Core.List.{List, [], _∷_}
 use lib.ListN.{take, drop}
 use Rattle.model.specs.CaseFile.{caseOf}
+use Rattle.model.specs.Line.{unrunValue}
 use Rattle.model.specs.Accept.{verdict}
 use Rattle.model.specs.declared.Verdict.the-variants.{Accepted}
 use Rattle.smt.specs.Spelling.{fourHex, termText, formulaText, declaration, declarations, assertion, assertionLines, scriptText}
-use Rattle.script.specs.Assertions.{valueBefore, localWith, sourcesFrom, sourcesOf, linked, same, blocksFrom, readBefore, readItem, readName, guardTrue, operand, comparison, operation, expression, factsWith, facts, withFacts, isExpression, isTruth, guardedIn, guardedOut, lineAssertion, mutexFree, demandAssertion, walkBack, orBreaks, someBreaks, someThreadBreaks, assertionOf, assertionsOf, scriptOf}
+use Rattle.script.specs.Assertions.{valueBefore, localWith, sourcesFrom, sourcesOf, linked, same, blocksFrom, readBefore, readItem, readName, guardTrue, operand, comparison, operation, expression, factsWith, facts, withFacts, isExpression, isTruth, guardedIn, guardedOut, lineAssertion, valueAssertion, mutexFree, demandAssertion, walkBack, orBreaks, someBreaks, someThreadBreaks, assertionOf, assertionsOf, scriptOf}
 use Rattle.script.specs.Text.{smtText}
 use Rattle.correspondence.proofs.Computing.{computing}
 use Rattle.correspondence.proofs.CaseA.{bytesOf, caseA, codesOf, linesOfText}
@@ -16,10 +17,10 @@ use Rattle.correspondence.proofs.CaseBytes.{header, rec, file}
 
 -- `unfolding spelling` lets the text of a case compute.
 unfoldable spelling : Type 0
-unfolding computing
+unfolding computing unrunValue
     fourHex termText formulaText declaration declarations assertion assertionLines scriptText
     valueBefore localWith sourcesFrom sourcesOf linked same blocksFrom readBefore readItem readName guardTrue operand comparison operation expression
-    factsWith facts withFacts isExpression isTruth guardedIn guardedOut lineAssertion mutexFree demandAssertion walkBack
+    factsWith facts withFacts isExpression isTruth guardedIn guardedOut lineAssertion valueAssertion mutexFree demandAssertion walkBack
     orBreaks someBreaks someThreadBreaks assertionOf assertionsOf scriptOf
     smtText
 spelling = Unit
@@ -40,21 +41,21 @@ smtTextA = linesOfText (
     ∷ "(declare-fun v9 () (_ BitVec 16))"
     ∷ "(declare-fun v10 () (_ BitVec 16))"
     ∷ "(declare-fun v11 () (_ BitVec 16))"
-    ∷ "(assert (= (bvurem v0 #x0002) #x0000))"
+    ∷ "(assert (or (= v0 #x0003) (= (bvurem v0 #x0002) #x0000)))"
     ∷ "(assert (bvule v0 v2))"
-    ∷ "(assert (= (bvurem v2 #x0002) #x0000))"
+    ∷ "(assert (or (= v2 #x0003) (= (bvurem v2 #x0002) #x0000)))"
     ∷ "(assert (bvule v2 v4))"
-    ∷ "(assert (= (bvurem v4 #x0002) #x0000))"
+    ∷ "(assert (or (= v4 #x0003) (= (bvurem v4 #x0002) #x0000)))"
     ∷ "(assert (bvule v4 v6))"
-    ∷ "(assert (= (bvurem v6 #x0002) #x0000))"
-    ∷ "(assert (bvule v6 #x0002))"
-    ∷ "(assert (= (bvurem v8 #x0002) #x0001))"
-    ∷ "(assert (bvule v8 #x0002))"
-    ∷ "(assert (ite (= v0 #x0000) (= v1 #x0000) (ite (= v0 #x0002) (= v1 v11) true)))"
-    ∷ "(assert (= v3 (bvadd v1 #x0001)))"
-    ∷ "(assert (ite (= v2 v4) (= v5 v3) (ite (= v4 #x0000) (= v5 #x0000) (ite (= v4 #x0002) (= v5 v11) true))))"
-    ∷ "(assert (= v7 (ite (= (ite (= v5 #x0001) #x0001 #x0000) #x0000) #x0000 #x0001)))"
-    ∷ "(assert (= v9 #x0005))"
+    ∷ "(assert (or (= v6 #x0003) (= (bvurem v6 #x0002) #x0000)))"
+    ∷ "(assert (bvule v6 #x0003))"
+    ∷ "(assert (or (= v8 #x0003) (= (bvurem v8 #x0002) #x0001)))"
+    ∷ "(assert (bvule v8 #x0003))"
+    ∷ "(assert (ite (= v0 #x0003) (= v1 #x0000) (ite (= v0 #x0000) (= v1 #x0000) (ite (= v0 #x0002) (= v1 v11) true))))"
+    ∷ "(assert (ite (= v2 #x0003) (= v3 #x0000) (= v3 (bvadd v1 #x0001))))"
+    ∷ "(assert (ite (= v4 #x0003) (= v5 #x0000) (ite (= v2 v4) (= v5 v3) (ite (= v4 #x0000) (= v5 #x0000) (ite (= v4 #x0002) (= v5 v11) true)))))"
+    ∷ "(assert (ite (= v6 #x0003) (= v7 #x0001) (= v7 (ite (= (ite (= v5 #x0001) #x0001 #x0000) #x0000) #x0000 #x0001))))"
+    ∷ "(assert (ite (= v8 #x0003) (= v9 #x0000) (= v9 #x0005)))"
     ∷ "(assert (ite (= v2 #x0000) (= v10 v3) (= v10 #x0000)))"
     ∷ "(assert (ite (= v8 #x0001) (= v11 v9) (= v11 v10)))"
     ∷ "(assert (or (= v7 #x0000) false))"
@@ -75,8 +76,8 @@ unfolding computing linkedCase
 linked-case-accepted = refl
 
 pub linked-lines : assertionLines (take 2 (drop 7 (scriptOf (caseOf linkedCase) .assertions))) ≡ linesOfText (
-    "(assert (and (not (xor (= v3 v1) (= v1 v1))) (= v3 v1)))"
-    ∷ "(assert (ite (= v2 v4) (and (not (xor (= v5 v1) (= v3 v1))) (= v5 v3)) (ite (= v4 #x0000) (= v5 #x0000) true)))"
+    "(assert (ite (= v2 #x0002) (= v3 #x0000) (and (not (xor (= v3 v1) (= v1 v1))) (= v3 v1))))"
+    ∷ "(assert (ite (= v4 #x0002) (= v5 #x0000) (ite (= v2 v4) (and (not (xor (= v5 v1) (= v3 v1))) (= v5 v3)) (ite (= v4 #x0000) (= v5 #x0000) true))))"
     ∷ [])
 unfolding spelling linkedCase codesOf linesOfText
 linked-lines = refl

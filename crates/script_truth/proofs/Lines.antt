@@ -1,4 +1,5 @@
--- Constraints 4 and 5 of a line: the assertion is true exactly if the constraint holds, where the line is in one of its thread's blocks.
+-- What constraints 4 and 5 ask of a line that was run: the formula is true exactly if it is so, where the line is in one of its thread's
+-- blocks.
 -- Assumes nothing. Met again in Rows.
 use mathlib.Core.Path.{_≡_, refl, sym, ap, _∙_}
 use Prim.Native.Nat.{ℕ}

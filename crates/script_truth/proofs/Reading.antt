@@ -1,5 +1,5 @@
 -- What a line reads: "x is what is read" is true exactly if x has the value that the model reads. Only the blocks of the line's own
--- thread are tested, so the line has to be in one of them.
+-- thread are tested, so the line has to be in one of them, as a line is that was run.
 -- Assumes nothing. Met again in Lines.
 use mathlib.Core.Path.{_≡_, refl, ap, _∙_}
 use Prim.Native.Nat.{ℕ, zero, suc, _+_, _-_, _*_, _/_, _%_, _≤_, _<_}
@@ -20,7 +20,7 @@ use Rattle.script.specs.Assertions
 use Rattle.laws.proofs.Views.{EqView, same, diff, eq-view, LtView, below, above, lt-view}
 use Rattle.script_truth.proofs.Links.{value-cond, same-value}
 
--- A block number that is one of thread t's: constraints 2 and 3.
+-- A block number that is one of thread t's: constraints 2 and 3 of a line that was run.
 pub record OwnBlock (case : Case) (t i : ℕ) : Type 0 where
   pub upto : i ≤ case .n
   pub mine : i % case .T ≡ t

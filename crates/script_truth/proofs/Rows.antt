@@ -1,22 +1,23 @@
--- The assertions of the rows, kind by kind: that of a 4 or a 5 is true exactly if the row holds where its line is in one of its
--- thread's blocks, and the others whatever the assignment is.
+-- The assertions of the rows, kind by kind: that of a 4 or a 5 is true exactly if the row holds where its line, if it was run, is in
+-- one of its thread's blocks, and the others whatever the assignment is.
 -- Assumes nothing. Met again in Truth.
 use mathlib.Core.Path.{_≡_, refl, sym, ap, _∙_}
+use mathlib.Core.Logic.{_≢_}
 use Prim.Native.Nat.{ℕ, zero, suc, _%_, _<_}
-use mathlib.Core.Bool.{Bool, true, false, cond, _||_, or-assoc}
+use mathlib.Core.Bool.{Bool, true, false, cond, not, _||_, or-assoc}
 use mathlib.Core.List.{List, [], _∷_, _++_, reverse}
 use native.Mathlib.Omega.{arith}
 use lib.Dec.{eqb}
 use borrow.Author.Tests.{ne-eqb}
 use Rattle.model.specs.CaseFile.{Kind, compute, store, load, input, assert, assume, lock, unlock, Line, Case, linesOf, itemCount, lineAt}
 use Rattle.model.specs.Line.{itemName, targetName, Reads, breaks}
-use Rattle.model.specs.Assignment.{Assignment, assignmentOf}
+use Rattle.model.specs.Assignment.{Assignment, assignmentOf, wasRun}
 use Rattle.model.specs.Copies.{readsAfter, walkBack}
-use Rattle.model.specs.Table.{Row, followRow, lineOrderRows, orderRows, valueRow, demandRows, valueRows, allOrderRows, allValueRows, itemRows, blockRows, goalRow}
+use Rattle.model.specs.Table.{Row, row, followRow, lineOrderRows, orderRows, valueRow, demandRows, valueRows, allOrderRows, allValueRows, itemRows, blockRows, goalRow}
 use Rattle.model.specs.Holds.{someBreaks, someThreadBreaks, holds}
 use Rattle.smt.specs.Term.{Formula, value, meets, tested, joined, resultOf}
 use Rattle.smt.specs.Script.{environment}
-use Rattle.script.specs.Assertions.{orBreaks, assertionOf}
+use Rattle.script.specs.Assertions.{valueAssertion, orBreaks, assertionOf}
 use Rattle.script.specs.Assertions
 use Rattle.laws.specs.Order.{AllLines, AllThreads}
 use Rattle.laws.proofs.Views.{EqView, same, diff, eq-view}
@@ -25,11 +26,29 @@ use Rattle.script_truth.proofs.Reading.{OwnBlock, before-value}
 use Rattle.script_truth.proofs.Fields.{Fields}
 use Rattle.script_truth.proofs.Lines.{line-value, demand-value}
 
--- A line that its number finds, with fields that check 9 lets pass, in one of its thread's blocks.
+-- A line that its number finds, with fields that check 9 lets pass, in one of its thread's blocks if it was run.
 pub record Placed (case : Case) (α : Assignment) (l : Line) : Type 0 where
   pub found : lineAt case (l .number) ≡ l
   pub fields : Fields l
-  pub own : OwnBlock case (l .thread) (α .block (l .number))
+  pub own : α .block (l .number) ≢ suc (case .n) → OwnBlock case (l .thread) (α .block (l .number))
+
+-- Whether a line was run is asked before anything else.
+or-where-run : (case : Case) (x : ℕ) (p q : Bool) → (x ≢ suc (case .n) → p ≡ q) → (eqb x (suc (case .n)) || p) ≡ (not (wasRun case x) || q)
+unfolding wasRun
+or-where-run case x p q run = go (eq-view x (suc (case .n)))
+  where
+    go : EqView x (suc (case .n)) → (eqb x (suc (case .n)) || p) ≡ (not (wasRun case x) || q)
+    go (same e asked) = rw asked refl
+    go (diff e asked) = rw asked (run e)
+
+value-where-run : (case : Case) (x v m unrun : ℕ) (p : Bool) → (x ≢ suc (case .n) → p ≡ eqb v m)
+    → cond (eqb x (suc (case .n))) (eqb v unrun) p ≡ eqb v (cond (wasRun case x) m unrun)
+unfolding wasRun
+value-where-run case x v m unrun p run = go (eq-view x (suc (case .n)))
+  where
+    go : EqView x (suc (case .n)) → cond (eqb x (suc (case .n))) (eqb v unrun) p ≡ eqb v (cond (wasRun case x) m unrun)
+    go (same e asked) = rw asked refl
+    go (diff e asked) = rw asked (run e)
 
 module _ (case : Case) (xs sources : List ℕ) where
   abbrev env : ℕ → ℕ
@@ -51,11 +70,15 @@ module _ (case : Case) (xs sources : List ℕ) where
 
   -- ---- Constraints 1, 2 and 3.
   module _ (some : 0 < case .T) where
+    thread-agrees : (t : ℕ) (l : Line) → Agrees (row 3 (l .number) (case .T) t 0 0)
+    unfolding assertionOf holds meets value tested joined resultOf assignmentOf
+    thread-agrees t l = or-where-run case (α .block (l .number)) _ _ (λ run. rw (ne-eqb (case .T) 0 (λ e. omega arith)))
+
     order-agrees : (t : ℕ) (earlier ls : List Line) → AllAgree (orderRows case t earlier ls)
-    unfolding orderRows lineOrderRows followRow assertionOf holds meets value tested resultOf assignmentOf
+    unfolding orderRows lineOrderRows followRow assertionOf holds meets value tested assignmentOf
     order-agrees t earlier [] = tt
-    order-agrees t earlier (l ∷ []) = (rw (ne-eqb (case .T) 0 (λ e. omega arith)), (refl, tt))
-    order-agrees t earlier (l ∷ (l' ∷ ls)) = (rw (ne-eqb (case .T) 0 (λ e. omega arith)), (refl, order-agrees t (l ∷ earlier) (l' ∷ ls)))
+    order-agrees t earlier (l ∷ []) = (thread-agrees t l, (refl, tt))
+    order-agrees t earlier (l ∷ (l' ∷ ls)) = (thread-agrees t l, (refl, order-agrees t (l ∷ earlier) (l' ∷ ls)))
 
     pub all-order-agrees : (t : ℕ) (threads : List (List Line)) → AllAgree (allOrderRows case t threads)
     unfolding allOrderRows
@@ -64,18 +87,28 @@ module _ (case : Case) (xs sources : List ℕ) where
 
   -- ---- Constraints 4 and 5.
   value-agrees : (earlier : List Line) (l : Line) → Placed case α l → Agrees (valueRow case earlier l)
-  unfolding assertionOf holds
-  value-agrees earlier l placed = rw (placed .found) (line-value case xs sources l (placed .fields) (placed .own) _ _ _ _)
+  unfolding assertionOf valueAssertion holds meets value tested assignmentOf
+  value-agrees earlier l placed =
+      rw (placed .found) (value-where-run case (α .block (l .number)) _ _ _ _
+      (λ run. line-value case xs sources l (placed .fields) (placed .own run) _ _ _ _))
 
   demand-agrees : (kind : Kind) (earlier : List Line) (l : Line) → Placed case α l → AllAgree (demandRows kind case earlier l)
-  unfolding demandRows assertionOf holds
+  unfolding demandRows assertionOf holds meets value tested joined assignmentOf
   demand-agrees compute earlier l placed = tt
   demand-agrees store earlier l placed = tt
   demand-agrees load earlier l placed = tt
   demand-agrees input earlier l placed = tt
   demand-agrees assert earlier l placed = tt
-  demand-agrees assume earlier l placed = (rw (placed .found) (demand-value case xs sources l (placed .fields) (placed .own) 0 0 (l .kind)), tt)
-  demand-agrees lock earlier l placed = (rw (placed .found) (demand-value case xs sources l (placed .fields) (placed .own) _ _ (l .kind)), tt)
+  demand-agrees assume earlier l placed = (
+    rw (placed .found) (or-where-run case (α .block (l .number)) _ _
+        (λ run. demand-value case xs sources l (placed .fields) (placed .own run) 0 0 (l .kind))),
+    tt,
+  )
+  demand-agrees lock earlier l placed = (
+    rw (placed .found) (or-where-run case (α .block (l .number)) _ _
+        (λ run. demand-value case xs sources l (placed .fields) (placed .own run) _ _ (l .kind))),
+    tt,
+  )
   demand-agrees unlock earlier l placed = tt
 
   values-agree : (earlier ls : List Line) → AllLines (Placed case α) ls → AllAgree (valueRows case earlier ls)

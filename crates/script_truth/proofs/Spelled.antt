@@ -13,10 +13,10 @@ use borrow.Author.Tests.{eqb-false, ltb-true, leb-true}
 use Rattle.model.specs.Word.{wordSize}
 use Rattle.model.specs.Limits.{localCount}
 use Rattle.model.specs.CaseFile.{Kind, compute, store, load, input, assert, assume, lock, unlock, Line, Case, itemCount, lineAt}
-use Rattle.model.specs.Line.{itemName, operandA, targetName}
+use Rattle.model.specs.Line.{itemName, operandA, targetName, unrunValue}
 use Rattle.model.specs.Assignment.{variables}
-use Rattle.smt.specs.Term.{Test, Term, constant, Formula}
-use Rattle.script.specs.Assertions.{blockOf, valueOf, blockValue, valueBefore, localWith, linked, isVariable, same, blocksFrom, ownBlocks, readBefore, readItem, readName, guardTrue, operand, comparison, expression, operandsOf, oldTarget, factsWith, facts, withFacts, isExpression, isTruth, guardedIn, guardedOut, lineAssertion, mutexFree, demandAssertion, walkBack, orBreaks, someBreaks, someThreadBreaks}
+use Rattle.smt.specs.Term.{Test, disjunction, Term, constant, Formula, join}
+use Rattle.script.specs.Assertions.{blockOf, valueOf, blockValue, valueBefore, localWith, linked, isVariable, same, blocksFrom, ownBlocks, readBefore, readItem, readName, guardTrue, operand, comparison, expression, operandsOf, oldTarget, factsWith, facts, withFacts, isExpression, isTruth, guardedIn, guardedOut, notRun, lineAssertion, valueAssertion, mutexFree, demandAssertion, walkBack, orBreaks, someBreaks, someThreadBreaks}
 use Rattle.laws.specs.RecordNumber.{RecordNumber}
 use Rattle.laws.specs.Order.{AllLines, AllThreads}
 use Rattle.reading.specs.Spellable.{TermSpellable, FormulaSpellable}
@@ -25,6 +25,17 @@ use Rattle.reading.specs.Spellable.{TermSpellable, FormulaSpellable}
 pub taken : {A : Type 0} (P : A → Type 0) (p : Bool) (x y : A) → (p ≡ true → P x) → (p ≡ false → P y) → P (cond p x y)
 taken P true x y f g = f refl
 taken P false x y f g = g refl
+
+unrun-small : (kind : Kind) → unrunValue kind < wordSize
+unfolding unrunValue
+unrun-small compute = omega arith
+unrun-small store = omega arith
+unrun-small load = omega arith
+unrun-small input = omega arith
+unrun-small assert = omega arith
+unrun-small assume = omega arith
+unrun-small lock = omega arith
+unrun-small unlock = omega arith
 
 -- Sources are numbers of records.
 abbrev pub AllRecords : ℕ → List ℕ → Type 0
@@ -37,7 +48,7 @@ pub record Spells (case : Case) (l : Line) : Type 0 where
   pub number : RecordNumber (case .R) (l .number)
   pub constant : l .c < wordSize
 
-module _ (case : Case) (few : case .n < wordSize) (initials : (g : ℕ) → getD (case .initial) g 0 < wordSize) where
+module _ (case : Case) (few : suc (case .n) < wordSize) (initials : (g : ℕ) → getD (case .initial) g 0 < wordSize) where
   abbrev T : Term → Type 0
   T x = TermSpellable (variables case) x
 
@@ -49,6 +60,9 @@ module _ (case : Case) (few : case .n < wordSize) (initials : (g : ℕ) → getD
 
   pub block-spelled : (k : ℕ) → Known k → T (blockOf k)
   block-spelled k known = omega (arith, known .some, known .low)
+
+  not-run-spelled : (k : ℕ) → Known k → F (notRun case k)
+  not-run-spelled k known = (block-spelled k known, few)
 
   value-spelled : (k : ℕ) → Known k → T (valueOf k)
   value-spelled k known = omega (arith, known .some, known .low)
@@ -201,13 +215,19 @@ module _ (case : Case) (few : case .n < wordSize) (initials : (g : ℕ) → getD
       out-spelled lock target p = old-target-spelled target p
       out-spelled unlock target p = old-target-spelled target p
 
-      pub line-spelled : (guard a b target : ℕ) → guard ≤ case .R → a ≤ case .R → b ≤ case .R → target ≤ case .R
+      line-spelled : (guard a b target : ℕ) → guard ≤ case .R → a ≤ case .R → b ≤ case .R → target ≤ case .R
           → F (lineAssertion case sources l guard a b target)
       unfolding lineAssertion
       line-spelled guard a b target g p q r =
           let inside = in-spelled (l .kind) a b p q in
           taken F (eqb (l .guard) 0) (guardedIn (l .kind) case sources l a b) _ (λ e. inside)
           (λ e. (guard-spelled l guard g, inside, out-spelled (l .kind) target r))
+
+      pub value-assertion-spelled : (guard a b target : ℕ) → guard ≤ case .R → a ≤ case .R → b ≤ case .R → target ≤ case .R
+          → F (valueAssertion case sources (l .number) guard a b target)
+      unfolding valueAssertion
+      value-assertion-spelled guard a b target g p q r =
+          rw (line .found) (not-run-spelled (l .number) (line .number), (own-spelled, unrun-small (l .kind)), line-spelled guard a b target g p q r)
 
       free-spelled : (guard target : ℕ) → guard ≤ case .R → target ≤ case .R → F (mutexFree case sources l guard target)
       unfolding mutexFree
@@ -216,7 +236,7 @@ module _ (case : Case) (few : case .n < wordSize) (initials : (g : ℕ) → getD
           taken F (eqb (l .guard) 0) (readName case sources (constant 0) l (targetName (case .G) l) target) _ (λ e. free)
           (λ e. (guard-spelled l guard g, free))
 
-      pub demand-spelled : (kind : Kind) (guard target : ℕ) → guard ≤ case .R → target ≤ case .R
+      demand-spelled : (kind : Kind) (guard target : ℕ) → guard ≤ case .R → target ≤ case .R
           → F (demandAssertion kind case sources l guard target)
       unfolding demandAssertion
       demand-spelled compute guard target g p = tt
@@ -227,6 +247,11 @@ module _ (case : Case) (few : case .n < wordSize) (initials : (g : ℕ) → getD
       demand-spelled assume guard target g p = (own-spelled, omega arith)
       demand-spelled lock guard target g p = free-spelled guard target g p
       demand-spelled unlock guard target g p = tt
+
+      pub demand-assertion-spelled : (guard target : ℕ) → guard ≤ case .R → target ≤ case .R
+          → F (join disjunction (notRun case (l .number)) (demandAssertion (lineAt case (l .number) .kind) case sources (lineAt case (l .number)) guard target))
+      demand-assertion-spelled guard target g p =
+          rw (line .found) (not-run-spelled (l .number) (line .number), demand-spelled (l .kind) guard target g p)
 
     -- ---- Constraints 6 and 7.
     pub walk-spelled : (i g : ℕ) (ls : List Line) → i < case .n → g < itemCount case → AllLines (Spells case) ls

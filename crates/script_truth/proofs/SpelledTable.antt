@@ -28,7 +28,7 @@ use Rattle.laws.proofs.LineFound.{line-found}
 use Rattle.laws.proofs.Sizes.{assignment-numbers}
 use Rattle.correspondence.proofs.WellFormed.{field-below, all-lines-by, well-formed}
 use Rattle.reading.specs.Spellable.{AllSpellable, ScriptSpellable}
-use Rattle.script_truth.proofs.Spelled.{taken, AllRecords, Spells, block-spelled, line-spelled, demand-spelled, walk-spelled, goal-spelled}
+use Rattle.script_truth.proofs.Spelled.{taken, AllRecords, Spells, block-spelled, value-assertion-spelled, demand-assertion-spelled, walk-spelled, goal-spelled}
 
 -- ---- The sources are records.
 sources-from-known : (case : Case) (many k room : ℕ) → 0 < k → k + many ≤ suc (case .R) → AllRecords (case .R) (sourcesFrom case many k room)
@@ -73,7 +73,7 @@ unfolding copyOf
 copy-low case name earlier all = taken (λ p. p ≤ case .R) (ltb name noName) _ 0 (λ e. latest-low case name earlier all) (λ e. omega arith)
 
 -- ---- The rows.
-module _ (case : Case) (few : case .n < wordSize) (initials : (g : ℕ) → getD (case .initial) g 0 < wordSize)
+module _ (case : Case) (few : suc (case .n) < wordSize) (initials : (g : ℕ) → getD (case .initial) g 0 < wordSize)
     (sources : List ℕ) (known : AllRecords (case .R) sources) where
   abbrev Rows : List Row → Type 0
   Rows ws = AllSpellable (variables case) (assertionsOf case sources ws)
@@ -89,11 +89,11 @@ module _ (case : Case) (few : case .n < wordSize) (initials : (g : ℕ) → getD
   order-spelled t earlier [] small low all = tt
   order-spelled t earlier (l ∷ []) small low all =
       let own = block-spelled case few initials (l .number) (all .0 .number) in
-      (((own, low), small), ((own, few), tt))
+      (((own, few), ((own, low), small)), ((own, few), tt))
   order-spelled t earlier (l ∷ (l' ∷ ls)) small low all =
       let own = block-spelled case few initials (l .number) (all .0 .number) in
       let next = block-spelled case few initials (l' .number) (all .1 .0 .number) in
-      (((own, low), small), ((own, next), order-spelled t (l ∷ earlier) (l' ∷ ls) small low (all .1)))
+      (((own, few), ((own, low), small)), ((own, next), order-spelled t (l ∷ earlier) (l' ∷ ls) small low (all .1)))
 
   orders-spelled : (t : ℕ) (threads : List (List Line)) → t + length threads < wordSize → case .T < wordSize → AllThreads (Spells case) threads
       → Rows (allOrderRows case t threads)
@@ -112,10 +112,10 @@ module _ (case : Case) (few : case .n < wordSize) (initials : (g : ℕ) → getD
   demand-row-spelled input earlier l line before = tt
   demand-row-spelled assert earlier l line before = tt
   demand-row-spelled assume earlier l line before =
-      (rw (line .found) (demand-spelled case few initials sources known l line (l .kind) 0 0 (omega arith) (omega arith)), tt)
+      (demand-assertion-spelled case few initials sources known l line 0 0 (omega arith) (omega arith), tt)
   demand-row-spelled lock earlier l line before = (
-    rw (line .found) (demand-spelled case few initials sources known l line (l .kind) _ _
-        (copy-low case (guardName l) earlier before) (copy-low case (targetName (case .G) l) earlier before)),
+    demand-assertion-spelled case few initials sources known l line _ _
+        (copy-low case (guardName l) earlier before) (copy-low case (targetName (case .G) l) earlier before),
     tt,
   )
   demand-row-spelled unlock earlier l line before = tt
@@ -124,9 +124,9 @@ module _ (case : Case) (few : case .n < wordSize) (initials : (g : ℕ) → getD
   unfolding valueRows assertionsOf assertionOf
   values-spelled earlier [] before all = tt
   values-spelled earlier (l ∷ ls) before all = (
-    rw (all .0 .found) (line-spelled case few initials sources known l (all .0) _ _ _ _
+    value-assertion-spelled case few initials sources known l (all .0) _ _ _ _
         (copy-low case (guardName l) earlier before) (copy-low case (operandA l) earlier before)
-        (copy-low case (operandB l) earlier before) (copy-low case (targetName (case .G) l) earlier before)),
+        (copy-low case (operandB l) earlier before) (copy-low case (targetName (case .G) l) earlier before),
     rows-append (demandRows (l .kind) case earlier l) _ (demand-row-spelled (l .kind) earlier l (all .0) before)
         (values-spelled (l ∷ earlier) ls (all .0, before) (all .1)),
   )

@@ -3,7 +3,7 @@
 -- Assumes nothing. Met again in Filed.
 use mathlib.Core.Path.{_≡_, refl, sym, _∙_}
 use mathlib.Core.Logic.{_↔_}
-use Prim.Native.Nat.{ℕ, suc}
+use Prim.Native.Nat.{ℕ, suc, _≤_}
 use mathlib.Core.Bool.{Bool, true, false, cond}
 use mathlib.Core.List.{List, [], _∷_, _++_, append-assoc}
 use native.Mathlib.Omega.{arith}
@@ -91,7 +91,8 @@ all-placed case α t low (l ∷ ls) found known ordered = (
   record {
     found = found .0;
     fields = known .0 .fields;
-    own = record { upto = ordered .0 .upto; mine = ordered .0 .mine ∙ sym (known .0 .thread) };
+    own = λ run. let upto : α .block (l .number) ≤ case .n = omega (arith, ordered .0 .upto, run) in
+        record { upto = upto; mine = ordered .0 .mine upto ∙ sym (known .0 .thread) };
   },
   all-placed case α t (α .block (l .number)) ls (found .1) (known .1) (ordered .1),
 )

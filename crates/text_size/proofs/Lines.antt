@@ -7,10 +7,10 @@ use native.Mathlib.Omega.{arith}
 use lib.Dec.{eqb, ltb, leb}
 use lib.ListN.{length}
 use Rattle.model.specs.Limits.{localCount}
-use Rattle.model.specs.CaseFile.{Kind, compute, store, load, input, assert, assume, lock, unlock, Line, Case}
+use Rattle.model.specs.CaseFile.{Kind, compute, store, load, input, assert, assume, lock, unlock, Line, Case, lineAt}
 use Rattle.model.specs.Line.{operandA, targetName}
-use Rattle.smt.specs.Term.{Test, equals, bvult, bvule, implication, Term, constant, choice, apply, Formula, truth, test, negation, join, select}
-use Rattle.script.specs.Assertions.{mostSources, equal, isZero, valueOf, localWith, isVariable, same, ownBlocks, readName, guardTrue, operand, bit, comparison, operation, expression, factOf, factsWith, facts, withFacts, isExpression, isTruth, operandsOf, guardedIn, guardedOut, lineAssertion, mutexFree, demandAssertion}
+use Rattle.smt.specs.Term.{Test, equals, bvult, bvule, disjunction, implication, Term, constant, choice, apply, Formula, truth, test, negation, join, select}
+use Rattle.script.specs.Assertions.{mostSources, equal, isZero, valueOf, localWith, isVariable, same, ownBlocks, readName, guardTrue, operand, bit, comparison, operation, expression, factOf, factsWith, facts, withFacts, isExpression, isTruth, operandsOf, guardedIn, guardedOut, notRun, lineAssertion, valueAssertion, mutexFree, demandAssertion}
 use Rattle.text_size.proofs.Formulas.{testSize, termSize, size, either-formula, either-term}
 use Rattle.text_size.proofs.ReadTexts.{Atomic, local-atomic, same-size, read-name-size}
 
@@ -45,6 +45,11 @@ facts-with-size : (t : Test) (x y : Term) (s : ℕ) (others : List ℕ) (base : 
 unfolding factsWith size
 facts-with-size t x y s [] base h k = omega arith
 facts-with-size t x y s (u ∷ others) base h k = omega (arith, fact-size t x y s u h k, facts-with-size t x y s others base h k)
+
+-- A 3 or a 5, which a line meets that was not run.
+pub or-not-run-size : (case : Case) (k : ℕ) (f : Formula) → size (join disjunction (notRun case k) f) ≡ 23 + size f
+unfolding size
+or-not-run-size case k f = omega arith
 
 module _ (case : Case) (sources : List ℕ) (few : length sources ≤ mostSources) where
   facts-size : (t : Test) (x y : Term) (firsts : List ℕ) (base : Formula) → Atomic x → Atomic y → size (facts t x y sources firsts base) ≤ 654 * length firsts + size base
@@ -106,8 +111,8 @@ module _ (case : Case) (sources : List ℕ) (few : length sources ≤ mostSource
   demandMost reads load = 0
   demandMost reads input = 0
   demandMost reads assert = 0
-  demandMost reads assume = 27
-  demandMost reads lock = 39 + reads
+  demandMost reads assume = 50
+  demandMost reads lock = 62 + reads
   demandMost reads unlock = 0
 
   module _ (reads : ℕ) (own : (t : ℕ) → 371 + 366 * length (ownBlocks case t) ≤ reads) where
@@ -192,7 +197,7 @@ module _ (case : Case) (sources : List ℕ) (few : length sources ≤ mostSource
     lock-size l guard target = free-size l guard target
 
     -- Both together: a 4 that has the most has no 5.
-    kind-most : (κ : Kind) → reads ≤ 3900 → 371 ≤ reads → inMost reads κ + outMost reads κ + demandMost reads κ ≤ 3976 + reads
+    kind-most : (κ : Kind) → reads ≤ 3800 → 371 ≤ reads → inMost reads κ + outMost reads κ + demandMost reads κ ≤ 3976 + reads
     kind-most compute h k = omega arith
     kind-most store h k = omega arith
     kind-most load h k = omega arith
@@ -202,5 +207,12 @@ module _ (case : Case) (sources : List ℕ) (few : length sources ≤ mostSource
     kind-most lock h k = omega arith
     kind-most unlock h k = omega arith
 
-    pub line-most : reads ≤ 3900 → (l : Line) (guard a b target : ℕ) → 10 + size (lineAssertion case sources l guard a b target) + demandMost reads (l .kind) ≤ 4017 + reads
-    line-most h l guard a b target = omega (arith, line-size l guard a b target, kind-most (l .kind) h (omega (arith, own 0)))
+    -- The 4 of a line that its number finds.
+    found-size : (l : Line) → lineAt case (l .number) ≡ l → (guard a b target : ℕ)
+        → size (valueAssertion case sources (l .number) guard a b target) ≤ 73 + inMost reads (l .kind) + outMost reads (l .kind)
+    unfolding valueAssertion size
+    found-size l found guard a b target = rw found (omega (arith, line-size l guard a b target))
+
+    pub line-most : reads ≤ 3800 → (l : Line) → lineAt case (l .number) ≡ l → (guard a b target : ℕ)
+        → 10 + size (valueAssertion case sources (l .number) guard a b target) + demandMost reads (l .kind) ≤ 4059 + reads
+    line-most h l found guard a b target = omega (arith, found-size l found guard a b target, kind-most (l .kind) h (omega (arith, own 0)))

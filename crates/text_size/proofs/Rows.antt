@@ -21,7 +21,7 @@ use Rattle.smt.specs.Spelling.{ascii, formulaText, assertion, assertionLines}
 use Rattle.script.specs.Assertions.{mostSources, equal, blockOf, valueOf, blockValue, valueBefore, same, ownBlocks, demandAssertion, walkBack, orBreaks, someBreaks, someThreadBreaks, assertionOf, assertionsOf}
 use Rattle.text_size.proofs.Formulas.{size, formula-text}
 use Rattle.text_size.proofs.ReadTexts.{before-atomic, same-size}
-use Rattle.text_size.proofs.Lines.{demandMost, assume-size, lock-size, line-most}
+use Rattle.text_size.proofs.Lines.{or-not-run-size, demandMost, assume-size, lock-size, line-most}
 use Rattle.text_size.proofs.Blocks.{lineCount, lines-counted, hits, hits-from-record, hits-at-most}
 
 module _ (case : Case) (sources : List ℕ) where
@@ -54,21 +54,21 @@ module _ (case : Case) (sources : List ℕ) where
   follow-size l [] = omega arith
   follow-size l (next ∷ ls) = omega arith
 
-  thread-size : (t : ℕ) (l : Line) → size (assertionOf case sources (row 3 (l .number) (case .T) t 0 0)) ≤ 33
+  thread-size : (t : ℕ) (l : Line) → size (assertionOf case sources (row 3 (l .number) (case .T) t 0 0)) ≤ 56
   unfolding assertionOf size
   thread-size t l = omega arith
 
-  line-order-size : (t : ℕ) (earlier : List Line) (l : Line) (ls : List Line) → rowsSize (lineOrderRows case t earlier l ls) ≤ 74
+  line-order-size : (t : ℕ) (earlier : List Line) (l : Line) (ls : List Line) → rowsSize (lineOrderRows case t earlier l ls) ≤ 97
   unfolding lineOrderRows rowsSize
   line-order-size t earlier l ls = omega (arith, thread-size t l, follow-size l ls)
 
-  order-size : (t : ℕ) (earlier ls : List Line) → rowsSize (orderRows case t earlier ls) ≤ 74 * length ls
+  order-size : (t : ℕ) (earlier ls : List Line) → rowsSize (orderRows case t earlier ls) ≤ 97 * length ls
   unfolding orderRows rowsSize
   order-size t earlier [] = omega arith
   order-size t earlier (l ∷ ls) =
       omega (arith, rows-append (lineOrderRows case t earlier l ls) (orderRows case t (l ∷ earlier) ls), line-order-size t earlier l ls, order-size t (l ∷ earlier) ls)
 
-  pub all-order-size : (t : ℕ) (threads : List (List Line)) → rowsSize (allOrderRows case t threads) ≤ 74 * lineCount threads
+  pub all-order-size : (t : ℕ) (threads : List (List Line)) → rowsSize (allOrderRows case t threads) ≤ 97 * lineCount threads
   unfolding allOrderRows rowsSize
   all-order-size t [] = omega arith
   all-order-size t (ls ∷ threads) =
@@ -98,7 +98,7 @@ module _ (case : Case) (sources : List ℕ) where
 
   module _ (few : length sources ≤ mostSources) where
     -- ---- The 4s and 5s, of lines that their numbers find.
-    module _ (reads : ℕ) (own : (t : ℕ) → 371 + 366 * length (ownBlocks case t) ≤ reads) (small : reads ≤ 3900) where
+    module _ (reads : ℕ) (own : (t : ℕ) → 371 + 366 * length (ownBlocks case t) ≤ reads) (small : reads ≤ 3800) where
       of-kind : (κ : Kind) (l : Line) → l .kind ≡ κ → (guard target : ℕ) {n : ℕ} → size (demandAssertion κ case sources l guard target) ≤ n
           → size (demandAssertion (l .kind) case sources l guard target) ≤ n
       of-kind κ l e guard target {n} h = subst (λ (kind : Kind). size (demandAssertion kind case sources l guard target) ≤ n) (sym e) h
@@ -111,46 +111,58 @@ module _ (case : Case) (sources : List ℕ) where
       demand-size input earlier l e = omega arith
       demand-size assert earlier l e = omega arith
       demand-size assume earlier l e =
-          omega (arith, of-kind assume (lineAt case (l .number)) e 0 0 (assume-size case sources few reads own (lineAt case (l .number)) 0 0))
+          let f = demandAssertion (lineAt case (l .number) .kind) case sources (lineAt case (l .number)) 0 0 in
+          omega (
+            arith,
+            or-not-run-size case (l .number) f,
+            of-kind assume (lineAt case (l .number)) e 0 0 (assume-size case sources few reads own (lineAt case (l .number)) 0 0),
+          )
       demand-size lock earlier l e =
           let guard = copyOf (case .G) (guardName l) earlier in
           let target = copyOf (case .G) (targetName (case .G) l) earlier in
-          omega (arith, of-kind lock (lineAt case (l .number)) e guard target (lock-size case sources few reads own (lineAt case (l .number)) guard target))
+          let f = demandAssertion (lineAt case (l .number) .kind) case sources (lineAt case (l .number)) guard target in
+          omega (
+            arith,
+            or-not-run-size case (l .number) f,
+            of-kind lock (lineAt case (l .number)) e guard target (lock-size case sources few reads own (lineAt case (l .number)) guard target),
+          )
       demand-size unlock earlier l e = omega arith
 
       value-size : (earlier : List Line) (l : Line) → lineAt case (l .number) ≡ l
-          → 10 + size (assertionOf case sources (valueRow case earlier l)) + rowsSize (demandRows (l .kind) case earlier l) ≤ 4017 + reads
+          → 10 + size (assertionOf case sources (valueRow case earlier l)) + rowsSize (demandRows (l .kind) case earlier l) ≤ 4059 + reads
       unfolding assertionOf
-      value-size earlier l found = omega (arith, four, demand-size (l .kind) earlier l (ap (λ (m : Line). m .kind) found))
-        where
-          four : 10 + size (assertionOf case sources (valueRow case earlier l)) + demandMost case sources few reads (l .kind) ≤ 4017 + reads
-          four = rw found (line-most case sources few reads own small l (copyOf (case .G) (guardName l) earlier) (copyOf (case .G) (operandA l) earlier)
-              (copyOf (case .G) (operandB l) earlier) (copyOf (case .G) (targetName (case .G) l) earlier))
+      value-size earlier l found =
+          omega (
+            arith,
+            line-most case sources few reads own small l found (copyOf (case .G) (guardName l) earlier) (copyOf (case .G) (operandA l) earlier)
+                (copyOf (case .G) (operandB l) earlier) (copyOf (case .G) (targetName (case .G) l) earlier),
+            demand-size (l .kind) earlier l (ap (λ (m : Line). m .kind) found),
+          )
 
-      values-size : (earlier ls : List Line) → AllLines (λ l. lineAt case (l .number) ≡ l) ls → rowsSize (valueRows case earlier ls) ≤ (4017 + reads) * length ls
+      values-size : (earlier ls : List Line) → AllLines (λ l. lineAt case (l .number) ≡ l) ls → rowsSize (valueRows case earlier ls) ≤ (4059 + reads) * length ls
       unfolding valueRows rowsSize
-      values-size earlier [] found = omega (arith, mul-zero (4017 + reads))
+      values-size earlier [] found = omega (arith, mul-zero (4059 + reads))
       values-size earlier (l ∷ ls) found =
           omega (
             arith,
             rows-append (demandRows (l .kind) case earlier l) (valueRows case (l ∷ earlier) ls),
             value-size earlier l (found .0),
             values-size (l ∷ earlier) ls (found .1),
-            mul-suc (4017 + reads) (length ls),
+            mul-suc (4059 + reads) (length ls),
           )
 
       pub all-values-size : (threads : List (List Line)) → AllThreads (λ l. lineAt case (l .number) ≡ l) threads
-          → rowsSize (allValueRows case threads) ≤ (4017 + reads) * lineCount threads
+          → rowsSize (allValueRows case threads) ≤ (4059 + reads) * lineCount threads
       unfolding allValueRows rowsSize
-      all-values-size [] found = omega (arith, mul-zero (4017 + reads))
+      all-values-size [] found = omega (arith, mul-zero (4059 + reads))
       all-values-size (ls ∷ threads) found =
           omega (
             arith,
             rows-append (valueRows case [] ls) (allValueRows case threads),
             values-size [] ls (found .0),
-            ap (λ (many : ℕ). (4017 + reads) * many) (lines-counted ls),
+            ap (λ (many : ℕ). (4059 + reads) * many) (lines-counted ls),
             all-values-size threads (found .1),
-            mul-add (4017 + reads) (sumOfLines (λ l. 1) ls) (lineCount threads),
+            mul-add (4059 + reads) (sumOfLines (λ l. 1) ls) (lineCount threads),
           )
 
     -- ---- The 6s.
