@@ -14,10 +14,10 @@ use Rattle.model.specs.Word.{bit, nonzero}
 use Rattle.model.specs.CaseFile.{Kind, compute, store, load, input, assert, assume, lock, unlock, Line, Case}
 use Rattle.model.specs.Line.{Reads, readsOf, targetName, guardTrue, expression, guardedInValue, guardedOutValue, valueBy, unrunValue, stops, strayInput, isInput, unrunStray}
 use Rattle.model.specs.Machine.{Memory, look, readsIn, stepped}
-use Rattle.model.specs.Assignment.{Assignment, wasRun}
+use Rattle.model.specs.Assignment.{Assignment}
 use Rattle.model.specs.Copies.{readAfter, readsAfter}
 use Rattle.laws.specs.Order.{AllLines, Positive}
-use Rattle.correspondence.specs.Meaning.{WellFormed, Demanded, LineMet, LinesMet, InputGiven, InputsGiven}
+use Rattle.correspondence.specs.Meaning.{WellFormed, Demanded, LineMet, LinesMet, InputGiven, GivenTo, InputsGiven}
 use Rattle.model.specs.Runs.{memoryAfter}
 use Rattle.correspondence.proofs.Step.{MemoryFits, step-fits, Corresponds, step-keeps-correspondence}
 use Rattle.correspondence.proofs.Order.{run-in-block, unrun-past-blocks, HasBlock, NextIn, runMore}
@@ -160,13 +160,9 @@ module _ (case : Case) (given : ℕ → ℕ) (α : Assignment) where
   DecodedBy l reader =
       LineDecoded (l .kind) l (α .value (l .number)) (given (l .number)) (readsOf (case .G) reader l (α .value (l .number)))
 
-  -- Its input, where the decoding gives one.
-  abbrev GivenTo : List Line → Line → Type 0
-  GivenTo earlier l =
-      InputGiven (l .kind) (wasRun case (α .block (l .number)) && guardTrue l (readsAfter case α earlier l)) (α .value (l .number)) (given (l .number))
-
-  met-line-runs : (i : ℕ) (l : Line) (earlier : List Line) (m : Memory) → i ≤ case .n → α .block (l .number) ≡ i → Corresponds case α i earlier m
-      → LineMet case α earlier l → GivenTo earlier l → LineRuns (l .kind) l (α .value (l .number)) (readsIn case given l m)
+  met-line-runs : (i : ℕ) (l : Line) (earlier : List Line) (m : Memory) → i ≤ case .n → α .block (l .number) ≡ i
+      → Corresponds case α i earlier m → LineMet case α earlier l → GivenTo case α given earlier l
+      → LineRuns (l .kind) l (α .value (l .number)) (readsIn case given l m)
   unfolding DecodedBy
   met-line-runs i l earlier m few in-block corresponds met inputs =
       let run = run-in-block case i (α .block (l .number)) few in-block in
@@ -174,8 +170,9 @@ module _ (case : Case) (given : ℕ → ℕ) (α : Assignment) where
       (subst (DecodedBy l) (sym (same-readers case α i l earlier m in-block corresponds))
       (record { has-value = rw run at (met .value); demand = met .demand run; inputs = rw run at inputs }))
 
-  line-that-runs-is-met : (i : ℕ) (l : Line) (earlier : List Line) (m : Memory) → i ≤ case .n → α .block (l .number) ≡ i → Corresponds case α i earlier m
-      → LineRuns (l .kind) l (α .value (l .number)) (readsIn case given l m) → LineMet case α earlier l × GivenTo earlier l
+  line-that-runs-is-met : (i : ℕ) (l : Line) (earlier : List Line) (m : Memory) → i ≤ case .n → α .block (l .number) ≡ i
+      → Corresponds case α i earlier m → LineRuns (l .kind) l (α .value (l .number)) (readsIn case given l m)
+      → LineMet case α earlier l × GivenTo case α given earlier l
   unfolding DecodedBy
   line-that-runs-is-met i l earlier m few in-block corresponds runs =
       let run = run-in-block case i (α .block (l .number)) few in-block in
@@ -188,7 +185,8 @@ module _ (case : Case) (given : ℕ → ℕ) (α : Assignment) where
   abbrev pub Unrun : Line → Type 0
   Unrun l = LineUnrun (l .kind) (α .value (l .number)) (given (l .number))
 
-  pub decoded-lines-are-unrun : (earlier ls : List Line) → AllLines (HasBlock (α .block) (suc (case .n))) ls → LinesDecoded earlier ls → AllLines Unrun ls
+  pub decoded-lines-are-unrun : (earlier ls : List Line) → AllLines (HasBlock (α .block) (suc (case .n))) ls → LinesDecoded earlier ls
+      → AllLines Unrun ls
   unfolding unrunStray
   decoded-lines-are-unrun earlier [] after decoded = tt
   decoded-lines-are-unrun earlier (l ∷ ls) after decoded =
@@ -200,7 +198,8 @@ module _ (case : Case) (given : ℕ → ℕ) (α : Assignment) where
         decoded-lines-are-unrun (l ∷ earlier) ls (after .1) (decoded .0 .1, decoded .1 .1),
       )
 
-  pub unrun-lines-are-decoded : (earlier ls : List Line) → AllLines (HasBlock (α .block) (suc (case .n))) ls → AllLines Unrun ls → LinesDecoded earlier ls
+  pub unrun-lines-are-decoded : (earlier ls : List Line) → AllLines (HasBlock (α .block) (suc (case .n))) ls → AllLines Unrun ls
+      → LinesDecoded earlier ls
   unfolding unrunStray
   unrun-lines-are-decoded earlier [] after left = (tt, tt)
   unrun-lines-are-decoded earlier (l ∷ ls) after left =
@@ -228,13 +227,14 @@ module _ (case : Case) (given : ℕ → ℕ) (α : Assignment) where
     decoded-block-runs i (suc steps) [] earlier m few fits positive next corresponds decoded = absurd next
     decoded-block-runs i (suc steps) (l ∷ ls) earlier m few fits positive next corresponds decoded =
         let runs = met-line-runs i l earlier m few (next .0) corresponds (decoded .0 .0) (decoded .1 .0) in
-        let ih = decoded-block-runs i steps ls (l ∷ earlier) (stepped case given l m) few (step-fits case given l m fits) (positive .1) (next .1)
+        let ih = decoded-block-runs i steps ls (l ∷ earlier) (stepped case given l m) few (step-fits case given l m fits)
+        (positive .1) (next .1)
         (step-keeps-correspondence case α wf given i l earlier m fits (positive .0) (next .0) (runs .has-value) corresponds)
         (decoded .0 .1, decoded .1 .1) in
         ((runs, ih .0), ih .1)
 
-    pub block-that-runs-is-decoded : (i steps : ℕ) (ls earlier : List Line) (m : Memory) → i ≤ case .n → MemoryFits case m → AllLines Positive ls
-        → NextIn (α .block) i steps ls → Corresponds case α i earlier m → BlockRuns steps ls m
+    pub block-that-runs-is-decoded : (i steps : ℕ) (ls earlier : List Line) (m : Memory) → i ≤ case .n → MemoryFits case m
+        → AllLines Positive ls → NextIn (α .block) i steps ls → Corresponds case α i earlier m → BlockRuns steps ls m
         → LinesDecoded (runMore steps ls earlier) (drop steps ls) → LinesDecoded earlier ls
     block-that-runs-is-decoded i zero ls earlier m few fits positive next corresponds runs decoded = decoded
     block-that-runs-is-decoded i (suc steps) [] earlier m few fits positive next corresponds runs decoded = (tt, tt)

@@ -147,7 +147,8 @@ module _ (case : Case) (α : Assignment) where
               (places-after-block i len rests earlier count (both .0) places)
               (each-after-change (λ u rest' _. Ordered case (α .block) u (suc i) rest') [] (case .T) rests earlier t (drop len rest) []
               (turn-in case wf i rests count) (both .1)
-              (λ u differs hu. ordered-past-other-thread case (α .block) u i (getD rests u []) (omega arith) (λ e. differs (sym e)) (ordered u hu))),
+              (λ u differs hu. ordered-past-other-thread case (α .block) u i (getD rests u []) (omega arith) (λ e. differs (sym e))
+              (ordered u hu))),
         )
 
     pub ordered-after-block : (i len : ℕ) (rests : List (List Line)) → length rests ≡ case .T
@@ -168,7 +169,8 @@ module _ (case : Case) (α : Assignment) where
     pub order-of-blocks : (i : ℕ) (lens : List ℕ) (rests : List (List Line)) (earlier : ℕ → List Line) → length rests ≡ case .T
         → i + length lens ≡ suc (case .n) → BlocksNext i lens rests → Places i rests earlier → AllOrdered i rests × Counted case α i lens
     order-of-blocks i [] rests earlier count last blocks places =
-        ((λ t ht. unrun-is-ordered case (α .block) t i (getD rests t []) (omega arith) (each-thread (HasBlock (α .block) i) rests blocks t)), tt)
+        let unrun = each-thread (HasBlock (α .block) i) rests blocks in
+        ((λ t ht. unrun-is-ordered case (α .block) t i (getD rests t []) (omega arith) (unrun t)), tt)
     order-of-blocks i (len ∷ lens) rests earlier count last blocks places =
         let t = i % case .T in
         let rest = restOf case i rests in

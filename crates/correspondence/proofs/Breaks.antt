@@ -93,9 +93,10 @@ module _ (case : Case) (wf : WellFormed case) (given : ℕ → ℕ) (α : Assign
   left-has-no-break : (earlier ls : List Line) → AllLines (Unrun case given α) ls → breaksIn case α earlier ls ≡ 0
   left-has-no-break earlier [] left = refl
   left-has-no-break earlier (l ∷ ls) left =
+      let reads = readsAfter case α earlier l in
       omega (
         arith,
-        ap bit (ap (breaks (l .kind) l (readsAfter case α earlier l)) (left .0 .has-value) ∙ unrun-breaks-nothing (l .kind) l (readsAfter case α earlier l)),
+        ap bit (ap (breaks (l .kind) l reads) (left .0 .has-value) ∙ unrun-breaks-nothing (l .kind) l reads),
         left-has-no-break (l ∷ earlier) ls (left .1),
       )
 

@@ -192,7 +192,8 @@ module _ (case : Case) (given : ℕ → ℕ) where
 
   -- The machine's answer is made along the steps.
   pub run-goes : (i : ℕ) (lens : List ℕ) (s : State) (note : ℕ)
-      → runBlocks case given i lens s note ≡ goes (course case given i lens s) note (λ note'. ending given note' (lastState case given i lens s))
+      → runBlocks case given i lens s note
+      ≡ goes (course case given i lens s) note (λ note'. ending given note' (lastState case given i lens s))
   unfolding runBlocks
   run-goes i [] s note = refl
   run-goes i (len ∷ lens) s note =

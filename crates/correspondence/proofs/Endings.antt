@@ -37,21 +37,25 @@ module _ (given : ℕ → ℕ) where
   no-stray-of-left [] left = refl
   no-stray-of-left (ls ∷ rests) left = others-of-left ls (firstStrayLeft given rests) (left .0) ∙ no-stray-of-left rests (left .1)
 
-  line-of-no-stray : (ls : List Line) (others : ℕ) → AllLines Positive ls → strayLeft given ls others ≡ 0 → AllLines (MayBeLeft given) ls × (others ≡ 0)
+  line-of-no-stray : (ls : List Line) (others : ℕ) → AllLines Positive ls → strayLeft given ls others ≡ 0
+      → AllLines (MayBeLeft given) ls × (others ≡ 0)
   unfolding strayLeft
   line-of-no-stray [] others positive e = (tt, e)
   line-of-no-stray (l ∷ ls) others positive e = go (unrunStray (l .kind) (given (l .number))) refl (line-of-no-stray ls others (positive .1))
     where
-      go : (q : Bool) → unrunStray (l .kind) (given (l .number)) ≡ q → (strayLeft given ls others ≡ 0 → AllLines (MayBeLeft given) ls × (others ≡ 0))
+      go : (q : Bool) → unrunStray (l .kind) (given (l .number)) ≡ q
+          → (strayLeft given ls others ≡ 0 → AllLines (MayBeLeft given) ls × (others ≡ 0))
           → AllLines (MayBeLeft given) (l ∷ ls) × (others ≡ 0)
       go true stray ih = absurd (omega (arith, positive .0, rw stray at e))
       go false quiet ih = let rest = ih (rw quiet at e) in ((quiet, rest .0), rest .1)
 
-  pub left-of-no-stray : (rests : List (List Line)) → AllThreads Positive rests → firstStrayLeft given rests ≡ 0 → AllThreads (MayBeLeft given) rests
+  pub left-of-no-stray : (rests : List (List Line)) → AllThreads Positive rests → firstStrayLeft given rests ≡ 0
+      → AllThreads (MayBeLeft given) rests
   unfolding firstStrayLeft
   left-of-no-stray [] positive e = tt
   left-of-no-stray (ls ∷ rests) positive e =
-      let first = line-of-no-stray ls (firstStrayLeft given rests) (positive .0) e in (first .0, left-of-no-stray rests (positive .1) (first .1))
+      let first = line-of-no-stray ls (firstStrayLeft given rests) (positive .0) e in
+      (first .0, left-of-no-stray rests (positive .1) (first .1))
 
 -- Two: "refusal 13 is only for more": no thread has more steps than lines.
 abbrev pub FewSteps : Case → ℕ → List ℕ → List (List Line) → Type 0
@@ -103,7 +107,8 @@ module _ (case : Case) (given : ℕ → ℕ) where
       )
 
   -- What it leaves may be left.
-  pub left-of-finished : (i : ℕ) (lens : List ℕ) (s : State) → Finishes case given i lens s → AllThreads (MayBeLeft given) (lastState case given i lens s .rests)
+  pub left-of-finished : (i : ℕ) (lens : List ℕ) (s : State) → Finishes case given i lens s
+      → AllThreads (MayBeLeft given) (lastState case given i lens s .rests)
   left-of-finished i [] s h = h
   left-of-finished i (len ∷ lens) s h = left-of-finished (suc i) lens (nextState case given i len s) (h .1)
 
@@ -133,8 +138,9 @@ module _ (case : Case) (given : ℕ → ℕ) where
         let later = few-steps-of-finished (suc i) lens (nextState case given i len s) (rests-kept case wf i len (s .rests) hn) (h .1) t ht in
         omega (arith, later, steps-of-block i len t s hn (h .0))
 
-    few-steps-after : (i len : ℕ) (lens : List ℕ) (s : State) → length (s .rests) ≡ case .T → FinishesBlock case given len (restIn case i s) (memoryIn case i s)
-        → FewSteps case i (len ∷ lens) (s .rests) → FewSteps case (suc i) lens (nextState case given i len s .rests)
+    few-steps-after : (i len : ℕ) (lens : List ℕ) (s : State) → length (s .rests) ≡ case .T
+        → FinishesBlock case given len (restIn case i s) (memoryIn case i s) → FewSteps case i (len ∷ lens) (s .rests)
+        → FewSteps case (suc i) lens (nextState case given i len s .rests)
     unfolding stepsOf
     few-steps-after i len lens s hn h few t ht = omega (arith, few t ht, steps-of-block i len t s hn h)
 

@@ -70,17 +70,20 @@ module _ (case : Case) (given : ℕ → ℕ) (wf : WellFormed case) where
       go (same p q) = rw (p, own-rest-after case wf i len (s .rests) count) (all-dropped Positive len (restIn case i s) (positive (i % case .T)))
       go (diff p q) = rw (other-rest-after case wf i len (s .rests) count t p) (positive t)
 
-  last-positive : (i : ℕ) (lens : List ℕ) (s : State) → length (s .rests) ≡ case .T → AllPositive s → AllPositive (lastState case given i lens s)
+  last-positive : (i : ℕ) (lens : List ℕ) (s : State) → length (s .rests) ≡ case .T → AllPositive s
+      → AllPositive (lastState case given i lens s)
   last-positive i [] s count positive = positive
   last-positive i (len ∷ lens) s count positive =
-      last-positive (suc i) lens (nextState case given i len s) (rests-kept case wf i len (s .rests) count) (positive-after-block i len s count positive)
+      last-positive (suc i) lens (nextState case given i len s) (rests-kept case wf i len (s .rests) count)
+      (positive-after-block i len s count positive)
 
   course-numbered : (i : ℕ) (lens : List ℕ) (s : State) → length (s .rests) ≡ case .T → AllPositive s → Numbered (course case given i lens s)
   course-numbered i [] s count positive = tt
   course-numbered i (len ∷ lens) s count positive =
       numbered-append (here case given i len s) (later case given i len lens s)
       (block-numbered case given i len (restIn case i s) (memoryIn case i s) (positive (i % case .T)))
-      (course-numbered (suc i) lens (nextState case given i len s) (rests-kept case wf i len (s .rests) count) (positive-after-block i len s count positive))
+      (course-numbered (suc i) lens (nextState case given i len s) (rests-kept case wf i len (s .rests) count)
+      (positive-after-block i len s count positive))
 
   -- What a thread runs is its first lines, as many as its block lengths add up to.
   lines-of-course : (i : ℕ) (lens : List ℕ) (s : State) → length (s .rests) ≡ case .T → (t : ℕ)
@@ -103,6 +106,28 @@ module _ (case : Case) (given : ℕ → ℕ) (wf : WellFormed case) where
           rw (q, other-lines-run case given i t len (restIn case i s) (memoryIn case i s) q, other-rest-after case wf i len (s .rests) count t p)
           (ap (λ (steps : ℕ). take steps (getD (s .rests) t [])) (sym (zero-add (stepsOf case t (suc i) lens))))
 
+module _ (case : Case) (schedule : List ℕ) where
+  -- Refusal 14 does not meet the schedule; where it does, it is at one record.
+  abbrev pub NotMet14 : Type 0
+  NotMet14 = NoneStrays case schedule × (Legal case schedule → unrunInput case schedule ≡ 0)
+
+  pub not-met-has-no-record : NotMet14 → (k : ℕ) → Meets14 case schedule k → ⊥
+  not-met-has-no-record other k (on-the-way found) =
+      none-has-no-first (strays case (givenIn case schedule)) (runSteps case schedule) (found .0) (other .0) (found .1)
+  not-met-has-no-record other k (after-the-last-step none legal some is) = omega (arith, other .1 legal)
+
+  pub met-at-one-record : (k k' : ℕ) → Meets14 case schedule k → Meets14 case schedule k' → k ≡ k'
+  met-at-one-record k k' (on-the-way found) (on-the-way found') =
+      sym (found .2)
+      ∙ ap (λ (s : Step). s .line .number)
+      (first-is-one (strays case (givenIn case schedule)) (runSteps case schedule) (found .0) (found' .0) (found .1) (found' .1))
+      ∙ found' .2
+  met-at-one-record k k' (on-the-way found) (after-the-last-step none legal some is) =
+      absurd (none-has-no-first (strays case (givenIn case schedule)) (runSteps case schedule) (found .0) none (found .1))
+  met-at-one-record k k' (after-the-last-step none legal some is) (on-the-way found) =
+      absurd (none-has-no-first (strays case (givenIn case schedule)) (runSteps case schedule) (found .0) none (found .1))
+  met-at-one-record k k' (after-the-last-step none legal some is) (after-the-last-step none' legal' some' is') = sym is ∙ is'
+
 module _ (case : Case) (wf : WellFormed case) (schedule : List ℕ) where
   abbrev given : ℕ → ℕ
   given = givenIn case schedule
@@ -113,31 +138,13 @@ module _ (case : Case) (wf : WellFormed case) (schedule : List ℕ) where
   abbrev end : ℕ → Outcome
   end note = ending given note last
 
-  -- Refusal 14 does not meet the schedule; where it does, it is at one record.
-  abbrev pub NotMet14 : Type 0
-  NotMet14 = NoneStrays case schedule × (Legal case schedule → unrunInput case schedule ≡ 0)
-
-  pub met-or-not : NotMet14 → (k : ℕ) → Meets14 case schedule k → ⊥
-  met-or-not other k (on-the-way found) = none-has-no-first (strays case given) (runSteps case schedule) (found .0) (other .0) (found .1)
-  met-or-not other k (after-the-last-step none legal some is) = omega (arith, other .1 legal)
-
-  pub met-once : (k k' : ℕ) → Meets14 case schedule k → Meets14 case schedule k' → k ≡ k'
-  met-once k k' (on-the-way found) (on-the-way found') =
-      sym (found .2)
-      ∙ ap (λ (s : Step). s .line .number) (first-is-one (strays case given) (runSteps case schedule) (found .0) (found' .0) (found .1) (found' .1))
-      ∙ found' .2
-  met-once k k' (on-the-way found) (after-the-last-step none legal some is) =
-      absurd (none-has-no-first (strays case given) (runSteps case schedule) (found .0) none (found .1))
-  met-once k k' (after-the-last-step none legal some is) (on-the-way found) =
-      absurd (none-has-no-first (strays case given) (runSteps case schedule) (found .0) none (found .1))
-  met-once k k' (after-the-last-step none legal some is) (after-the-last-step none' legal' some' is') = sym is ∙ is'
-
   -- How the run ends, and what the machine answers then.
   pub data RunEnding : Type 0 where
     met-14 : (k : ℕ) → Meets14 case schedule k → runOf case schedule ≡ refused14 k → RunEnding
-    cut-off : (s : Step) → NotMet14 → FirstEnding case schedule s → runOf case schedule ≡ cutOff (s .line .number) (s .memory .items) → RunEnding
-    ended-clean : NotMet14 → Legal case schedule → NoneBroken case schedule → runOf case schedule ≡ clean last → RunEnding
-    ended-violated : (s : Step) → NotMet14 → Legal case schedule → First (broken case given) (runSteps case schedule) s
+    cut-off : (s : Step) → NotMet14 case schedule → FirstEnding case schedule s
+        → runOf case schedule ≡ cutOff (s .line .number) (s .memory .items) → RunEnding
+    ended-clean : NotMet14 case schedule → Legal case schedule → NoneBroken case schedule → runOf case schedule ≡ clean last → RunEnding
+    ended-violated : (s : Step) → NotMet14 case schedule → Legal case schedule → First (broken case given) (runSteps case schedule) s
         → runOf case schedule ≡ violated (s .line .number) last → RunEnding
 
   pub run-ending : RunEnding
@@ -166,11 +173,11 @@ module _ (case : Case) (wf : WellFormed case) (schedule : List ℕ) where
   -- The legal run of a schedule that is taken finishes.
   pub finished-run : Takes case schedule → Legal case schedule → FinishesRun case schedule
   finished-run takes legal =
-      finished-of-legal case given wf 0 (blockLengths case schedule) (start case) (wf .thread-count) (few-steps case (blockLengths case schedule) (takes .not-13))
+      let lens = blockLengths case schedule in
+      let positive = last-positive case given wf 0 lens (start case) (wf .thread-count) (wf .positive) in
+      finished-of-legal case given wf 0 lens (start case) (wf .thread-count) (few-steps case lens (takes .not-13))
       (rw (up-to-none (ends case given) (courseOf case schedule) legal) at (takes .not-14)) legal
-      (left-of-no-stray given (last .rests)
-      (all-threads Positive (last .rests) (λ t h. last-positive case given wf 0 (blockLengths case schedule) (start case) (wf .thread-count) (wf .positive) t))
-      (takes .nor-after legal))
+      (left-of-no-stray given (last .rests) (all-threads Positive (last .rests) (λ t h. positive t)) (takes .nor-after legal))
 
   -- A legal run runs of each thread the first lines, as many as its block lengths add up to.
   pub first-lines-of-legal : Legal case schedule → (t : ℕ)

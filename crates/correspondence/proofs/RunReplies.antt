@@ -25,7 +25,7 @@ use Rattle.correspondence.specs.Demand3.{itemRoom, Leaves, NotRefused}
 use Rattle.correspondence.proofs.Replies.{fits-of-answered, replayed-fits}
 use Rattle.correspondence.proofs.Courses.{none-has-no-first, first-is-one}
 use Rattle.correspondence.proofs.Endings.{lengths-fit}
-use Rattle.correspondence.proofs.RunEnds.{NotMet14, met-or-not, met-once, RunEnding, met-14, cut-off, ended-clean, ended-violated, run-ending}
+use Rattle.correspondence.proofs.RunEnds.{NotMet14, not-met-has-no-record, met-at-one-record, RunEnding, met-14, cut-off, ended-clean, ended-violated, run-ending}
 
 module _ (bytes : List ℕ) (accepted : verdict bytes ≡ Accepted) (wf : WellFormed (caseOf bytes)) (schedule : List ℕ) where
   abbrev case : Case
@@ -35,8 +35,8 @@ module _ (bytes : List ℕ) (accepted : verdict bytes ≡ Accepted) (wf : WellFo
   given = givenIn case schedule
 
   -- Refusal 14 does not meet a schedule that is taken.
-  never-met : Takes case schedule → (k : ℕ) → Meets14 case schedule k → ⊥
-  never-met takes = met-or-not case wf schedule (takes .not-14, takes .nor-after)
+  taken-is-not-met : Takes case schedule → (k : ℕ) → Meets14 case schedule k → ⊥
+  taken-is-not-met takes = not-met-has-no-record case schedule (takes .not-14, takes .nor-after)
 
   -- ---- Between the reply and the run, with this room.
   module _ (room : ℕ) (h : itemRoom bytes ≤ room) where
@@ -55,7 +55,7 @@ module _ (bytes : List ℕ) (accepted : verdict bytes ≡ Accepted) (wf : WellFo
         let other = go (run-ending case wf schedule) in
         record { not-12 = fits .has-size; not-13 = fits .fit; not-14 = other .0; nor-after = other .1 }
       where
-        go : RunEnding case wf schedule → NotMet14 case wf schedule
+        go : RunEnding case wf schedule → NotMet14 case schedule
         go (met-14 k found e) = absurd (subst NotRefused (answer-of-run answered ∙ ap answerOfRun e) answered)
         go (cut-off s other first e) = other
         go (ended-clean other legal unbroken e) = other
@@ -65,7 +65,7 @@ module _ (bytes : List ℕ) (accepted : verdict bytes ≡ Accepted) (wf : WellFo
     answered-of-takes takes = go (run-ending case wf schedule)
       where
         go : RunEnding case wf schedule → NotRefused (replayed bytes schedule room)
-        go (met-14 k found e) = absurd (never-met takes k found)
+        go (met-14 k found e) = absurd (taken-is-not-met takes k found)
         go (cut-off s other first e) = subst NotRefused (sym (replies-of-run takes _ e)) tt
         go (ended-clean other legal unbroken e) = subst NotRefused (sym (replies-of-run takes _ e)) tt
         go (ended-violated s other legal first e) = subst NotRefused (sym (replies-of-run takes _ e)) tt
@@ -101,7 +101,7 @@ module _ (bytes : List ℕ) (accepted : verdict bytes ≡ Accepted) (wf : WellFo
     violated-of-run k takes legal found = go (run-ending case wf schedule)
       where
         go : RunEnding case wf schedule → replayed bytes schedule room ≡ Violated k
-        go (met-14 k' found' e) = absurd (never-met takes k' found')
+        go (met-14 k' found' e) = absurd (taken-is-not-met takes k' found')
         go (cut-off s other first e) = absurd (none-has-no-first (ends case given) (courseOf case schedule) s legal first)
         go (ended-clean other _ unbroken e) = absurd (none-has-no-first (broken case given) (runSteps case schedule) (found .0) unbroken (found .1))
         go (ended-violated s other _ first e) =
@@ -125,7 +125,7 @@ module _ (bytes : List ℕ) (accepted : verdict bytes ≡ Accepted) (wf : WellFo
     clean-of-run takes legal unbroken = go (run-ending case wf schedule)
       where
         go : RunEnding case wf schedule → replayed bytes schedule room ≡ Clean
-        go (met-14 k found e) = absurd (never-met takes k found)
+        go (met-14 k found e) = absurd (taken-is-not-met takes k found)
         go (cut-off s other first e) = absurd (none-has-no-first (ends case given) (courseOf case schedule) s legal first)
         go (ended-clean other _ _ e) = replies-of-run takes _ e
         go (ended-violated s other _ first e) = absurd (none-has-no-first (broken case given) (runSteps case schedule) s unbroken first)
@@ -182,17 +182,17 @@ module _ (bytes : List ℕ) (accepted : verdict bytes ≡ Accepted) (wf : WellFo
         ∙ ap answerOfRun (go (run-ending case wf schedule))
       where
         go : RunEnding case wf schedule → runOf case schedule ≡ refused14 k
-        go (met-14 k' found' e) = e ∙ ap refused14 (met-once case wf schedule k' k found' found)
-        go (cut-off s other first e) = absurd (met-or-not case wf schedule other k found)
-        go (ended-clean other legal unbroken e) = absurd (met-or-not case wf schedule other k found)
-        go (ended-violated s other legal first e) = absurd (met-or-not case wf schedule other k found)
+        go (met-14 k' found' e) = e ∙ ap refused14 (met-at-one-record case schedule k' k found' found)
+        go (cut-off s other first e) = absurd (not-met-has-no-record case schedule other k found)
+        go (ended-clean other legal unbroken e) = absurd (not-met-has-no-record case schedule other k found)
+        go (ended-violated s other legal first e) = absurd (not-met-has-no-record case schedule other k found)
 
   -- The outcome at the first line that ends the run.
   outcome-of-cut-off : Takes case schedule → (s : Step) → FirstEnding case schedule s → runOf case schedule ≡ cutOff (s .line .number) (s .memory .items)
   outcome-of-cut-off takes s found = go (run-ending case wf schedule)
     where
       go : RunEnding case wf schedule → runOf case schedule ≡ cutOff (s .line .number) (s .memory .items)
-      go (met-14 k found' e) = absurd (never-met takes k found')
+      go (met-14 k found' e) = absurd (taken-is-not-met takes k found')
       go (cut-off s' other first e) =
           e ∙ ap (λ (x : Step). cutOff (x .line .number) (x .memory .items)) (first-is-one (ends case given) (courseOf case schedule) s' s first found)
       go (ended-clean other legal _ e) = absurd (none-has-no-first (ends case given) (courseOf case schedule) s legal found)
@@ -217,7 +217,7 @@ module _ (bytes : List ℕ) (accepted : verdict bytes ≡ Accepted) (wf : WellFo
   values-of-legal takes legal = go (run-ending case wf schedule)
     where
       go : RunEnding case wf schedule → Leaves bytes schedule (lastItems case schedule)
-      go (met-14 k found e) = absurd (never-met takes k found)
+      go (met-14 k found e) = absurd (taken-is-not-met takes k found)
       go (cut-off s other first e) = absurd (none-has-no-first (ends case given) (courseOf case schedule) s legal first)
       go (ended-clean other _ _ e) = leaves-of-run takes _ e tt
       go (ended-violated s other _ _ e) = leaves-of-run takes _ e tt

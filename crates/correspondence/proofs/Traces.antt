@@ -48,7 +48,8 @@ module _ (case : Case) (given : ℕ → ℕ) (α : Assignment) where
       → Agrees α (allLeftEvents i rests)
   all-left-agrees i [] after unrun = tt
   all-left-agrees i (ls ∷ rests) after unrun =
-      agrees-append α (leftEvents i ls) (allLeftEvents i rests) (left-agrees i ls (after .0) (unrun .0)) (all-left-agrees i rests (after .1) (unrun .1))
+      agrees-append α (leftEvents i ls) (allLeftEvents i rests) (left-agrees i ls (after .0) (unrun .0))
+      (all-left-agrees i rests (after .1) (unrun .1))
 
   agreed-left-is-unrun : (i : ℕ) (ls : List Line) → AllLines (MayBeLeft given) ls → Agrees α (leftEvents i ls)
       → AllLines (HasBlock (α .block) i) ls × AllLines (Unrun case given α) ls

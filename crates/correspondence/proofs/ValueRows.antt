@@ -49,7 +49,8 @@ module _ (case : Case) (few : localCount + itemCount case ≤ noName) (α : Assi
       (subst (λ (kind : Kind). demandMet kind l (readsWith case α l 0 0 0 0) (α .value (l .number)) ≡ true) e (rw (found, run) at (h .0)))
   demand-of-rows lock earlier l e found h run = λ on. sym (copy-reads case few α (α .block (l .number)) earlier (targetName (case .G) l))
       ∙ zero-where-true (guardTrue l (lockReads case few α earlier l)) (lockReads case few α earlier l .target)
-      (not-true _ (subst (λ (kind : Kind). demandMet kind l (lockReads case few α earlier l) (α .value (l .number)) ≡ true) e (rw (found, run) at (h .0))))
+      (not-true _ (subst (λ (kind : Kind). demandMet kind l (lockReads case few α earlier l) (α .value (l .number)) ≡ true) e
+      (rw (found, run) at (h .0))))
       (lock-guard case few α earlier l ∙ on)
   demand-of-rows unlock earlier l e found h run = tt
 
@@ -72,7 +73,8 @@ module _ (case : Case) (few : localCount + itemCount case ≤ noName) (α : Assi
     rw found (met-where-run (wasRun case (α .block (l .number))) _
         (λ run. subst (λ (kind : Kind). demandMet kind l (lockReads case few α earlier l) (α .value (l .number)) ≡ true) (sym e)
         (ap not (not-nonzero-where-true (guardTrue l (lockReads case few α earlier l)) (lockReads case few α earlier l .target)
-        (λ on. copy-reads case few α (α .block (l .number)) earlier (targetName (case .G) l) ∙ h run (sym (lock-guard case few α earlier l) ∙ on)))))),
+        (λ on. copy-reads case few α (α .block (l .number)) earlier (targetName (case .G) l)
+        ∙ h run (sym (lock-guard case few α earlier l) ∙ on)))))),
     tt,
   )
   rows-of-demand unlock earlier l e found h = tt

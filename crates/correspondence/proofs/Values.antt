@@ -177,7 +177,8 @@ module _ (case : Case) (wf : WellFormed case) (given : ℕ → ℕ) (α : Assign
   left-past-blocks : (i : ℕ) (rests : List (List Line)) → i + 0 ≡ suc (case .n) → BlocksNext case α i [] rests
       → (t : ℕ) → AllLines (HasBlock (α .block) (suc (case .n))) (getD rests t [])
   left-past-blocks i rests last blocks =
-      each-thread (HasBlock (α .block) (suc (case .n))) rests (subst (λ (x : ℕ). AllThreads (HasBlock (α .block) x) rests) (omega (arith, last)) blocks)
+      each-thread (HasBlock (α .block) (suc (case .n))) rests
+      (subst (λ (x : ℕ). AllThreads (HasBlock (α .block) x) rests) (omega (arith, last)) blocks)
 
   pub blocks-run : (i : ℕ) (lens : List ℕ) (s : State) (earlier : ℕ → List Line) → i + length lens ≡ suc (case .n)
       → Invariant case α i s earlier

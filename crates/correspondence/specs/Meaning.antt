@@ -78,11 +78,14 @@ breakCount case α = sumBelow (λ t. breaksIn case α [] (linesOf case t)) (case
 abbrev pub InputGiven : Kind → Bool → ℕ → ℕ → Type 0
 InputGiven kind own value given = isInput kind ≡ true → given ≡ cond own value 0
 
+abbrev pub GivenTo : Case → Assignment → (ℕ → ℕ) → List Line → Line → Type 0
+GivenTo case α given earlier l =
+    InputGiven (l .kind) (wasRun case (α .block (l .number)) && guardTrue l (readsAfter case α earlier l))
+    (α .value (l .number)) (given (l .number))
+
 abbrev pub InputsGiven : Case → Assignment → (ℕ → ℕ) → List Line → List Line → Type 0
 InputsGiven case α given earlier [] = Unit
-InputsGiven case α given earlier (l ∷ ls) =
-    InputGiven (l .kind) (wasRun case (α .block (l .number)) && guardTrue l (readsAfter case α earlier l)) (α .value (l .number)) (given (l .number))
-    × InputsGiven case α given (l ∷ earlier) ls
+InputsGiven case α given earlier (l ∷ ls) = GivenTo case α given earlier l × InputsGiven case α given (l ∷ earlier) ls
 
 -- The block lengths from block i on are the numbers of lines counted.
 abbrev pub Counted : Case → Assignment → ℕ → List ℕ → Type 0
