@@ -1,8 +1,8 @@
 -- One block, both ways: its lines' constraints 4 and 5 and decoded inputs say just that the machine runs through it with the
--- assignment's values.
+-- assignment's values; and what they say of lines that were not run.
 -- Assumes nothing. Met again in Values, for all blocks, and in Breaks and Traces.
 use mathlib.Core.Path.{_≡_, refl, sym, ap, _∙_, subst, fun-ext}
-use Prim.Native.Nat.{ℕ, zero, suc}
+use Prim.Native.Nat.{ℕ, zero, suc, _≤_}
 use mathlib.Core.Bool.{Bool, true, false, cond, not, _&&_, false≢true}
 use mathlib.Core.List.{List, [], _∷_}
 use native.Mathlib.Omega.{arith}
@@ -12,15 +12,15 @@ use borrow.Author.Tests.{eq-eqb}
 use Rattle.laws.proofs.Views.{EqView, same, diff, eq-view}
 use Rattle.model.specs.Word.{bit, nonzero}
 use Rattle.model.specs.CaseFile.{Kind, compute, store, load, input, assert, assume, lock, unlock, Line, Case}
-use Rattle.model.specs.Line.{Reads, readsOf, targetName, guardTrue, expression, guardedInValue, guardedOutValue, valueBy, stops, strayInput}
+use Rattle.model.specs.Line.{Reads, readsOf, targetName, guardTrue, expression, guardedInValue, guardedOutValue, valueBy, unrunValue, stops, strayInput, isInput, unrunStray}
 use Rattle.model.specs.Machine.{Memory, look, readsIn, stepped}
 use Rattle.model.specs.Assignment.{Assignment}
 use Rattle.model.specs.Copies.{readAfter, readsAfter}
 use Rattle.laws.specs.Order.{AllLines, Positive}
-use Rattle.correspondence.specs.Meaning.{WellFormed, Demanded, LineMet, LinesMet, InputGiven, InputsGiven}
+use Rattle.correspondence.specs.Meaning.{WellFormed, Demanded, LineMet, LinesMet, InputGiven, GivenTo, InputsGiven}
 use Rattle.model.specs.Runs.{memoryAfter}
 use Rattle.correspondence.proofs.Step.{MemoryFits, step-fits, Corresponds, step-keeps-correspondence}
-use Rattle.correspondence.proofs.Order.{NextIn, runMore}
+use Rattle.correspondence.proofs.Order.{run-in-block, unrun-past-blocks, HasBlock, NextIn, runMore}
 
 -- A line runs and has this value: it neither stops the run nor is refused.
 pub record LineRuns (kind : Kind) (l : Line) (value : ℕ) (reads : Reads) : Type 0 where
@@ -28,7 +28,12 @@ pub record LineRuns (kind : Kind) (l : Line) (value : ℕ) (reads : Reads) : Typ
   pub goes-on : stops kind l reads ≡ false
   pub not-stray : strayInput kind l reads ≡ false
 
--- What the constraints and the decoding say of a line, from what it reads.
+-- A line was not run and has this value: refusal 14 does not meet it after the last step.
+pub record LineUnrun (kind : Kind) (value given : ℕ) : Type 0 where
+  pub has-value : value ≡ unrunValue kind
+  pub not-stray : unrunStray kind given ≡ false
+
+-- What the constraints and the decoding say of a line that was run, from what it reads.
 pub record LineDecoded (kind : Kind) (l : Line) (value given : ℕ) (reads : Reads) : Type 0 where
   pub has-value : value ≡ valueBy kind l reads
   pub demand : Demanded kind l reads value
@@ -155,23 +160,54 @@ module _ (case : Case) (given : ℕ → ℕ) (α : Assignment) where
   DecodedBy l reader =
       LineDecoded (l .kind) l (α .value (l .number)) (given (l .number)) (readsOf (case .G) reader l (α .value (l .number)))
 
-  met-line-runs : (i : ℕ) (l : Line) (earlier : List Line) (m : Memory) → α .block (l .number) ≡ i → Corresponds case α i earlier m
-      → LineMet case α earlier l
-      → InputGiven (l .kind) (guardTrue l (readsAfter case α earlier l)) (α .value (l .number)) (given (l .number))
+  met-line-runs : (i : ℕ) (l : Line) (earlier : List Line) (m : Memory) → i ≤ case .n → α .block (l .number) ≡ i
+      → Corresponds case α i earlier m → LineMet case α earlier l → GivenTo case α given earlier l
       → LineRuns (l .kind) l (α .value (l .number)) (readsIn case given l m)
   unfolding DecodedBy
-  met-line-runs i l earlier m in-block corresponds met inputs =
+  met-line-runs i l earlier m few in-block corresponds met inputs =
+      let run = run-in-block case i (α .block (l .number)) few in-block in
       decoded-line-runs (case .G) (look m) l (α .value (l .number)) (given (l .number)) (l .kind)
       (subst (DecodedBy l) (sym (same-readers case α i l earlier m in-block corresponds))
-      (record { has-value = met .value; demand = met .demand; inputs = inputs }))
+      (record { has-value = rw run at (met .value); demand = met .demand run; inputs = rw run at inputs }))
 
-  line-that-runs-is-met : (i : ℕ) (l : Line) (earlier : List Line) (m : Memory) → α .block (l .number) ≡ i → Corresponds case α i earlier m
-      → LineRuns (l .kind) l (α .value (l .number)) (readsIn case given l m)
-      → LineDecoded (l .kind) l (α .value (l .number)) (given (l .number)) (readsAfter case α earlier l)
+  line-that-runs-is-met : (i : ℕ) (l : Line) (earlier : List Line) (m : Memory) → i ≤ case .n → α .block (l .number) ≡ i
+      → Corresponds case α i earlier m → LineRuns (l .kind) l (α .value (l .number)) (readsIn case given l m)
+      → LineMet case α earlier l × GivenTo case α given earlier l
   unfolding DecodedBy
-  line-that-runs-is-met i l earlier m in-block corresponds runs =
+  line-that-runs-is-met i l earlier m few in-block corresponds runs =
+      let run = run-in-block case i (α .block (l .number)) few in-block in
+      let decoded : LineDecoded (l .kind) l (α .value (l .number)) (given (l .number)) (readsAfter case α earlier l) =
       subst (DecodedBy l) (same-readers case α i l earlier m in-block corresponds)
-      (line-that-runs-is-decoded (case .G) (look m) l (α .value (l .number)) (given (l .number)) (l .kind) runs)
+      (line-that-runs-is-decoded (case .G) (look m) l (α .value (l .number)) (given (l .number)) (l .kind) runs) in
+      (record { value = rw run (decoded .has-value); demand = λ _. decoded .demand }, rw run (decoded .inputs))
+
+  -- The lines that are left after all blocks, with the assignment's values.
+  abbrev pub Unrun : Line → Type 0
+  Unrun l = LineUnrun (l .kind) (α .value (l .number)) (given (l .number))
+
+  pub decoded-lines-are-unrun : (earlier ls : List Line) → AllLines (HasBlock (α .block) (suc (case .n))) ls → LinesDecoded earlier ls
+      → AllLines Unrun ls
+  unfolding unrunStray
+  decoded-lines-are-unrun earlier [] after decoded = tt
+  decoded-lines-are-unrun earlier (l ∷ ls) after decoded =
+      let unrun = unrun-past-blocks case (α .block (l .number)) (after .0) in (
+        record {
+          has-value = rw unrun at (decoded .0 .0 .value);
+          not-stray = not-nonzero-where-true (isInput (l .kind)) (given (l .number)) (rw unrun at (decoded .1 .0));
+        },
+        decoded-lines-are-unrun (l ∷ earlier) ls (after .1) (decoded .0 .1, decoded .1 .1),
+      )
+
+  pub unrun-lines-are-decoded : (earlier ls : List Line) → AllLines (HasBlock (α .block) (suc (case .n))) ls → AllLines Unrun ls
+      → LinesDecoded earlier ls
+  unfolding unrunStray
+  unrun-lines-are-decoded earlier [] after left = (tt, tt)
+  unrun-lines-are-decoded earlier (l ∷ ls) after left =
+      let unrun = unrun-past-blocks case (α .block (l .number)) (after .0) in
+      let rest = unrun-lines-are-decoded (l ∷ earlier) ls (after .1) (left .1) in (
+        (record { value = rw unrun (left .0 .has-value); demand = λ run. absurd (false≢true (sym unrun ∙ run)) }, rest .0),
+        (rw unrun (zero-where-true (isInput (l .kind)) (given (l .number)) (left .0 .not-stray)), rest .1),
+      )
 
   module _ (wf : WellFormed case) where
     pub block-keeps-correspondence : (i steps : ℕ) (ls earlier : List Line) (m : Memory) → MemoryFits case m → AllLines Positive ls
@@ -184,27 +220,28 @@ module _ (case : Case) (given : ℕ → ℕ) (α : Assignment) where
         (next .1) (runs .1)
         (step-keeps-correspondence case α wf given i l earlier m fits (positive .0) (next .0) (runs .0 .has-value) corresponds)
 
-    pub decoded-block-runs : (i steps : ℕ) (ls earlier : List Line) (m : Memory) → MemoryFits case m → AllLines Positive ls
+    pub decoded-block-runs : (i steps : ℕ) (ls earlier : List Line) (m : Memory) → i ≤ case .n → MemoryFits case m → AllLines Positive ls
         → NextIn (α .block) i steps ls → Corresponds case α i earlier m → LinesDecoded earlier ls
         → BlockRuns steps ls m × LinesDecoded (runMore steps ls earlier) (drop steps ls)
-    decoded-block-runs i zero ls earlier m fits positive next corresponds decoded = (tt, decoded)
-    decoded-block-runs i (suc steps) [] earlier m fits positive next corresponds decoded = absurd next
-    decoded-block-runs i (suc steps) (l ∷ ls) earlier m fits positive next corresponds decoded =
-        let runs = met-line-runs i l earlier m (next .0) corresponds (decoded .0 .0) (decoded .1 .0) in
-        let ih = decoded-block-runs i steps ls (l ∷ earlier) (stepped case given l m) (step-fits case given l m fits) (positive .1) (next .1)
+    decoded-block-runs i zero ls earlier m few fits positive next corresponds decoded = (tt, decoded)
+    decoded-block-runs i (suc steps) [] earlier m few fits positive next corresponds decoded = absurd next
+    decoded-block-runs i (suc steps) (l ∷ ls) earlier m few fits positive next corresponds decoded =
+        let runs = met-line-runs i l earlier m few (next .0) corresponds (decoded .0 .0) (decoded .1 .0) in
+        let ih = decoded-block-runs i steps ls (l ∷ earlier) (stepped case given l m) few (step-fits case given l m fits)
+        (positive .1) (next .1)
         (step-keeps-correspondence case α wf given i l earlier m fits (positive .0) (next .0) (runs .has-value) corresponds)
         (decoded .0 .1, decoded .1 .1) in
         ((runs, ih .0), ih .1)
 
-    pub block-that-runs-is-decoded : (i steps : ℕ) (ls earlier : List Line) (m : Memory) → MemoryFits case m → AllLines Positive ls
-        → NextIn (α .block) i steps ls → Corresponds case α i earlier m → BlockRuns steps ls m
+    pub block-that-runs-is-decoded : (i steps : ℕ) (ls earlier : List Line) (m : Memory) → i ≤ case .n → MemoryFits case m
+        → AllLines Positive ls → NextIn (α .block) i steps ls → Corresponds case α i earlier m → BlockRuns steps ls m
         → LinesDecoded (runMore steps ls earlier) (drop steps ls) → LinesDecoded earlier ls
-    block-that-runs-is-decoded i zero ls earlier m fits positive next corresponds runs decoded = decoded
-    block-that-runs-is-decoded i (suc steps) [] earlier m fits positive next corresponds runs decoded = (tt, tt)
-    block-that-runs-is-decoded i (suc steps) (l ∷ ls) earlier m fits positive next corresponds runs decoded =
-        let met = line-that-runs-is-met i l earlier m (next .0) corresponds (runs .0) in
-        let ih = block-that-runs-is-decoded i steps ls (l ∷ earlier) (stepped case given l m) (step-fits case given l m fits)
+    block-that-runs-is-decoded i zero ls earlier m few fits positive next corresponds runs decoded = decoded
+    block-that-runs-is-decoded i (suc steps) [] earlier m few fits positive next corresponds runs decoded = (tt, tt)
+    block-that-runs-is-decoded i (suc steps) (l ∷ ls) earlier m few fits positive next corresponds runs decoded =
+        let line = line-that-runs-is-met i l earlier m few (next .0) corresponds (runs .0) in
+        let ih = block-that-runs-is-decoded i steps ls (l ∷ earlier) (stepped case given l m) few (step-fits case given l m fits)
         (positive .1) (next .1)
         (step-keeps-correspondence case α wf given i l earlier m fits (positive .0) (next .0) (runs .0 .has-value) corresponds)
         (runs .1) decoded in
-        ((record { value = met .has-value; demand = met .demand }, ih .0), (met .inputs, ih .1))
+        ((line .0, ih .0), (line .1, ih .1))

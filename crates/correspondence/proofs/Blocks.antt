@@ -1,5 +1,5 @@
 -- All blocks, block numbers alone: constraints 1 to 3 and the counted lengths say just that each block takes the next lines of
--- its thread, and that all lines are taken.
+-- its thread, and that the lines which are left have block number n + 1.
 -- Assumes nothing. Met again in Values and Runs; what is left after a block also in Endings and RunEnds.
 use mathlib.Core.Path.{_≡_, refl, sym, ap, _∙_}
 use mathlib.Core.Logic.{_≢_}
@@ -18,10 +18,9 @@ use Rattle.model.specs.Assignment.{Assignment}
 use Rattle.model.specs.Schedule.{linesInBlock}
 use Rattle.laws.specs.Order.{AllThreads, Ordered}
 use Rattle.correspondence.specs.Meaning.{WellFormed, Counted}
-use Rattle.correspondence.specs.Agreement.{MayBeLeft}
 use Rattle.laws.proofs.AllLines.{all-threads, each-thread}
 use Rattle.laws.proofs.Walk.{RunBefore, run-before-weakened}
-use Rattle.correspondence.proofs.Order.{runMore, runMore-and-rest, NextIn, run-before-has-none, run-before-after-block, linesInBlock-of-reverse, ordered-weakened, ordered-past-other-thread, ordered-end-is-left, left-is-ordered, counted-block-is-next, next-is-ordered, next-is-counted}
+use Rattle.correspondence.proofs.Order.{runMore, runMore-and-rest, HasBlock, NextIn, run-before-has-none, run-before-after-block, linesInBlock-of-reverse, ordered-weakened, ordered-past-other-thread, ordered-end-is-unrun, unrun-is-ordered, counted-block-is-next, next-is-ordered, next-is-counted}
 
 -- A function changed at one number.
 unfoldable pub changed : {A : Type 0} → (ℕ → A) → ℕ → A → ℕ → A
@@ -111,9 +110,9 @@ module _ (case : Case) (wf : WellFormed case) (i : ℕ) where
     other-rest-after t differs = getD-set-other rests (i % case .T) t (drop len (restOf case i rests)) [] differs
 
 module _ (case : Case) (α : Assignment) where
-  -- From block i on, each block takes the next lines of its thread, and at the end none is left.
+  -- From block i on, each block takes the next lines of its thread, and those that are left have the number after the last block's.
   abbrev pub BlocksNext : ℕ → List ℕ → List (List Line) → Type 0
-  BlocksNext i [] rests = AllThreads MayBeLeft rests
+  BlocksNext i [] rests = AllThreads (HasBlock (α .block) i) rests
   BlocksNext i (len ∷ lens) rests = NextIn (α .block) i len (restOf case i rests) × BlocksNext (suc i) lens (restsAfter case i len rests)
 
   abbrev pub Places : ℕ → List (List Line) → (ℕ → List Line) → Type 0
@@ -135,8 +134,8 @@ module _ (case : Case) (α : Assignment) where
     pub blocks-of-order : (i : ℕ) (lens : List ℕ) (rests : List (List Line)) (earlier : ℕ → List Line) → length rests ≡ case .T
         → i + length lens ≡ suc (case .n) → Counted case α i lens → Places i rests earlier → AllOrdered i rests → BlocksNext i lens rests
     blocks-of-order i [] rests earlier count last counted places ordered =
-        all-threads MayBeLeft rests
-        (λ t ht. ordered-end-is-left case (α .block) t i (getD rests t []) (omega arith) (ordered t (omega arith)))
+        all-threads (HasBlock (α .block) i) rests
+        (λ t ht. ordered-end-is-unrun case (α .block) t i (getD rests t []) (omega arith) (ordered t (omega arith)))
     blocks-of-order i (len ∷ lens) rests earlier count last counted places ordered =
         let t = i % case .T in
         let rest = restOf case i rests in
@@ -148,7 +147,8 @@ module _ (case : Case) (α : Assignment) where
               (places-after-block i len rests earlier count (both .0) places)
               (each-after-change (λ u rest' _. Ordered case (α .block) u (suc i) rest') [] (case .T) rests earlier t (drop len rest) []
               (turn-in case wf i rests count) (both .1)
-              (λ u differs hu. ordered-past-other-thread case (α .block) u i (getD rests u []) (λ e. differs (sym e)) (ordered u hu))),
+              (λ u differs hu. ordered-past-other-thread case (α .block) u i (getD rests u []) (omega arith) (λ e. differs (sym e))
+              (ordered u hu))),
         )
 
     pub ordered-after-block : (i len : ℕ) (rests : List (List Line)) → length rests ≡ case .T
@@ -169,7 +169,8 @@ module _ (case : Case) (α : Assignment) where
     pub order-of-blocks : (i : ℕ) (lens : List ℕ) (rests : List (List Line)) (earlier : ℕ → List Line) → length rests ≡ case .T
         → i + length lens ≡ suc (case .n) → BlocksNext i lens rests → Places i rests earlier → AllOrdered i rests × Counted case α i lens
     order-of-blocks i [] rests earlier count last blocks places =
-        ((λ t ht. left-is-ordered case (α .block) t i (getD rests t []) (each-thread MayBeLeft rests blocks t)), tt)
+        let unrun = each-thread (HasBlock (α .block) i) rests blocks in
+        ((λ t ht. unrun-is-ordered case (α .block) t i (getD rests t []) (omega arith) (unrun t)), tt)
     order-of-blocks i (len ∷ lens) rests earlier count last blocks places =
         let t = i % case .T in
         let rest = restOf case i rests in

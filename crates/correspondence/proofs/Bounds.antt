@@ -14,8 +14,8 @@ use Rattle.model.specs.Word.{wordSize, AllBelow, bit, nonzero}
 use Rattle.model.specs.Limits.{localCount}
 use Rattle.model.specs.Lists.{numbersFrom}
 use Rattle.model.specs.CaseFile.{Kind, compute, store, load, input, assert, assume, lock, unlock, Line, Case, linesOf, itemCount}
-use Rattle.model.specs.Line.{operandA, operandB, targetName, Reads, guardTrue, apply, expression, guardedInValue, guardedOutValue, valueBy, valueOf, isInput}
-use Rattle.model.specs.Assignment.{Assignment, assignmentOf}
+use Rattle.model.specs.Line.{operandA, operandB, targetName, Reads, guardTrue, apply, expression, guardedInValue, guardedOutValue, valueBy, valueOf, unrunValue, isInput}
+use Rattle.model.specs.Assignment.{Assignment, assignmentOf, wasRun}
 use Rattle.model.specs.Copies.{readsAfter}
 use Rattle.model.specs.Machine.{Memory, State, look, putLocal, putItem, readsIn, stepped, start, restIn, memoryIn}
 use Rattle.model.specs.Schedule.{allInputLines, valueGiven, countedLengths, decodedValues, allDecodedValues, decode}
@@ -111,6 +111,17 @@ unfolding valueBy
 below-value l reads c h =
     either IsWord (guardTrue l reads) _ _ (below-guarded-in (l .kind) l reads c h) (below-guarded-out (l .kind) reads h)
 
+below-unrun : (kind : Kind) → unrunValue kind < wordSize
+unfolding unrunValue
+below-unrun compute = omega arith
+below-unrun store = omega arith
+below-unrun load = omega arith
+below-unrun input = omega arith
+below-unrun assert = omega arith
+below-unrun assume = omega arith
+below-unrun lock = omega arith
+below-unrun unlock = omega arith
+
 -- The machine.
 record SmallMemory (m : Memory) : Type 0 where
   locals : Small (m .locals)
@@ -144,7 +155,7 @@ small-events-append (e ∷ es) fs h g = (h .0, h .1, small-events-append es fs (
 
 small-left : (i : ℕ) (ls : List Line) → i < wordSize → SmallEvents (leftEvents i ls)
 small-left i [] h = tt
-small-left i (l ∷ ls) h = (h, omega arith, small-left i ls h)
+small-left i (l ∷ ls) h = (h, below-unrun (l .kind), small-left i ls h)
 
 small-all-left : (i : ℕ) (rests : List (List Line)) → i < wordSize → SmallEvents (allLeftEvents i rests)
 small-all-left i [] h = tt
@@ -267,7 +278,8 @@ module _ (case : Case) (wf : WellFormed case) where
     below-decoded earlier [] = tt
     below-decoded earlier (l ∷ ls) =
         let rest = below-decoded (l ∷ earlier) ls in
-        let own = either IsWord (guardTrue l (readsAfter case α earlier l)) (α .value (l .number)) 0 (small (l .number)) (omega arith) in
+        let own = either IsWord (wasRun case (α .block (l .number)) && guardTrue l (readsAfter case α earlier l)) (α .value (l .number)) 0
+        (small (l .number)) (omega arith) in
         either Small (isInput (l .kind)) _ _ (own, rest) rest
 
     below-all-decoded : (threads : List (List Line)) → Small (allDecodedValues case α threads)

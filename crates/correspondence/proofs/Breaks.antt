@@ -2,13 +2,14 @@
 -- Assumes nothing. Met again in Runs, for constraint 7.
 use mathlib.Core.Path.{_≡_, refl, sym, ap, _∙_}
 use Prim.Native.Nat.{ℕ, zero, suc, _+_, _%_, _≤_}
+use mathlib.Core.Bool.{false}
 use mathlib.Core.List.{List, [], _∷_, _++_}
 use native.Mathlib.Omega.{arith}
 use native.Mathlib.Nat.{zero-add}
 use lib.ListN.{getD, length, drop}
 use Rattle.model.specs.Word.{bit}
 use Rattle.model.specs.CaseFile.{Kind, compute, store, load, input, assert, assume, lock, unlock, Line, Case}
-use Rattle.model.specs.Line.{readsOf, valueOf, breaks}
+use Rattle.model.specs.Line.{Reads, readsOf, valueOf, unrunValue, breaks}
 use Rattle.model.specs.Machine.{Memory, State, look, readsIn, stepped, restIn, memoryIn}
 use Rattle.model.specs.Assignment.{Assignment}
 use Rattle.model.specs.Copies.{readsAfter}
@@ -16,12 +17,12 @@ use Rattle.model.specs.Runs.{nextState}
 use Rattle.laws.specs.Order.{AllLines, Positive}
 use Rattle.correspondence.specs.Meaning.{WellFormed, breaksIn, sumBelow}
 use Rattle.correspondence.specs.Trace.{Event, blockEvents, leftEvents, allLeftEvents, events}
-use Rattle.correspondence.specs.Agreement.{brokenIn, MayBeLeft}
+use Rattle.correspondence.specs.Agreement.{brokenIn}
 use Rattle.correspondence.proofs.Sums.{sumBelow-zero, sumBelow-differs-at}
 use Rattle.correspondence.proofs.Step.{MemoryFits, step-fits, Corresponds, step-keeps-correspondence}
 use Rattle.laws.proofs.AllLines.{each-thread}
 use Rattle.correspondence.proofs.Order.{runMore, NextIn}
-use Rattle.correspondence.proofs.Block.{BlockRuns, same-readers}
+use Rattle.correspondence.proofs.Block.{BlockRuns, Unrun, same-readers}
 use Rattle.correspondence.proofs.Blocks.{changed-same, changed-other, restsAfter, earlierAfter, BlocksNext, turn, own-rest-after, other-rest-after}
 use Rattle.correspondence.proofs.Values.{Invariant, BlocksRun, rest-positive, memory-fits, correspondence-at-block, invariant-after-block}
 
@@ -51,6 +52,18 @@ breaks-whatever-given G reader assume l x y value = refl
 breaks-whatever-given G reader lock l x y value = refl
 breaks-whatever-given G reader unlock l x y value = refl
 
+-- A line that was not run breaks nothing: an assert has value 1 then.
+unrun-breaks-nothing : (kind : Kind) (l : Line) (reads : Reads) → breaks kind l reads (unrunValue kind) ≡ false
+unfolding breaks unrunValue
+unrun-breaks-nothing compute l reads = refl
+unrun-breaks-nothing store l reads = refl
+unrun-breaks-nothing load l reads = refl
+unrun-breaks-nothing input l reads = refl
+unrun-breaks-nothing assert l reads = refl
+unrun-breaks-nothing assume l reads = refl
+unrun-breaks-nothing lock l reads = refl
+unrun-breaks-nothing unlock l reads = refl
+
 module _ (case : Case) (wf : WellFormed case) (given : ℕ → ℕ) (α : Assignment) where
   line-breaks-alike : (i : ℕ) (l : Line) (earlier : List Line) (m : Memory) → α .block (l .number) ≡ i → Corresponds case α i earlier m
       → α .value (l .number) ≡ valueOf l (readsIn case given l m)
@@ -77,9 +90,15 @@ module _ (case : Case) (wf : WellFormed case) (given : ℕ → ℕ) (α : Assign
             (step-keeps-correspondence case α wf given i l earlier m fits (positive .0) (next .0) (runs .0 .has-value) corresponds) (runs .1),
       )
 
-  left-has-no-break : (earlier ls : List Line) → AllLines MayBeLeft ls → breaksIn case α earlier ls ≡ 0
+  left-has-no-break : (earlier ls : List Line) → AllLines (Unrun case given α) ls → breaksIn case α earlier ls ≡ 0
   left-has-no-break earlier [] left = refl
-  left-has-no-break earlier (l ∷ ls) left = absurd (left .0)
+  left-has-no-break earlier (l ∷ ls) left =
+      let reads = readsAfter case α earlier l in
+      omega (
+        arith,
+        ap bit (ap (breaks (l .kind) l reads) (left .0 .has-value) ∙ unrun-breaks-nothing (l .kind) l reads),
+        left-has-no-break (l ∷ earlier) ls (left .1),
+      )
 
   -- The breaks of the lines that are left, thread by thread.
   abbrev pub breaksLeft : List (List Line) → (ℕ → List Line) → ℕ → ℕ
@@ -91,7 +110,7 @@ module _ (case : Case) (wf : WellFormed case) (given : ℕ → ℕ) (α : Assign
       → sumBelow (breaksLeft (s .rests) earlier) (case .T) ≡ brokenIn (events case given i lens s)
   run-breaks-alike i [] s earlier last inv blocks runs =
       sumBelow-zero (breaksLeft (s .rests) earlier) (case .T)
-      (λ t ht. left-has-no-break (earlier t) (getD (s .rests) t []) (each-thread MayBeLeft (s .rests) blocks t))
+      (λ t ht. left-has-no-break (earlier t) (getD (s .rests) t []) (each-thread (Unrun case given α) (s .rests) runs t))
       ∙ sym (all-left-breaks-nothing i (s .rests))
   run-breaks-alike i (len ∷ lens) s earlier last inv blocks runs =
       let t = i % case .T in

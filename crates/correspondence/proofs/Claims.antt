@@ -3,18 +3,14 @@
 -- Assumes nothing. Met again in Demand3.
 use mathlib.Core.Path.{_≡_, sym, ap₂, _∙_}
 use Prim.Native.Nat.{ℕ, suc, _+_}
-use mathlib.Core.Bool.{true}
 use mathlib.Core.List.{List, _++_}
 use native.Mathlib.Omega.{arith}
-use lib.Dec.{eqb}
 use lib.ListN.{length, length-append, length-drop, take-append-drop}
 use lib.Seq.{take-at, drop-at, length-take-le}
-use borrow.Author.Tests.{eqb-true, eq-eqb}
-use Rattle.model.specs.CaseFile.{Case, linesOf, hasNumber}
-use Rattle.model.specs.Machine.{start, run}
+use Rattle.model.specs.CaseFile.{Case, hasNumber}
+use Rattle.model.specs.Machine.{start}
 use Rattle.model.specs.Assignment.{Assignment, variables, assignmentOf}
-use Rattle.model.specs.Schedule.{allInputLines, blockLengths, inputValues, givenIn, scheduleSize, stepsOf, lengthsAddUp, countedLengths, allDecodedValues, decode}
-use Rattle.laws.proofs.Ranges.{all-from-gives, all-from-of}
+use Rattle.model.specs.Schedule.{allInputLines, blockLengths, inputValues, givenIn, scheduleSize, countedLengths, allDecodedValues, decode}
 use Rattle.correspondence.specs.Meaning.{WellFormed, Meets, DecodesTo, breakCount}
 use Rattle.correspondence.specs.Trace.{Event, events, snapshots}
 use Rattle.correspondence.specs.Agreement.{brokenIn, Finishes, Agrees, AgreesItems}
@@ -24,9 +20,8 @@ use Rattle.correspondence.proofs.Traces.{agrees-transfer, items-transfe
 use Rattle.correspondence.proofs.Numbers.{record-of-numbers, block-value-of-numbers, numbers-of-own, numbers-same}
 use Rattle.laws.proofs.Schedules.{length-of-decoded}
 use Rattle.correspondence.proofs.Inputs.{counted-lengths, only-counted, length-of-counted, inputs-of-decoded, decoded-of-inputs}
-use Rattle.correspondence.proofs.Endings.{AddsUp, adds-up-of-finished}
 
--- The events of a schedule's run and the items where its blocks end, and whether it finishes: is complete and legal.
+-- The events of a schedule's run and the items where its blocks end, and whether it finishes.
 abbrev pub eventsOf : Case → List ℕ → List Event
 eventsOf case schedule = events case (givenIn case schedule) 0 (blockLengths case schedule) (start case)
 
@@ -59,7 +54,7 @@ module _ (case : Case) (wf : WellFormed case) where
     inputs = λ t ht. inputs-of-decoded case wf α t;
   })
 
-  -- An assignment that meets constraints 1 to 6 decodes to a complete legal run that has its numbers.
+  -- An assignment that meets constraints 1 to 6 decodes to a run that finishes and has its numbers.
   pub run-of-meets : (α : Assignment) → Meets case α
       → FinishesRun case (decode case α) × Agrees α (eventsOf case (decode case α)) × AgreesItems case α 0 (snapshotsOf case (decode case α))
       × (breakCount case α ≡ brokenIn (eventsOf case (decode case α)))
@@ -89,7 +84,7 @@ module _ (case : Case) (wf : WellFormed case) where
           items-transfer α filled case 0 (snapshotsOf case schedule) (λ i g hi hg. sym (block-value-of-numbers case α i g hi hg)) (agrees .1),
         )
 
-    -- The filled assignment of a complete legal run meets constraints 1 to 6,
+    -- The filled assignment of a run that finishes meets constraints 1 to 6,
     pub meets-of-run : FinishesRun case schedule
         → Meets case filled × DecodesTo case filled (blockLengths case schedule) (givenIn case schedule)
         × (breakCount case filled ≡ brokenIn (eventsOf case schedule))
@@ -118,17 +113,3 @@ module _ (case : Case) (wf : WellFormed case) where
       (λ k h h'. same-records case wf (tracedRun case lens given) α lens given (traced .0) (run .1) k (wf .known k h h'))
       (same-blocks case wf (tracedRun case lens given) α lens given (all-blocks schedule (size-of-decode α)) (traced .1) (run .2))
       ∙ numbers-of-own case xs sized
-
-  -- ---- The block lengths of a schedule.
-  pub adds-up : (schedule : List ℕ) → lengthsAddUp case (blockLengths case schedule) ≡ true → AddsUp case 0 (blockLengths case schedule) (case .threads)
-  unfolding lengthsAddUp
-  adds-up schedule e t ht =
-      eqb-true (stepsOf case t 0 (blockLengths case schedule)) (length (linesOf case t))
-      (all-from-gives (λ t'. eqb (stepsOf case t' 0 (blockLengths case schedule)) (length (linesOf case t'))) 0 (case .T) e t (omega arith) (omega arith))
-
-  pub lengths-add-up : (schedule : List ℕ) → FinishesRun case schedule → lengthsAddUp case (blockLengths case schedule) ≡ true
-  unfolding lengthsAddUp
-  lengths-add-up schedule legal =
-      all-from-of (λ t. eqb (stepsOf case t 0 (blockLengths case schedule)) (length (linesOf case t))) 0 (case .T)
-      (λ t h h'. eq-eqb _ _
-      (adds-up-of-finished case (givenIn case schedule) wf 0 (blockLengths case schedule) (start case) (wf .thread-count) legal t (omega (arith, h'))))

@@ -1,5 +1,5 @@
 -- The machine goes along the steps of a run: its answer is made by the first step that ends the run or strays, or, where there is
--- none, by the first that breaks an assertion.
+-- none, by the lines that are left and the first step that breaks an assertion.
 -- Assumes nothing. Met again in Endings and RunEnds.
 use mathlib.Core.Path.{_≡_, refl, sym, ap, _∙_}
 use Prim.Native.Nat.{ℕ, zero, suc, _<_}
@@ -192,13 +192,14 @@ module _ (case : Case) (given : ℕ → ℕ) where
 
   -- The machine's answer is made along the steps.
   pub run-goes : (i : ℕ) (lens : List ℕ) (s : State) (note : ℕ)
-      → runBlocks case given i lens s note ≡ goes (course case given i lens s) note (λ note'. ending note' (lastState case given i lens s))
+      → runBlocks case given i lens s note
+      ≡ goes (course case given i lens s) note (λ note'. ending given note' (lastState case given i lens s))
   unfolding runBlocks
   run-goes i [] s note = refl
   run-goes i (len ∷ lens) s note =
       let here = blockSteps case given i len (restIn case i s) (memoryIn case i s) in
       let later = course case given (suc i) lens (nextState case given i len s) in
-      let end : ℕ → Outcome = λ note'. ending note' (lastState case given i (len ∷ lens) s) in
+      let end : ℕ → Outcome = λ note'. ending given note' (lastState case given i (len ∷ lens) s) in
       block-goes i len (restIn case i s) (memoryIn case i s) note (λ m note'. runBlocks case given (suc i) lens (afterBlock case i len s m) note')
       ∙ along-same (strays case given) (ends case given) (broken case given) here note
       (λ note'. runBlocks case given (suc i) lens (nextState case given i len s) note') (λ note'. goes later note' end)

@@ -36,11 +36,11 @@ use Rattle.laws.proofs.AllHold.{none-fails, all-hold-none-fails}
 use Rattle.correspondence.proofs.FirstFailing.{checker-names-the-first, fails-of-first, rows-of-numbers}
 use Rattle.correspondence.proofs.Numbers.{length-of-assignment}
 use Rattle.correspondence.proofs.Bounds.{filled-below, decoded-below}
-use Rattle.correspondence.proofs.Claims.{eventsOf, FinishesRun, size-of-decode, run-of-meets, meets-of-run, decode-of-fill, fill-of-decode, adds-up, lengths-add-up}
+use Rattle.correspondence.proofs.Claims.{eventsOf, FinishesRun, size-of-decode, run-of-meets, meets-of-run, decode-of-fill, fill-of-decode}
 use Rattle.correspondence.proofs.Courses.{up-to-none}
-use Rattle.correspondence.proofs.Endings.{legal-of-finished, broken-of-steps, first-of-some, some-of-first}
-use Rattle.correspondence.proofs.RunEnds.{finished-run}
-use Rattle.correspondence.proofs.RunReplies.{takes-of-answered, answered-of-takes, legal-completes, run-of-violated, violated-of-run, run-of-clean, clean-of-run, run-of-cut-off, cut-off-of-run, run-of-14, refused-14-of-run, values-of-cut-off, values-of-legal, takes-of-violating}
+use Rattle.correspondence.proofs.Endings.{no-stray-of-left, few-steps, lengths-fit, legal-of-finished, left-of-finished, few-steps-of-finished, broken-of-steps, first-of-some, some-of-first}
+use Rattle.correspondence.proofs.RunEnds.{finished-run, first-lines-of-legal}
+use Rattle.correspondence.proofs.RunReplies.{takes-of-answered, answered-of-takes, run-of-violated, violated-of-run, run-of-clean, clean-of-run, run-of-cut-off, cut-off-of-run, run-of-14, refused-14-of-run, values-of-cut-off, values-of-legal, takes-of-in-blocks}
 
 -- A result as long as the slice takes its place.
 written-whole : (result slice : List ℕ) → length result ≡ length slice → writtenOver result slice ≡ result
@@ -102,8 +102,9 @@ module _ (bytes : List ℕ) (small : AllBelow 256 bytes) (accepted : verdict byt
       let found = first-of-some case given (courseOf case schedule) (rw (← (broken-of-steps case given 0 lens (start case))) (run .some-broken)) in
       let takes : Takes case schedule = record {
         not-12 = run .has-size;
-        not-13 = lengths-add-up case wf schedule (run .finished);
+        not-13 = lengths-fit case lens (few-steps-of-finished case given wf 0 lens (start case) (wf .thread-count) (run .finished));
         not-14 = rw same (legal .0);
+        nor-after = λ _. no-stray-of-left given _ (left-of-finished case given 0 lens (start case) (run .finished));
       } in (
         run .numbers,
         (
@@ -123,7 +124,7 @@ module _ (bytes : List ℕ) (small : AllBelow 256 bytes) (accepted : verdict byt
       record {
         numbers = answered .0;
         has-size = run .0 .not-12;
-        finished = finished-run case wf schedule (run .0 .not-13) (run .0 .not-14) legal;
+        finished = finished-run case wf schedule (run .0) legal;
         some-broken = rw (broken-of-steps case given 0 lens (start case)) (some-of-first case given (courseOf case schedule) (run .2 .0) first);
       }
 
@@ -176,15 +177,16 @@ module _ (bytes : List ℕ) (small : AllBelow 256 bytes) (accepted : verdict byt
         record {
           numbers = answered .0;
           has-size = run .0 .not-12;
-          few-steps = λ t ht. omega (arith, adds-up case wf schedule (run .0 .not-13) t ht);
+          few-steps = few-steps case (blockLengths case schedule) (run .0 .not-13);
           none-strays = run .0 .not-14;
+          none-left = run .0 .nor-after;
         },
         run .1,
       )
 
   answered-of-run : (schedule : List ℕ) → ViolatingRun bytes schedule → AnsweredViolated bytes schedule
   answered-of-run schedule run =
-      let takes = takes-of-violating bytes accepted wf schedule (run .0) (run .1) in
+      let takes = takes-of-in-blocks bytes accepted wf schedule (run .0) in
       let found = run .1 .some-broken in
       (run .0 .numbers, (found .0, (λ room h. violated-of-run bytes accepted wf schedule room h (found .0) takes (run .1 .legal) (found .1))))
 
@@ -233,7 +235,7 @@ module _ (bytes : List ℕ) (small : AllBelow 256 bytes) (accepted : verdict byt
       run-of-14 bytes accepted wf schedule room h k,
       (λ run. refused-14-of-run bytes accepted wf schedule room h k (run .0) (run .1) (run .2)),
     );
-    legal-is-complete = legal-completes bytes accepted wf;
+    legal-runs-the-first-lines = λ schedule takes legal t ht. first-lines-of-legal case wf schedule legal t;
     values-at-the-end = values-of-legal bytes accepted wf;
     values-at-the-cut-off = values-of-cut-off bytes accepted wf;
     short-table = encoded-short bytes accepted;

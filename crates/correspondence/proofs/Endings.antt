@@ -1,41 +1,76 @@
--- A run finishes exactly where it is legal, no input strays, and the block lengths add up; it breaks an assertion in its trace
--- exactly where one of its steps does.
+-- A run finishes exactly where it is legal, no thread has more steps than lines, and refusal 14 meets no input, run or left; it
+-- breaks an assertion in its trace exactly where one of its steps does.
 -- Assumes nothing. Met again in Claims, RunEnds and Demand3.
-use mathlib.Core.Path.{_≡_, refl, sym, ap}
+use mathlib.Core.Path.{_≡_, refl, ap, _∙_}
 use Prim.Native.Nat.{ℕ, zero, suc, _+_, _%_, _≤_, _<_}
 use mathlib.Core.Bool.{Bool, true, false, cond}
 use mathlib.Core.List.{List, [], _∷_, _++_, map, map-append}
 use native.Mathlib.Omega.{arith}
 use native.Mathlib.Nat.{zero-add}
-use lib.Dec.{eqb}
+use lib.Dec.{leb, eqb}
 use lib.ListN.{getD, length, drop}
-use borrow.Author.Tests.{eq-eqb}
-use Rattle.model.specs.CaseFile.{Line, Case}
-use Rattle.model.specs.Machine.{Memory, State, stepped, restIn, memoryIn}
-use Rattle.model.specs.Schedule.{stepsOf}
-use Rattle.model.specs.Runs.{Step, blockSteps, nextState, course, ends, strays, broken, None, First}
+use borrow.Author.Tests.{leb-true, le-leb, eq-eqb}
+use Rattle.model.specs.CaseFile.{Line, Case, linesOf}
+use Rattle.model.specs.Line.{unrunStray}
+use Rattle.model.specs.Machine.{Memory, State, stepped, restIn, memoryIn, strayLeft, firstStrayLeft}
+use Rattle.model.specs.Schedule.{stepsOf, lengthsFit}
+use Rattle.model.specs.Runs.{Step, blockSteps, nextState, course, lastState, ends, strays, broken, None, First}
 use Rattle.laws.proofs.Views.{EqView, same, diff, eq-view}
-use Rattle.laws.specs.Order.{AllLines}
+use Rattle.laws.proofs.Ranges.{all-from-gives, all-from-of}
+use Rattle.laws.specs.Order.{AllLines, AllThreads, Positive}
 use Rattle.correspondence.specs.Meaning.{WellFormed}
 use Rattle.correspondence.specs.Trace.{eventOf, blockEvents, events}
 use Rattle.correspondence.specs.Agreement.{brokenIn, FinishesBlock, MayBeLeft, Finishes}
-use Rattle.laws.proofs.AllLines.{all-threads, each-thread}
 use Rattle.correspondence.proofs.Blocks.{turn, rests-kept, own-rest-after, other-rest-after}
 use Rattle.correspondence.proofs.Breaks.{brokenIn-append, all-left-breaks-nothing}
 use Rattle.correspondence.proofs.Courses.{none-append, none-before, none-after, first-here, first-later}
 
--- Nothing may be left just where no line is.
-pub none-of-left : (ls : List Line) → AllLines MayBeLeft ls → ls ≡ []
-none-of-left [] h = refl
-none-of-left (l ∷ ls) h = absurd (h .0)
+-- What is left may be left just where the machine finds no stray input there.
+module _ (given : ℕ → ℕ) where
+  others-of-left : (ls : List Line) (others : ℕ) → AllLines (MayBeLeft given) ls → strayLeft given ls others ≡ others
+  unfolding strayLeft
+  others-of-left [] others left = refl
+  others-of-left (l ∷ ls) others left = rw (left .0) (others-of-left ls others (left .1))
 
-left-of-none : (ls : List Line) → length ls ≡ 0 → AllLines MayBeLeft ls
-left-of-none [] h = tt
-left-of-none (l ∷ ls) h = absurd (omega arith)
+  pub no-stray-of-left : (rests : List (List Line)) → AllThreads (MayBeLeft given) rests → firstStrayLeft given rests ≡ 0
+  unfolding firstStrayLeft
+  no-stray-of-left [] left = refl
+  no-stray-of-left (ls ∷ rests) left = others-of-left ls (firstStrayLeft given rests) (left .0) ∙ no-stray-of-left rests (left .1)
 
--- "13. The block lengths of some thread do not add up to its lines.": they do.
-abbrev pub AddsUp : Case → ℕ → List ℕ → List (List Line) → Type 0
-AddsUp case i lens rests = (t : ℕ) → t < case .T → stepsOf case t i lens ≡ length (getD rests t [])
+  line-of-no-stray : (ls : List Line) (others : ℕ) → AllLines Positive ls → strayLeft given ls others ≡ 0
+      → AllLines (MayBeLeft given) ls × (others ≡ 0)
+  unfolding strayLeft
+  line-of-no-stray [] others positive e = (tt, e)
+  line-of-no-stray (l ∷ ls) others positive e = go (unrunStray (l .kind) (given (l .number))) refl (line-of-no-stray ls others (positive .1))
+    where
+      go : (q : Bool) → unrunStray (l .kind) (given (l .number)) ≡ q
+          → (strayLeft given ls others ≡ 0 → AllLines (MayBeLeft given) ls × (others ≡ 0))
+          → AllLines (MayBeLeft given) (l ∷ ls) × (others ≡ 0)
+      go true stray ih = absurd (omega (arith, positive .0, rw stray at e))
+      go false quiet ih = let rest = ih (rw quiet at e) in ((quiet, rest .0), rest .1)
+
+  pub left-of-no-stray : (rests : List (List Line)) → AllThreads Positive rests → firstStrayLeft given rests ≡ 0
+      → AllThreads (MayBeLeft given) rests
+  unfolding firstStrayLeft
+  left-of-no-stray [] positive e = tt
+  left-of-no-stray (ls ∷ rests) positive e =
+      let first = line-of-no-stray ls (firstStrayLeft given rests) (positive .0) e in
+      (first .0, left-of-no-stray rests (positive .1) (first .1))
+
+-- Two: "refusal 13 is only for more": no thread has more steps than lines.
+abbrev pub FewSteps : Case → ℕ → List ℕ → List (List Line) → Type 0
+FewSteps case i lens rests = (t : ℕ) → t < case .T → stepsOf case t i lens ≤ length (getD rests t [])
+
+pub few-steps : (case : Case) (lens : List ℕ) → lengthsFit case lens ≡ true → FewSteps case 0 lens (case .threads)
+unfolding lengthsFit
+few-steps case lens e t ht =
+    leb-true (stepsOf case t 0 lens) (length (linesOf case t))
+    (all-from-gives (λ t'. leb (stepsOf case t' 0 lens) (length (linesOf case t'))) 0 (case .T) e t (omega arith) (omega arith))
+
+pub lengths-fit : (case : Case) (lens : List ℕ) → FewSteps case 0 lens (case .threads) → lengthsFit case lens ≡ true
+unfolding lengthsFit
+lengths-fit case lens few =
+    all-from-of (λ t. leb (stepsOf case t 0 lens) (length (linesOf case t))) 0 (case .T) (λ t h h'. le-leb _ _ (few t (omega (arith, h'))))
 
 module _ (case : Case) (given : ℕ → ℕ) where
   -- A finished block runs as many lines as its length says.
@@ -71,6 +106,12 @@ module _ (case : Case) (given : ℕ → ℕ) where
         none-append (ends case given) here later (block .1) (rest .1),
       )
 
+  -- What it leaves may be left.
+  pub left-of-finished : (i : ℕ) (lens : List ℕ) (s : State) → Finishes case given i lens s
+      → AllThreads (MayBeLeft given) (lastState case given i lens s .rests)
+  left-of-finished i [] s h = h
+  left-of-finished i (len ∷ lens) s h = left-of-finished (suc i) lens (nextState case given i len s) (h .1)
+
   module _ (wf : WellFormed case) where
     -- A finished block takes its length off what its thread has left, and the others keep theirs.
     steps-of-block : (i len t : ℕ) (s : State) → length (s .rests) ≡ case .T → FinishesBlock case given len (restIn case i s) (memoryIn case i s)
@@ -89,36 +130,37 @@ module _ (case : Case) (given : ℕ → ℕ) where
             ))
         go (diff e q) = rw q (omega (arith, ap length (other-rest-after case wf i len (s .rests) hn t e)))
 
-    pub adds-up-of-finished : (i : ℕ) (lens : List ℕ) (s : State) → length (s .rests) ≡ case .T → Finishes case given i lens s → AddsUp case i lens (s .rests)
+    pub few-steps-of-finished : (i : ℕ) (lens : List ℕ) (s : State) → length (s .rests) ≡ case .T → Finishes case given i lens s
+        → FewSteps case i lens (s .rests)
     unfolding stepsOf
-    adds-up-of-finished i [] s hn h t ht = sym (ap length (none-of-left (getD (s .rests) t []) (each-thread MayBeLeft (s .rests) h t)))
-    adds-up-of-finished i (len ∷ lens) s hn h t ht =
-        let later = adds-up-of-finished (suc i) lens (nextState case given i len s) (rests-kept case wf i len (s .rests) hn) (h .1) t ht in
+    few-steps-of-finished i [] s hn h t ht = omega arith
+    few-steps-of-finished i (len ∷ lens) s hn h t ht =
+        let later = few-steps-of-finished (suc i) lens (nextState case given i len s) (rests-kept case wf i len (s .rests) hn) (h .1) t ht in
         omega (arith, later, steps-of-block i len t s hn (h .0))
 
-    adds-up-after : (i len : ℕ) (lens : List ℕ) (s : State) → length (s .rests) ≡ case .T → FinishesBlock case given len (restIn case i s) (memoryIn case i s)
-        → AddsUp case i (len ∷ lens) (s .rests) → AddsUp case (suc i) lens (nextState case given i len s .rests)
+    few-steps-after : (i len : ℕ) (lens : List ℕ) (s : State) → length (s .rests) ≡ case .T
+        → FinishesBlock case given len (restIn case i s) (memoryIn case i s) → FewSteps case i (len ∷ lens) (s .rests)
+        → FewSteps case (suc i) lens (nextState case given i len s .rests)
     unfolding stepsOf
-    adds-up-after i len lens s hn h sums t ht = omega (arith, sums t ht, steps-of-block i len t s hn h)
+    few-steps-after i len lens s hn h few t ht = omega (arith, few t ht, steps-of-block i len t s hn h)
 
-    fits-block : (i len : ℕ) (lens : List ℕ) (s : State) → AddsUp case i (len ∷ lens) (s .rests) → len ≤ length (restIn case i s)
+    fits-block : (i len : ℕ) (lens : List ℕ) (s : State) → FewSteps case i (len ∷ lens) (s .rests) → len ≤ length (restIn case i s)
     unfolding stepsOf
-    fits-block i len lens s sums = omega (arith, rw (eq-eqb (i % case .T) (i % case .T) refl) at (sums (i % case .T) (turn case wf i)))
+    fits-block i len lens s few = omega (arith, rw (eq-eqb (i % case .T) (i % case .T) refl) at (few (i % case .T) (turn case wf i)))
 
-    pub finished-of-legal : (i : ℕ) (lens : List ℕ) (s : State) → length (s .rests) ≡ case .T → AddsUp case i lens (s .rests)
-        → None (strays case given) (course case given i lens s) → None (ends case given) (course case given i lens s) → Finishes case given i lens s
-    unfolding stepsOf
-    finished-of-legal i [] s hn sums none legal =
-        all-threads MayBeLeft (s .rests) (λ t ht. left-of-none (getD (s .rests) t []) (sym (sums t (omega arith))))
-    finished-of-legal i (len ∷ lens) s hn sums none legal =
+    pub finished-of-legal : (i : ℕ) (lens : List ℕ) (s : State) → length (s .rests) ≡ case .T → FewSteps case i lens (s .rests)
+        → None (strays case given) (course case given i lens s) → None (ends case given) (course case given i lens s)
+        → AllThreads (MayBeLeft given) (lastState case given i lens s .rests) → Finishes case given i lens s
+    finished-of-legal i [] s hn few none legal left = left
+    finished-of-legal i (len ∷ lens) s hn few none legal left =
         let here = blockSteps case given i len (restIn case i s) (memoryIn case i s) in
         let later = course case given (suc i) lens (nextState case given i len s) in
-        let block = block-of-legal i len (restIn case i s) (memoryIn case i s) (fits-block i len lens s sums)
+        let block = block-of-legal i len (restIn case i s) (memoryIn case i s) (fits-block i len lens s few)
         (none-before (strays case given) here later none) (none-before (ends case given) here later legal) in (
           block,
           finished-of-legal (suc i) lens (nextState case given i len s) (rests-kept case wf i len (s .rests) hn)
-              (adds-up-after i len lens s hn block sums)
-              (none-after (strays case given) here later none) (none-after (ends case given) here later legal),
+              (few-steps-after i len lens s hn block few)
+              (none-after (strays case given) here later none) (none-after (ends case given) here later legal) left,
         )
 
   -- ---- The steps that break an assertion, and the broken events.

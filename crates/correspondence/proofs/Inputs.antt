@@ -3,7 +3,7 @@
 -- Assumes nothing. Met again in Claims, where an assignment is decoded.
 use mathlib.Core.Path.{_≡_, refl, sym, ap, ap₂, _∙_}
 use Prim.Native.Nat.{ℕ, zero, suc, _+_, _%_, _≤_, _<_}
-use mathlib.Core.Bool.{Bool, true, false, cond, true≢false}
+use mathlib.Core.Bool.{Bool, true, false, cond, _&&_, true≢false}
 use mathlib.Core.List.{List, [], _∷_, _++_}
 use native.Mathlib.Omega.{arith}
 use native.Mathlib.Nat.{le-refl, zero-add}
@@ -15,7 +15,7 @@ use Rattle.laws.proofs.Counting.{own-number-counts}
 use Rattle.model.specs.Lists.{numbersFrom}
 use Rattle.model.specs.CaseFile.{Line, Case, linesOf, sumOfLines, sumOfThreads, hasNumber}
 use Rattle.model.specs.Line.{isInput, guardTrue}
-use Rattle.model.specs.Assignment.{Assignment}
+use Rattle.model.specs.Assignment.{Assignment, wasRun}
 use Rattle.model.specs.Copies.{readsAfter}
 use Rattle.model.specs.Schedule.{inputLines, allInputLines, valueGiven, linesInBlock, countedLengths, decodedValues, allDecodedValues}
 use Rattle.correspondence.specs.Meaning.{WellFormed, InputsGiven, Counted}
@@ -83,7 +83,7 @@ join-of-cond false x values later xs rest e h = e ∙ h
 module _ (case : Case) (α : Assignment) where
   -- the value that decoding writes for an input line
   abbrev decodedValue : List Line → Line → ℕ
-  decodedValue earlier l = cond (guardTrue l (readsAfter case α earlier l)) (α .value (l .number)) 0
+  decodedValue earlier l = cond (wasRun case (α .block (l .number)) && guardTrue l (readsAfter case α earlier l)) (α .value (l .number)) 0
 
   module _ (given : ℕ → ℕ) where
     given-line : (q : Bool) (l : Line) (ls : List Line) (x : ℕ) (values : List ℕ) → GivenBy given (cond q (l ∷ ls) ls) (cond q (x ∷ values) values)

@@ -1,9 +1,9 @@
 -- Block numbers alone, along one thread: what constraints 1 to 3 say of its lines, and which lines a block runs.
 -- Assumes nothing. Met again in Blocks, for all threads, and in Walk.
-use mathlib.Core.Path.{_≡_, refl, sym, ap, _∙_}
+use mathlib.Core.Path.{_≡_, refl, sym, ap, _∙_, subst}
 use mathlib.Core.Logic.{_≢_}
 use Prim.Native.Nat.{ℕ, zero, suc, _+_, _%_, _≤_, _<_}
-use mathlib.Core.Bool.{Bool, true, false, cond}
+use mathlib.Core.Bool.{Bool, true, false, cond, not}
 use mathlib.Core.List.{List, [], _∷_, reverseAux}
 use native.Mathlib.Omega.{arith}
 use native.Mathlib.Nat.{zero-add}
@@ -12,10 +12,19 @@ use lib.ListN.{drop}
 use borrow.Author.Tests.{eq-eqb, ne-eqb}
 use Rattle.laws.proofs.Views.{EqView, same, diff, eq-view}
 use Rattle.model.specs.CaseFile.{Line, Case}
+use Rattle.model.specs.Assignment.{wasRun}
 use Rattle.model.specs.Schedule.{linesInBlock}
 use Rattle.laws.specs.Order.{AllLines, Ordered}
 use Rattle.laws.proofs.Walk.{RunBefore}
-use Rattle.correspondence.specs.Agreement.{MayBeLeft}
+
+-- A line of block i was run, a line with block number n + 1 was not.
+pub run-in-block : (case : Case) (i x : ℕ) → i ≤ case .n → x ≡ i → wasRun case x ≡ true
+unfolding wasRun
+run-in-block case i x few e = ap not (ne-eqb x (suc (case .n)) (λ e'. omega arith))
+
+pub unrun-past-blocks : (case : Case) (x : ℕ) → x ≡ suc (case .n) → wasRun case x ≡ false
+unfolding wasRun
+unrun-past-blocks case x e = ap not (eq-eqb x (suc (case .n)) e)
 
 -- The lines already run, latest first, after so many more of these.
 abbrev pub runMore : ℕ → List Line → List Line → List Line
@@ -29,6 +38,10 @@ runMore-and-rest (suc steps) [] earlier = refl
 runMore-and-rest (suc steps) (l ∷ ls) earlier = runMore-and-rest steps ls (l ∷ earlier)
 
 module _ (block : ℕ → ℕ) where
+  -- A line has block number i.
+  abbrev pub HasBlock : ℕ → Line → Type 0
+  HasBlock i l = block (l .number) ≡ i
+
   -- There are so many next lines, and they are of block i.
   abbrev pub NextIn : ℕ → ℕ → List Line → Type 0
   NextIn i zero ls = Unit
@@ -66,13 +79,14 @@ module _ (case : Case) (block : ℕ → ℕ) where
       (record { from = omega (arith, ordered .0 .from); upto = ordered .0 .upto; mine = ordered .0 .mine }, ordered .1)
 
   -- A block of another thread has none of the lines.
-  pub ordered-past-other-thread : (t i : ℕ) (ls : List Line) → i % case .T ≢ t → Ordered case block t i ls → Ordered case block t (suc i) ls
-  ordered-past-other-thread t i [] other ordered = tt
-  ordered-past-other-thread t i (l ∷ ls) other ordered =
+  pub ordered-past-other-thread : (t i : ℕ) (ls : List Line) → i ≤ case .n → i % case .T ≢ t → Ordered case block t i ls
+      → Ordered case block t (suc i) ls
+  ordered-past-other-thread t i [] few other ordered = tt
+  ordered-past-other-thread t i (l ∷ ls) few other ordered =
       (record { from = go (eq-view (block (l .number)) i); upto = ordered .0 .upto; mine = ordered .0 .mine }, ordered .1)
     where
       go : EqView (block (l .number)) i → suc i ≤ block (l .number)
-      go (same e _) = absurd (other (ap (λ (x : ℕ). x % case .T) (sym e) ∙ ordered .0 .mine))
+      go (same e _) = absurd (other (ap (λ (x : ℕ). x % case .T) (sym e) ∙ ordered .0 .mine (omega arith)))
       go (diff differs _) = omega (arith, ordered .0 .from)
 
   pub ordered-has-none-below : (t low i : ℕ) (ls : List Line) → i < low → Ordered case block t low ls → linesInBlock block i ls ≡ 0
@@ -82,14 +96,19 @@ module _ (case : Case) (block : ℕ → ℕ) where
       rw (ne-eqb (block (l .number)) i (λ e. omega (arith, ordered .0 .from)))
       (ordered-has-none-below t (block (l .number)) i ls (omega (arith, ordered .0 .from)) (ordered .1))
 
-  -- After block n no line is left, and lines that may be left there are in order.
-  pub ordered-end-is-left : (t low : ℕ) (ls : List Line) → low ≡ suc (case .n) → Ordered case block t low ls → AllLines MayBeLeft ls
-  ordered-end-is-left t low [] e ordered = tt
-  ordered-end-is-left t low (l ∷ ls) e ordered = absurd (omega (arith, ordered .0 .from, ordered .0 .upto))
+  -- After block n the lines that are left have block number n + 1, and lines that have it are in order there.
+  pub ordered-end-is-unrun : (t i : ℕ) (ls : List Line) → i ≡ suc (case .n) → Ordered case block t i ls → AllLines (HasBlock block i) ls
+  ordered-end-is-unrun t i [] e ordered = tt
+  ordered-end-is-unrun t i (l ∷ ls) e ordered =
+      let own : block (l .number) ≡ i = omega (arith, ordered .0 .from, ordered .0 .upto) in
+      (own, ordered-end-is-unrun t i ls e (subst (λ (x : ℕ). Ordered case block t x ls) own (ordered .1)))
 
-  pub left-is-ordered : (t low : ℕ) (ls : List Line) → AllLines MayBeLeft ls → Ordered case block t low ls
-  left-is-ordered t low [] left = tt
-  left-is-ordered t low (l ∷ ls) left = absurd (left .0)
+  pub unrun-is-ordered : (t i : ℕ) (ls : List Line) → i ≡ suc (case .n) → AllLines (HasBlock block i) ls → Ordered case block t i ls
+  unrun-is-ordered t i [] e unrun = tt
+  unrun-is-ordered t i (l ∷ ls) e unrun = (
+    record { from = omega (arith, unrun .0); upto = omega (arith, unrun .0); mine = λ few. absurd (omega (arith, unrun .0)) },
+    subst (λ (x : ℕ). Ordered case block t x ls) (sym (unrun .0)) (unrun-is-ordered t i ls e (unrun .1)),
+  )
 
   -- A block runs as many lines as have its number: these are the next ones, and the rest is of later blocks.
   pub counted-block-is-next : (t i steps : ℕ) (ls : List Line) → steps ≡ linesInBlock block i ls → Ordered case block t i ls
@@ -118,7 +137,7 @@ module _ (case : Case) (block : ℕ → ℕ) where
   next-is-ordered t i zero ls few mine next ordered = ordered-weakened t (suc i) i ls (omega arith) ordered
   next-is-ordered t i (suc steps) [] few mine next ordered = tt
   next-is-ordered t i (suc steps) (l ∷ ls) few mine next ordered = (
-    record { from = omega (arith, next .0); upto = omega (arith, next .0); mine = rw (next .0) mine },
+    record { from = omega (arith, next .0); upto = omega (arith, next .0); mine = λ few'. rw (next .0) mine },
     rw (next .0) (next-is-ordered t i steps ls few mine (next .1) ordered),
   )
 

@@ -13,7 +13,7 @@ use Rattle.model.specs.CaseFile.{caseOf, itemCount}
 use Rattle.model.specs.Accept.{verdict}
 use Rattle.model.specs.Assignment.{variables, assignmentOf}
 use Rattle.model.specs.Table.{table, numbersOf}
-use Rattle.model.specs.Schedule.{scheduleSize, blockLengths, lengthsAddUp, runOf, decode}
+use Rattle.model.specs.Schedule.{scheduleSize, blockLengths, lengthsFit, runOf, decode}
 use Rattle.model.specs.Answers.{answerOfRun, failedIn, encoded, encodedInto, checked, decoded, decodedInto, replayed}
 use Rattle.laws.proofs.OnCase.{on-accepted, past-unless, past-refusals}
 use Rattle.model.specs.declared.Verdict.the-variants.{Accepted}
@@ -28,7 +28,7 @@ pub record Fits (bytes schedule : List ℕ) (room : ℕ) : Type 0 where
   pub accepted : verdict bytes ≡ Accepted
   pub has-room : itemCount (caseOf bytes) ≤ room
   pub has-size : length schedule ≡ scheduleSize (caseOf bytes)
-  pub adds-up : lengthsAddUp (caseOf bytes) (blockLengths (caseOf bytes) schedule) ≡ true
+  pub fit : lengthsFit (caseOf bytes) (blockLengths (caseOf bytes) schedule) ≡ true
 
 pub fits-of-answered : (bytes schedule : List ℕ) (room : ℕ) → NotRefused (replayed bytes schedule room) → Fits bytes schedule room
 unfolding replayed
@@ -36,13 +36,13 @@ fits-of-answered bytes schedule room taken =
     let case = past-refusals NotRefused (verdict bytes) _ _ (λ number place t. t) taken in
     let items = past-unless NotRefused (leb (itemCount (caseOf bytes)) room) _ _ (λ t. t) (case .later) in
     let size = past-unless NotRefused (eqb (length schedule) (scheduleSize (caseOf bytes))) _ _ (λ t. t) (items .later) in
-    let sums = past-unless NotRefused (lengthsAddUp (caseOf bytes) (blockLengths (caseOf bytes) schedule)) _ _ (λ t. t) (size .later) in
-    record { accepted = case .here; has-room = leb-true _ _ (items .here); has-size = eqb-true _ _ (size .here); adds-up = sums .here }
+    let fit = past-unless NotRefused (lengthsFit (caseOf bytes) (blockLengths (caseOf bytes) schedule)) _ _ (λ t. t) (size .later) in
+    record { accepted = case .here; has-room = leb-true _ _ (items .here); has-size = eqb-true _ _ (size .here); fit = fit .here }
 
 pub replayed-fits : (bytes schedule : List ℕ) (room : ℕ) → Fits bytes schedule room
     → replayed bytes schedule room ≡ answerOfRun (runOf (caseOf bytes) schedule)
 unfolding replayed
-replayed-fits bytes schedule room f = rw (on-accepted _ _ _ (f .accepted), le-leb _ _ (f .has-room), eq-eqb _ _ (f .has-size), f .adds-up)
+replayed-fits bytes schedule room f = rw (on-accepted _ _ _ (f .accepted), le-leb _ _ (f .has-room), eq-eqb _ _ (f .has-size), f .fit)
 
 -- The checker's yes.
 pub record PassesCheck (bytes xs : List ℕ) : Type 0 where

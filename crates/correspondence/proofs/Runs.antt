@@ -1,5 +1,5 @@
 -- Demand 3 over cases, assignments and given values: an assignment that meets constraints 1 to 6 and decodes to block lengths and
--- given values is one that agrees with the trace of a legal and complete run with these, and the trace determines it.
+-- given values is one that agrees with the trace of a run with these that finishes, and the trace determines it.
 -- Assumes nothing. Met again in Claims, for assignments and schedules as lists.
 use mathlib.Core.Path.{_≡_, refl, sym, ap, _∙_}
 use Prim.Native.Nat.{ℕ, suc, _+_, _<_}
@@ -74,7 +74,7 @@ module _ (case : Case) (wf : WellFormed case) where
       run-breaks-alike case wf given α 0 lens (start case) noneRun (zero-add (length lens) ∙ all-blocks) (invariant-at-start α) (runs .0)
       (runs .1)
 
-  -- An assignment that meets the constraints decodes to a legal and complete run, which has the assignment's numbers.
+  -- An assignment that meets the constraints decodes to a run that finishes and has the assignment's numbers.
   pub sound : (α : Assignment) (lens : List ℕ) (given : ℕ → ℕ) → Meets case α → DecodesTo case α lens given
       → Finishes case given 0 lens (start case)
       × Agrees α (events case given 0 lens (start case))
@@ -82,13 +82,13 @@ module _ (case : Case) (wf : WellFormed case) where
       × (breakCount case α ≡ brokenIn (events case given 0 lens (start case)))
   sound α lens given meets decodes =
       let runs = run-of-assignment α lens given meets decodes in (
-        run-finishes case given α 0 lens (start case) (runs .0) (runs .1),
+        run-finishes case given α 0 lens (start case) (runs .1),
         run-agrees case given α 0 lens (start case) (runs .0) (runs .1),
         run-agrees-items case given α 0 lens (start case) (runs .1),
         breakCount-of-run α lens given (decodes .all-blocks) runs,
       )
 
-  -- An assignment that has the numbers of a legal and complete run meets the constraints and decodes to it.
+  -- An assignment that has the numbers of a run that finishes meets the constraints and decodes to it.
   pub complete : (β : Assignment) (lens : List ℕ) (given : ℕ → ℕ) → length lens ≡ suc (case .n) → Finishes case given 0 lens (start case)
       → Agrees β (events case given 0 lens (start case)) → AgreesItems case β 0 (snapshots case given 0 lens (start case))
       → Meets case β × DecodesTo case β lens given × (breakCount case β ≡ brokenIn (events case given 0 lens (start case)))

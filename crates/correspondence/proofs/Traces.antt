@@ -1,4 +1,4 @@
--- Traces: an assignment agrees with the trace of a legal run just where the blocks run with its numbers; every line has one
+-- Traces: an assignment agrees with the trace of a run that finishes just where the blocks run with its numbers; every line has one
 -- event; the traced assignment agrees, and it is the only one.
 -- Assumes nothing. Met again in Runs.
 use mathlib.Core.Path.{_≡_, refl, sym, ap, _∙_}
@@ -17,10 +17,11 @@ use Rattle.model.specs.Runs.{nextState}
 use Rattle.laws.specs.Order.{AllLines, AllThreads}
 use Rattle.correspondence.specs.Meaning.{WellFormed}
 use Rattle.correspondence.specs.Trace.{Event, blockEvents, leftEvents, allLeftEvents, events, snapshots}
-use Rattle.correspondence.specs.Agreement.{sumOfEvents, FinishesBlock, Finishes, MayBeLeft, Agrees, AgreesItems}
+use Rattle.correspondence.specs.Agreement.{sumOfEvents, FinishesBlock, MayBeLeft, Finishes, Agrees, AgreesItems}
 use Rattle.correspondence.specs.Fill.{blockIn, valueIn, traced}
-use Rattle.correspondence.proofs.Order.{NextIn}
-use Rattle.correspondence.proofs.Block.{BlockRuns}
+use Rattle.laws.proofs.AllLines.{all-lines-map}
+use Rattle.correspondence.proofs.Order.{HasBlock, NextIn}
+use Rattle.correspondence.proofs.Block.{BlockRuns, Unrun}
 use Rattle.correspondence.proofs.Blocks.{BlocksNext, turn-in, rests-kept}
 use Rattle.correspondence.proofs.Values.{BlocksRun}
 
@@ -37,16 +38,39 @@ module _ (α : Assignment) where
   agrees-second [] fs a = a
   agrees-second (e ∷ es) fs a = agrees-second es fs (a .2)
 
-  left-agrees : (i : ℕ) (ls : List Line) → AllLines MayBeLeft ls → Agrees α (leftEvents i ls)
-  left-agrees i [] left = tt
-  left-agrees i (l ∷ ls) left = absurd (left .0)
-
-  all-left-agrees : (i : ℕ) (rests : List (List Line)) → AllThreads MayBeLeft rests → Agrees α (allLeftEvents i rests)
-  all-left-agrees i [] left = tt
-  all-left-agrees i (ls ∷ rests) left =
-      agrees-append (leftEvents i ls) (allLeftEvents i rests) (left-agrees i ls (left .0)) (all-left-agrees i rests (left .1))
-
 module _ (case : Case) (given : ℕ → ℕ) (α : Assignment) where
+  -- The lines that were not run, both ways.
+  left-agrees : (i : ℕ) (ls : List Line) → AllLines (HasBlock (α .block) i) ls → AllLines (Unrun case given α) ls → Agrees α (leftEvents i ls)
+  left-agrees i [] after unrun = tt
+  left-agrees i (l ∷ ls) after unrun = (after .0, unrun .0 .has-value, left-agrees i ls (after .1) (unrun .1))
+
+  all-left-agrees : (i : ℕ) (rests : List (List Line)) → AllThreads (HasBlock (α .block) i) rests → AllThreads (Unrun case given α) rests
+      → Agrees α (allLeftEvents i rests)
+  all-left-agrees i [] after unrun = tt
+  all-left-agrees i (ls ∷ rests) after unrun =
+      agrees-append α (leftEvents i ls) (allLeftEvents i rests) (left-agrees i ls (after .0) (unrun .0))
+      (all-left-agrees i rests (after .1) (unrun .1))
+
+  agreed-left-is-unrun : (i : ℕ) (ls : List Line) → AllLines (MayBeLeft given) ls → Agrees α (leftEvents i ls)
+      → AllLines (HasBlock (α .block) i) ls × AllLines (Unrun case given α) ls
+  agreed-left-is-unrun i [] left agrees = (tt, tt)
+  agreed-left-is-unrun i (l ∷ ls) left agrees =
+      let ih = agreed-left-is-unrun i ls (left .1) (agrees .2) in
+      ((agrees .0, ih .0), (record { has-value = agrees .1; not-stray = left .0 }, ih .1))
+
+  all-agreed-left-is-unrun : (i : ℕ) (rests : List (List Line)) → AllThreads (MayBeLeft given) rests → Agrees α (allLeftEvents i rests)
+      → AllThreads (HasBlock (α .block) i) rests × AllThreads (Unrun case given α) rests
+  all-agreed-left-is-unrun i [] left agrees = (tt, tt)
+  all-agreed-left-is-unrun i (ls ∷ rests) left agrees =
+      let first = agreed-left-is-unrun i ls (left .0) (agrees-first α (leftEvents i ls) (allLeftEvents i rests) agrees) in
+      let others = all-agreed-left-is-unrun i rests (left .1) (agrees-second α (leftEvents i ls) (allLeftEvents i rests) agrees) in
+      ((first .0, others .0), (first .1, others .1))
+
+  unrun-may-be-left : (rests : List (List Line)) → AllThreads (Unrun case given α) rests → AllThreads (MayBeLeft given) rests
+  unrun-may-be-left [] unrun = tt
+  unrun-may-be-left (ls ∷ rests) unrun =
+      (all-lines-map (Unrun case given α) (MayBeLeft given) ls (λ l u. u .not-stray) (unrun .0), unrun-may-be-left rests (unrun .1))
+
   block-agrees : (i steps : ℕ) (ls : List Line) (m : Memory) → NextIn (α .block) i steps ls → BlockRuns case given α steps ls m
       → Agrees α (blockEvents case given i steps ls m)
   block-agrees i zero ls m next runs = tt
@@ -70,7 +94,7 @@ module _ (case : Case) (given : ℕ → ℕ) (α : Assignment) where
 
   pub run-agrees : (i : ℕ) (lens : List ℕ) (s : State) → BlocksNext case α i lens (s .rests) → BlocksRun case given α i lens s
       → Agrees α (events case given i lens s)
-  run-agrees i [] s blocks runs = all-left-agrees α i (s .rests) blocks
+  run-agrees i [] s blocks runs = all-left-agrees i (s .rests) blocks runs
   run-agrees i (len ∷ lens) s blocks runs =
       agrees-append α (blockEvents case given i len (restIn case i s) (memoryIn case i s))
       (events case given (suc i) lens (nextState case given i len s))
@@ -82,17 +106,14 @@ module _ (case : Case) (given : ℕ → ℕ) (α : Assignment) where
   run-agrees-items i [] s runs = tt
   run-agrees-items i (len ∷ lens) s runs = (runs .1, run-agrees-items (suc i) lens (nextState case given i len s) (runs .2))
 
-  pub run-finishes : (i : ℕ) (lens : List ℕ) (s : State) → BlocksNext case α i lens (s .rests) → BlocksRun case given α i lens s
-      → Finishes case given i lens s
-  run-finishes i [] s blocks runs = blocks
-  run-finishes i (len ∷ lens) s blocks runs = (
-    block-finishes len (restIn case i s) (memoryIn case i s) (runs .0),
-    run-finishes (suc i) lens (nextState case given i len s) (blocks .1) (runs .2),
-  )
+  pub run-finishes : (i : ℕ) (lens : List ℕ) (s : State) → BlocksRun case given α i lens s → Finishes case given i lens s
+  run-finishes i [] s runs = unrun-may-be-left (s .rests) runs
+  run-finishes i (len ∷ lens) s runs =
+      (block-finishes len (restIn case i s) (memoryIn case i s) (runs .0), run-finishes (suc i) lens (nextState case given i len s) (runs .2))
 
   pub agreed-run : (i : ℕ) (lens : List ℕ) (s : State) → Finishes case given i lens s → Agrees α (events case given i lens s)
       → AgreesItems case α i (snapshots case given i lens s) → BlocksNext case α i lens (s .rests) × BlocksRun case given α i lens s
-  agreed-run i [] s legal agrees items = (legal, tt)
+  agreed-run i [] s legal agrees items = all-agreed-left-is-unrun i (s .rests) legal agrees
   agreed-run i (len ∷ lens) s legal agrees items =
       let here = blockEvents case given i len (restIn case i s) (memoryIn case i s) in
       let later = events case given (suc i) lens (nextState case given i len s) in

@@ -1,54 +1,62 @@
--- Constraints 4 and 5 of the table hold just when each line has its value and meets its demand.
+-- Constraints 4 and 5 of the table hold just when each line has its value and, if it was run, meets its demand.
 -- Assumes nothing. Met again in Rows.
 use mathlib.Core.Path.{_≡_, refl, sym, ap, _∙_, subst}
 use Prim.Native.Nat.{ℕ, zero, suc, _+_, _≤_, _<_}
-use mathlib.Core.Bool.{true, not}
+use mathlib.Core.Bool.{Bool, true, false, not, _||_}
 use mathlib.Core.List.{List, [], _∷_}
 use native.Mathlib.Omega.{arith}
 use lib.ListN.{getD, length}
 use borrow.Author.Tests.{eqb-true, eq-eqb, not-true}
 use Rattle.model.specs.Limits.{localCount}
 use Rattle.model.specs.CaseFile.{Kind, compute, store, load, input, assert, assume, lock, unlock, Line, Case, itemCount, lineAt}
-use Rattle.model.specs.Line.{noName, targetName, guardTrue, valueOf}
-use Rattle.model.specs.Assignment.{Assignment}
+use Rattle.model.specs.Line.{noName, targetName, guardTrue}
+use Rattle.model.specs.Assignment.{Assignment, wasRun}
 use Rattle.model.specs.Copies.{readsAfter}
 use Rattle.model.specs.Table.{valueRow, demandRows, valueRows, allValueRows}
 use Rattle.model.specs.Holds.{readsWith, demandMet, holds}
 use Rattle.laws.specs.Order.{AllLines}
+use Rattle.laws.specs.RowValue.{valueAfter}
 use Rattle.correspondence.specs.Meaning.{Demanded, LinesMet}
 use Rattle.laws.specs.AllHold.{AllHold}
 use Rattle.laws.proofs.RowReads.{copy-reads, value-row-holds, lockReads, lock-guard}
 use Rattle.correspondence.proofs.Block.{zero-where-true, not-nonzero-where-true}
 use Rattle.laws.proofs.AllHold.{all-hold-append, all-hold-split}
 
+-- What is asked of a line that was run alone.
+met-where-run : (run met : Bool) → (run ≡ true → met ≡ true) → not run || met ≡ true
+met-where-run true met h = h refl
+met-where-run false met h = refl
+
 module _ (case : Case) (few : localCount + itemCount case ≤ noName) (α : Assignment) where
   value-of-row : (earlier : List Line) (l : Line) → lineAt case (l .number) ≡ l → holds case α (valueRow case earlier l) ≡ true
-      → α .value (l .number) ≡ valueOf l (readsAfter case α earlier l)
+      → α .value (l .number) ≡ valueAfter case α earlier l
   value-of-row earlier l found h = eqb-true _ _ (sym (value-row-holds case few α earlier l found) ∙ h)
 
-  row-of-value : (earlier : List Line) (l : Line) → lineAt case (l .number) ≡ l → α .value (l .number) ≡ valueOf l (readsAfter case α earlier l)
+  row-of-value : (earlier : List Line) (l : Line) → lineAt case (l .number) ≡ l → α .value (l .number) ≡ valueAfter case α earlier l
       → holds case α (valueRow case earlier l) ≡ true
   row-of-value earlier l found h = value-row-holds case few α earlier l found ∙ eq-eqb _ _ h
 
   demand-of-rows : (kind : Kind) (earlier : List Line) (l : Line) → l .kind ≡ kind → lineAt case (l .number) ≡ l
-      → AllHold case α (demandRows kind case earlier l)
+      → AllHold case α (demandRows kind case earlier l) → wasRun case (α .block (l .number)) ≡ true
       → Demanded kind l (readsAfter case α earlier l) (α .value (l .number))
   unfolding demandRows holds demandMet
-  demand-of-rows compute earlier l e found h = tt
-  demand-of-rows store earlier l e found h = tt
-  demand-of-rows load earlier l e found h = tt
-  demand-of-rows input earlier l e found h = tt
-  demand-of-rows assert earlier l e found h = tt
-  demand-of-rows assume earlier l e found h = eqb-true (α .value (l .number)) 1
-      (subst (λ (kind : Kind). demandMet kind l (readsWith case α l 0 0 0 0) (α .value (l .number)) ≡ true) e (rw found at (h .0)))
-  demand-of-rows lock earlier l e found h = λ on. sym (copy-reads case few α (α .block (l .number)) earlier (targetName (case .G) l))
+  demand-of-rows compute earlier l e found h run = tt
+  demand-of-rows store earlier l e found h run = tt
+  demand-of-rows load earlier l e found h run = tt
+  demand-of-rows input earlier l e found h run = tt
+  demand-of-rows assert earlier l e found h run = tt
+  demand-of-rows assume earlier l e found h run = eqb-true (α .value (l .number)) 1
+      (subst (λ (kind : Kind). demandMet kind l (readsWith case α l 0 0 0 0) (α .value (l .number)) ≡ true) e (rw (found, run) at (h .0)))
+  demand-of-rows lock earlier l e found h run = λ on. sym (copy-reads case few α (α .block (l .number)) earlier (targetName (case .G) l))
       ∙ zero-where-true (guardTrue l (lockReads case few α earlier l)) (lockReads case few α earlier l .target)
-      (not-true _ (subst (λ (kind : Kind). demandMet kind l (lockReads case few α earlier l) (α .value (l .number)) ≡ true) e (rw found at (h .0))))
+      (not-true _ (subst (λ (kind : Kind). demandMet kind l (lockReads case few α earlier l) (α .value (l .number)) ≡ true) e
+      (rw (found, run) at (h .0))))
       (lock-guard case few α earlier l ∙ on)
-  demand-of-rows unlock earlier l e found h = tt
+  demand-of-rows unlock earlier l e found h run = tt
 
   rows-of-demand : (kind : Kind) (earlier : List Line) (l : Line) → l .kind ≡ kind → lineAt case (l .number) ≡ l
-      → Demanded kind l (readsAfter case α earlier l) (α .value (l .number)) → AllHold case α (demandRows kind case earlier l)
+      → (wasRun case (α .block (l .number)) ≡ true → Demanded kind l (readsAfter case α earlier l) (α .value (l .number)))
+      → AllHold case α (demandRows kind case earlier l)
   unfolding demandRows holds demandMet
   rows-of-demand compute earlier l e found h = tt
   rows-of-demand store earlier l e found h = tt
@@ -56,14 +64,17 @@ module _ (case : Case) (few : localCount + itemCount case ≤ noName) (α : Assi
   rows-of-demand input earlier l e found h = tt
   rows-of-demand assert earlier l e found h = tt
   rows-of-demand assume earlier l e found h = (
-    rw found (subst (λ (kind : Kind). demandMet kind l (readsWith case α l 0 0 0 0) (α .value (l .number)) ≡ true) (sym e)
-        (eq-eqb (α .value (l .number)) 1 h)),
+    rw found (met-where-run (wasRun case (α .block (l .number))) _
+        (λ run. subst (λ (kind : Kind). demandMet kind l (readsWith case α l 0 0 0 0) (α .value (l .number)) ≡ true) (sym e)
+        (eq-eqb (α .value (l .number)) 1 (h run)))),
     tt,
   )
   rows-of-demand lock earlier l e found h = (
-    rw found (subst (λ (kind : Kind). demandMet kind l (lockReads case few α earlier l) (α .value (l .number)) ≡ true) (sym e)
+    rw found (met-where-run (wasRun case (α .block (l .number))) _
+        (λ run. subst (λ (kind : Kind). demandMet kind l (lockReads case few α earlier l) (α .value (l .number)) ≡ true) (sym e)
         (ap not (not-nonzero-where-true (guardTrue l (lockReads case few α earlier l)) (lockReads case few α earlier l .target)
-        (λ on. copy-reads case few α (α .block (l .number)) earlier (targetName (case .G) l) ∙ h (sym (lock-guard case few α earlier l) ∙ on))))),
+        (λ on. copy-reads case few α (α .block (l .number)) earlier (targetName (case .G) l)
+        ∙ h run (sym (lock-guard case few α earlier l) ∙ on)))))),
     tt,
   )
   rows-of-demand unlock earlier l e found h = tt

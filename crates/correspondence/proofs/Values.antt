@@ -1,7 +1,7 @@
 -- All blocks, values: between blocks the machine's locals and items are what the assignment says, so constraints 4 to 6 and the
--- decoded inputs say just that the machine runs through with the assignment's values.
+-- decoded inputs say just that the machine runs through with the assignment's values, and that what it leaves was not run.
 -- Assumes nothing. Met again in Runs; the invariant also in Breaks.
-use mathlib.Core.Path.{_≡_, refl, sym, ap, _∙_}
+use mathlib.Core.Path.{_≡_, refl, sym, ap, _∙_, subst}
 use Prim.Native.Nat.{ℕ, suc, _+_, _-_, _%_, _≤_, _<_}
 use mathlib.Core.List.{List, [], _∷_, _++_, reverseAux, reverse, append-nil}
 use native.Mathlib.Omega.{arith}
@@ -15,16 +15,16 @@ use Rattle.model.specs.Line.{itemName}
 use Rattle.model.specs.Machine.{Memory, State, look, restIn, memoryIn}
 use Rattle.model.specs.Assignment.{Assignment}
 use Rattle.model.specs.Copies.{latest, valueBefore, readLocal, readItem, readName, readAfter, walkBack}
-use Rattle.laws.specs.Order.{AllLines, Positive, Ordered}
+use Rattle.laws.specs.Order.{AllLines, AllThreads, Positive, Ordered}
 use Rattle.correspondence.specs.Meaning.{WellFormed, BlockMet}
 use Rattle.model.specs.Runs.{endMemory, nextState}
-use Rattle.correspondence.specs.Agreement.{MayBeLeft, Snapshot}
+use Rattle.correspondence.specs.Agreement.{Snapshot}
 use Rattle.laws.proofs.Copies.{item-of-name}
 use Rattle.correspondence.proofs.Step.{MemoryFits, Corresponds}
-use Rattle.laws.proofs.AllLines.{each-thread, all-earlier-and-rest}
-use Rattle.correspondence.proofs.Order.{runMore, NextIn}
+use Rattle.laws.proofs.AllLines.{all-threads, each-thread, all-earlier-and-rest}
+use Rattle.correspondence.proofs.Order.{runMore, HasBlock, NextIn}
 use Rattle.laws.proofs.Walk.{RunBefore, walkBack-past-later-blocks, walkBack-is-reading-latest, readItem-at-start}
-use Rattle.correspondence.proofs.Block.{BlockRuns, LinesDecoded, steps-fit, block-keeps-correspondence, decoded-block-runs, block-that-runs-is-decoded}
+use Rattle.correspondence.proofs.Block.{BlockRuns, LinesDecoded, Unrun, decoded-lines-are-unrun, unrun-lines-are-decoded, steps-fit, block-keeps-correspondence, decoded-block-runs, block-that-runs-is-decoded}
 use Rattle.correspondence.proofs.Blocks.{each-after-change, of-changed-thread, of-other-thread, Place, place-after-block, restsAfter, earlierAfter, BlocksNext, Places, turn, turn-in, rests-kept, places-after-block, ordered-after-block, order-of-blocks}
 
 reverse-of-reverseAux : (earlier ls later : List Line) → reverseAux (reverseAux earlier ls) later ≡ reverseAux ls (earlier ++ later)
@@ -97,9 +97,9 @@ module _ (case : Case) (α : Assignment) where
   BlocksMet i = (j : ℕ) → i ≤ j → j < case .n → (g : ℕ) → g < itemCount case → BlockMet case α j g
 
 module _ (case : Case) (given : ℕ → ℕ) (α : Assignment) where
-  -- From block i on, each block runs with the assignment's values, and leaves its block values.
+  -- From block i on, each block runs with the assignment's values, and leaves its block values; what is left was not run.
   abbrev pub BlocksRun : ℕ → List ℕ → State → Type 0
-  BlocksRun i [] s = Unit
+  BlocksRun i [] s = AllThreads (Unrun case given α) (s .rests)
   BlocksRun i (len ∷ lens) s =
       BlockRuns case given α len (restIn case i s) (memoryIn case i s)
       × Snapshot case α i (nextState case given i len s .items)
@@ -173,15 +173,25 @@ module _ (case : Case) (wf : WellFormed case) (α : Assignment) (i : ℕ) (s : S
         correspondence-after-block
 
 module _ (case : Case) (wf : WellFormed case) (given : ℕ → ℕ) (α : Assignment) where
+  -- After all blocks, what is left has block number n + 1.
+  left-past-blocks : (i : ℕ) (rests : List (List Line)) → i + 0 ≡ suc (case .n) → BlocksNext case α i [] rests
+      → (t : ℕ) → AllLines (HasBlock (α .block) (suc (case .n))) (getD rests t [])
+  left-past-blocks i rests last blocks =
+      each-thread (HasBlock (α .block) (suc (case .n))) rests
+      (subst (λ (x : ℕ). AllThreads (HasBlock (α .block) x) rests) (omega (arith, last)) blocks)
+
   pub blocks-run : (i : ℕ) (lens : List ℕ) (s : State) (earlier : ℕ → List Line) → i + length lens ≡ suc (case .n)
       → Invariant case α i s earlier
       → BlocksNext case α i lens (s .rests) → AllDecoded case given α s earlier → BlocksMet case α i → BlocksRun case given α i lens s
-  blocks-run i [] s earlier last inv blocks decoded met = tt
+  blocks-run i [] s earlier last inv blocks decoded met =
+      all-threads (Unrun case given α) (s .rests)
+      (λ t ht. decoded-lines-are-unrun case given α (earlier t) (getD (s .rests) t []) (left-past-blocks i (s .rests) last blocks t)
+      (decoded t (omega (arith, inv .all-rests))))
   blocks-run i (len ∷ lens) s earlier last inv blocks decoded met =
       let t = i % case .T in
       let few : i ≤ case .n = omega (arith, last) in
       let both = decoded-block-runs case given α wf i len (restIn case i s) (earlier t) (memoryIn case i s)
-      (memory-fits case wf α i s earlier inv) (rest-positive case wf α i s earlier inv)
+      few (memory-fits case wf α i s earlier inv) (rest-positive case wf α i s earlier inv)
       (blocks .0) (correspondence-at-block case wf α i s earlier inv few) (decoded t (turn case wf i)) in
       let snapshot : Snapshot case α i (nextState case given i len s .items) =
       λ h g hg. met i (le-refl i) h g hg ∙ sym (walkBack-at-end case wf α i s earlier inv given len few (blocks .0) (both .0) lens last
@@ -214,7 +224,7 @@ module _ (case : Case) (wf : WellFormed case) (given : ℕ → ℕ) (α : Assign
       go : EqView t (i % case .T) → LinesDecoded case given α (earlier t) (getD (s .rests) t [])
       go (same e _) =
           rw e (block-that-runs-is-decoded case given α wf i len (restIn case i s) (earlier (i % case .T)) (memoryIn case i s)
-          (memory-fits case wf α i s earlier inv)
+          few (memory-fits case wf α i s earlier inv)
           (rest-positive case wf α i s earlier inv) next (correspondence-at-block case wf α i s earlier inv few) runs
           (of-changed-thread P [] (case .T) (s .rests) earlier (i % case .T) rest run (turn-in case wf i (s .rests) (inv .all-rests))
           (turn case wf i) decoded))
@@ -228,15 +238,12 @@ module _ (case : Case) (wf : WellFormed case) (given : ℕ → ℕ) (α : Assign
       go (same e _) = rw (← e) (here (omega arith) g hg)
       go (diff differs _) = later j (omega arith) few g hg
 
-  left-is-decoded : (earlier ls : List Line) → AllLines MayBeLeft ls → LinesDecoded case given α earlier ls
-  left-is-decoded earlier [] left = (tt, tt)
-  left-is-decoded earlier (l ∷ ls) left = absurd (left .0)
-
   pub decoded-of-run : (i : ℕ) (lens : List ℕ) (s : State) (earlier : ℕ → List Line) → i + length lens ≡ suc (case .n)
       → Invariant case α i s earlier
       → BlocksNext case α i lens (s .rests) → BlocksRun case given α i lens s → AllDecoded case given α s earlier × BlocksMet case α i
   decoded-of-run i [] s earlier last inv blocks runs = (
-    (λ t ht. left-is-decoded (earlier t) (getD (s .rests) t []) (each-thread MayBeLeft (s .rests) blocks t)),
+    (λ t ht. unrun-lines-are-decoded case given α (earlier t) (getD (s .rests) t []) (left-past-blocks i (s .rests) last blocks t)
+        (each-thread (Unrun case given α) (s .rests) runs t)),
     (λ j h h' g hg. absurd (omega arith)),
   )
   decoded-of-run i (len ∷ lens) s earlier last inv blocks runs =

@@ -7,7 +7,7 @@ use mathlib.Core.List.{List, [], _∷_}
 use lib.ListN.{getD}
 use Rattle.model.specs.Word.{bit}
 use Rattle.model.specs.CaseFile.{Line, Case, itemCount}
-use Rattle.model.specs.Line.{stops, strayInput}
+use Rattle.model.specs.Line.{stops, strayInput, unrunStray}
 use Rattle.model.specs.Assignment.{Assignment}
 use Rattle.model.specs.Machine.{Memory, State, readsIn, stepped, restIn, memoryIn}
 use Rattle.model.specs.Runs.{nextState}
@@ -23,7 +23,7 @@ abbrev pub sumOfEvents : (Line → ℕ) → List Event → ℕ
 sumOfEvents weight [] = 0
 sumOfEvents weight (e ∷ es) = weight (e .line) + sumOfEvents weight es
 
--- A run finishes: no step is stopped or refused, and at the end no line is left.
+-- A run finishes: no step is stopped or refused, and at the end no input is left that refusal 14 meets.
 abbrev pub FinishesBlock : Case → (ℕ → ℕ) → ℕ → List Line → Memory → Type 0
 FinishesBlock case given zero ls m = Unit
 FinishesBlock case given (suc steps) [] m = ⊥
@@ -31,12 +31,12 @@ FinishesBlock case given (suc steps) (l ∷ ls) m =
     (stops (l .kind) l (readsIn case given l m) ≡ false) × (strayInput (l .kind) l (readsIn case given l m) ≡ false)
     × FinishesBlock case given steps ls (stepped case given l m)
 
--- What may be left at the end of a run: no line.
-abbrev pub MayBeLeft : Line → Type 0
-MayBeLeft l = ⊥
+-- What may be left at the end of a run. Two: "An unrun input has value 0, otherwise 14".
+abbrev pub MayBeLeft : (ℕ → ℕ) → Line → Type 0
+MayBeLeft given l = unrunStray (l .kind) (given (l .number)) ≡ false
 
 abbrev pub Finishes : Case → (ℕ → ℕ) → ℕ → List ℕ → State → Type 0
-Finishes case given i [] s = AllThreads MayBeLeft (s .rests)
+Finishes case given i [] s = AllThreads (MayBeLeft given) (s .rests)
 Finishes case given i (len ∷ lens) s =
     FinishesBlock case given len (restIn case i s) (memoryIn case i s) × Finishes case given (suc i) lens (nextState case given i len s)
 

@@ -10,12 +10,12 @@ use mathlib.Core.List.{List}
 use lib.ListN.{length, take}
 use Rattle.model.specs.Word.{wordSize, AllBelow}
 use Rattle.model.specs.Lists.{writtenOver}
-use Rattle.model.specs.CaseFile.{caseOf, itemCount}
+use Rattle.model.specs.CaseFile.{caseOf, linesOf, itemCount}
 use Rattle.model.specs.Accept.{verdict}
 use Rattle.model.specs.Assignment.{variables, assignmentOf}
 use Rattle.model.specs.Table.{Row, table, numbersOf}
-use Rattle.model.specs.Schedule.{scheduleSize, blockLengths, lengthsAddUp, decode}
-use Rattle.model.specs.Runs.{Step, Complete, Legal, Violates, InBlocks, Takes, FirstBroken, NoneBroken, FirstEnding, FirstStray, lastItems}
+use Rattle.model.specs.Schedule.{scheduleSize, blockLengths, stepsOf, lengthsFit, decode}
+use Rattle.model.specs.Runs.{Step, runSteps, linesRun, Legal, Violates, InBlocks, Takes, FirstBroken, NoneBroken, FirstEnding, Meets14, lastItems}
 use Rattle.model.specs.Answers.{encoded, encodedInto, checked, decoded, decodedInto, replayed, replayedInto}
 use Rattle.model.specs.declared.Verdict.the-variants.{Accepted}
 use Rattle.model.specs.declared.Encoded.the-variants as encodeds
@@ -115,13 +115,18 @@ pub record Demand3 (bytes : List ℕ) : Type 0 where
       (replayed bytes schedule room ≡ replayeds.CutOff k)
       ↔ (Takes (caseOf bytes) schedule × ((s : Step) × FirstEnding (caseOf bytes) schedule s × (s .line .number ≡ k)))
   -- Refused with 14: neither 12 nor 13 meets the schedule, and the record is that of the first input that strays, which the run
-  -- meets before any line ends it.
+  -- meets before any line ends it; or, where no line ends the run and none strays, that of the first unrun input with a value other
+  -- than 0.
   pub refused-14-names-the-first : (schedule : List ℕ) (room : ℕ) → itemRoom bytes ≤ room → (k : ℕ) →
       (replayed bytes schedule room ≡ replayeds.Refused 14 k)
-      ↔ ((length schedule ≡ scheduleSize (caseOf bytes)) × (lengthsAddUp (caseOf bytes) (blockLengths (caseOf bytes) schedule) ≡ true)
-      × FirstStray (caseOf bytes) schedule k)
-  -- A legal run of a schedule that is taken is complete.
-  pub legal-is-complete : (schedule : List ℕ) → Takes (caseOf bytes) schedule → Legal (caseOf bytes) schedule → Complete (caseOf bytes) schedule
+      ↔ ((length schedule ≡ scheduleSize (caseOf bytes)) × (lengthsFit (caseOf bytes) (blockLengths (caseOf bytes) schedule) ≡ true)
+      × Meets14 (caseOf bytes) schedule k)
+  -- A legal run of a schedule that is taken runs of each thread the first lines, in chain order, as many as the thread's block lengths
+  -- add up to.
+  pub legal-runs-the-first-lines : (schedule : List ℕ) → Takes (caseOf bytes) schedule → Legal (caseOf bytes) schedule
+      → (t : ℕ) → t < caseOf bytes .T
+      → linesRun (caseOf bytes) t (runSteps (caseOf bytes) schedule)
+      ≡ take (stepsOf (caseOf bytes) t 0 (blockLengths (caseOf bytes) schedule)) (linesOf (caseOf bytes) t)
   -- The final values: "at the end of the run, or at the cut-off with the failed line not run".
   pub values-at-the-end : (schedule : List ℕ) → Takes (caseOf bytes) schedule → Legal (caseOf bytes) schedule
       → Leaves bytes schedule (lastItems (caseOf bytes) schedule)

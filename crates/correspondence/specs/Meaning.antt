@@ -3,18 +3,19 @@
 -- Assumes nothing.
 use mathlib.Core.Path.{_≡_}
 use Prim.Native.Nat.{ℕ, zero, suc, _+_, _%_, _≤_, _<_}
-use mathlib.Core.Bool.{Bool, true, cond}
+use mathlib.Core.Bool.{Bool, true, cond, _&&_}
 use mathlib.Core.List.{List, [], _∷_, reverse}
 use lib.ListN.{length}
 use Rattle.model.specs.Word.{wordSize, AllBelow, bit}
 use Rattle.model.specs.Limits.{localCount}
 use Rattle.model.specs.CaseFile.{Kind, compute, store, load, input, assert, assume, lock, unlock, Line, Case, linesOf, itemCount, sumOfThreads, hasNumber}
-use Rattle.model.specs.Line.{noName, Reads, guardTrue, valueOf, breaks, isInput}
-use Rattle.model.specs.Assignment.{Assignment}
+use Rattle.model.specs.Line.{noName, Reads, guardTrue, breaks, isInput}
+use Rattle.model.specs.Assignment.{Assignment, wasRun}
 use Rattle.model.specs.Copies.{readsAfter, walkBack}
 use Rattle.model.specs.Schedule.{linesInBlock}
 use Rattle.laws.specs.RecordNumber.{RecordNumber}
 use Rattle.laws.specs.Order.{AllLines, Positive, Ordered}
+use Rattle.laws.specs.RowValue.{valueAfter}
 
 -- What the theorem needs of a case. That an accepted case has it is proofs/WellFormed.antt.
 pub record WellFormed (case : Case) : Type 0 where
@@ -41,10 +42,10 @@ Demanded assume l reads value = value ≡ 1
 Demanded lock l reads value = guardTrue l reads ≡ true → reads .target ≡ 0
 Demanded unlock l reads value = Unit
 
--- Constraints 4 and 5 of a line after these earlier lines, latest first.
+-- Constraints 4 and 5 of a line after these earlier lines, latest first; of a line that was not run "constraint 5 is met" (Two).
 pub record LineMet (case : Case) (α : Assignment) (earlier : List Line) (l : Line) : Type 0 where
-  pub value : α .value (l .number) ≡ valueOf l (readsAfter case α earlier l)
-  pub demand : Demanded (l .kind) l (readsAfter case α earlier l) (α .value (l .number))
+  pub value : α .value (l .number) ≡ valueAfter case α earlier l
+  pub demand : wasRun case (α .block (l .number)) ≡ true → Demanded (l .kind) l (readsAfter case α earlier l) (α .value (l .number))
 
 abbrev pub LinesMet : Case → Assignment → List Line → List Line → Type 0
 LinesMet case α earlier [] = Unit
@@ -73,14 +74,18 @@ sumBelow f (suc m) = f m + sumBelow f m
 abbrev pub breakCount : Case → Assignment → ℕ
 breakCount case α = sumBelow (λ t. breaksIn case α [] (linesOf case t)) (case .T)
 
--- The value that decoding gives to an input line: its own where its guard is true, else 0.
+-- The value that decoding gives to an input line: its own where it was run and its guard is true, else 0.
 abbrev pub InputGiven : Kind → Bool → ℕ → ℕ → Type 0
-InputGiven kind true-guard value given = isInput kind ≡ true → given ≡ cond true-guard value 0
+InputGiven kind own value given = isInput kind ≡ true → given ≡ cond own value 0
+
+abbrev pub GivenTo : Case → Assignment → (ℕ → ℕ) → List Line → Line → Type 0
+GivenTo case α given earlier l =
+    InputGiven (l .kind) (wasRun case (α .block (l .number)) && guardTrue l (readsAfter case α earlier l))
+    (α .value (l .number)) (given (l .number))
 
 abbrev pub InputsGiven : Case → Assignment → (ℕ → ℕ) → List Line → List Line → Type 0
 InputsGiven case α given earlier [] = Unit
-InputsGiven case α given earlier (l ∷ ls) =
-    InputGiven (l .kind) (guardTrue l (readsAfter case α earlier l)) (α .value (l .number)) (given (l .number)) × InputsGiven case α given (l ∷ earlier) ls
+InputsGiven case α given earlier (l ∷ ls) = GivenTo case α given earlier l × InputsGiven case α given (l ∷ earlier) ls
 
 -- The block lengths from block i on are the numbers of lines counted.
 abbrev pub Counted : Case → Assignment → ℕ → List ℕ → Type 0

@@ -1,15 +1,15 @@
 -- The trace of a run: what each line did, and the items where each block ends. It is defined for every schedule: a line that
--- would end the run is taken like any other, and lines that no block runs are put at the end, so that each record has one event.
+-- would end the run is taken like any other, and lines that were not run are put at the end, so that each record has one event.
 -- Assumes nothing.
 use Prim.Native.Nat.{ℕ, suc}
 use mathlib.Core.Bool.{Bool, false}
 use mathlib.Core.List.{List, [], _∷_, _++_, map}
 use Rattle.model.specs.CaseFile.{Line, Case}
-use Rattle.model.specs.Line.{valueOf}
+use Rattle.model.specs.Line.{valueOf, unrunValue}
 use Rattle.model.specs.Machine.{Memory, State, restIn, memoryIn}
 use Rattle.model.specs.Runs.{Step, blockSteps, nextState, readsAt, broken}
 
--- A line, the block that runs it, its value, and whether it breaks an assertion.
+-- A line, its block number, its value, and whether it breaks an assertion.
 pub record Event : Type 0 where
   pub line : Line
   pub block : ℕ
@@ -28,10 +28,10 @@ eventOf case given s = record {
 abbrev pub blockEvents : Case → (ℕ → ℕ) → ℕ → ℕ → List Line → Memory → List Event
 blockEvents case given i steps ls m = map (eventOf case given) (blockSteps case given i steps ls m)
 
--- Lines that no block has run.
+-- Lines that were not run: after all blocks from 0 to n, i is n + 1.
 abbrev pub leftEvents : ℕ → List Line → List Event
 leftEvents i [] = []
-leftEvents i (l ∷ ls) = record { line = l; block = i; value = 0; broken = false } ∷ leftEvents i ls
+leftEvents i (l ∷ ls) = record { line = l; block = i; value = unrunValue (l .kind); broken = false } ∷ leftEvents i ls
 
 abbrev pub allLeftEvents : ℕ → List (List Line) → List Event
 allLeftEvents i [] = []
