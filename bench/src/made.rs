@@ -1,5 +1,5 @@
 //! Makes a case along a run: each line is chosen as its turn comes, knowing the state of the run, so that the run is legal and
-//! its last line breaks an assertion. The assignment is written down on the way.
+//! its last line breaks an assertion. The assignment is written down on the way. Lines that the run leaves come last.
 //!
 //! All that is random comes from a fixed seed. Records are numbered as the run meets them.
 
@@ -24,12 +24,15 @@ pub fn made(shape: Shape) -> (Vec<u8>, Vec<u16>, Vec<u16>) {
             run.block_values.extend(&run.items);
         }
     }
+    for thread in 0..shape.lines.len() {
+        (0..shape.left).for_each(|_| run.leave_line(thread));
+    }
     let mut schedule: Vec<u16> = lengths.iter().map(|&length| length as u16).collect();
     schedule.extend(run.inputs.iter().flatten());
     (run.case(), [run.line_numbers, run.block_values].concat(), schedule)
 }
 
-/// A thread's lines, spread evenly over its blocks.
+/// The lines that a thread runs, spread evenly over its blocks.
 fn block_lengths(shape: Shape) -> Vec<usize> {
     let threads = shape.lines.len();
     let length = |block: usize| {
@@ -86,6 +89,17 @@ impl Run {
         self.link(thread, record);
         let value = self.run_line(thread, &record);
         self.line_numbers.extend([block as u16, value]);
+    }
+
+    /// Adds a line to a thread that was not run.
+    fn leave_line(&mut self, thread: usize) {
+        let record = self.line(thread);
+        self.link(thread, record);
+        if record.kind == INPUT {
+            self.inputs[thread].push(0);
+        }
+        let value = u16::from(matches!(record.kind, ASSERT | ASSUME));
+        self.line_numbers.extend([self.shape.switches as u16 + 1, value]);
     }
 
     /// Puts a record at the end of a thread's chain.

@@ -14,22 +14,26 @@ pub struct Sample {
 #[derive(Clone, Copy)]
 pub struct Shape {
     pub name: &'static str,
+    /// How many lines each thread runs, and how many more it has.
     pub lines: &'static [usize],
+    pub left: usize,
     pub switches: usize,
     pub globals: usize,
     pub mutexes: usize,
 }
 
 /// The most of everything: 256 records, 15 switches, 12 items.
-pub const LARGEST: Shape = Shape { name: "largest", lines: &[64; 4], switches: 15, globals: 8, mutexes: 4 };
-const MIDDLE: Shape = Shape { name: "middle", lines: &[22, 21, 21], switches: 8, globals: 4, mutexes: 2 };
+pub const LARGEST: Shape = Shape { name: "largest", lines: &[64; 4], left: 0, switches: 15, globals: 8, mutexes: 4 };
+/// As many records, of which the run leaves half.
+const STOPPED: Shape = Shape { name: "stopped", lines: &[32; 4], left: 32, ..LARGEST };
+const MIDDLE: Shape = Shape { name: "middle", lines: &[22, 21, 21], left: 0, switches: 8, globals: 4, mutexes: 2 };
 
 /// A case with a text as long as one can make it: six inputs, and in all other lines a guarded store of a comparison of variables.
 pub const LONGEST_TEXT: &[u8] = include_bytes!("../longest.case");
 
 /// All inputs, by the tables that they are for.
 pub struct Samples {
-    pub sizes: [Sample; 3],
+    pub sizes: [Sample; 4],
     pub by_records: [Sample; 4],
     pub by_switches: [Sample; 4],
 }
@@ -38,7 +42,7 @@ impl Samples {
     pub fn all() -> Samples {
         let lines: [&[usize]; 4] = [&[8; 4], &[16; 4], &[32; 4], &[64; 4]];
         Samples {
-            sizes: [Sample::small(), Sample::made(MIDDLE), Sample::made(LARGEST)],
+            sizes: [Sample::small(), Sample::made(MIDDLE), Sample::made(LARGEST), Sample::made(STOPPED)],
             by_records: lines.map(|lines| Sample::made(Shape { lines, ..LARGEST })),
             by_switches: [3, 7, 11, 15].map(|switches| Sample::made(Shape { switches, ..LARGEST })),
         }

@@ -148,18 +148,23 @@ impl Writer<'_> {
             3 => {
                 self.threads[usize::from(line)] = usize::from(third);
                 let rest = format!("(bvurem {} {})", block_of(line), constant(number));
-                equal(&rest, &constant(usize::from(third)))
+                format!("(or {} {})", self.not_run(line), equal(&rest, &constant(usize::from(third))))
             }
             1 => self.in_order(line, second),
-            2 => self.in_bounds(line, number),
+            2 => self.in_bounds(line),
             4 => {
                 self.targets[usize::from(line)] = target;
                 self.value(row)
             }
-            5 => self.demand(line, second, third),
+            5 => format!("(or {} {})", self.not_run(line), self.demand(line, second, third)),
             6 => self.item_after_block(usize::from(line), number, third),
             _ => self.some_assert_is_zero(),
         }
+    }
+
+    /// "not run of k".
+    fn not_run(&self, line: u16) -> String {
+        equal(&block_of(line), &constant(usize::from(self.case.unrun_block())))
     }
 
     /// The blocks that a line has to choose from.
@@ -174,10 +179,10 @@ impl Writer<'_> {
     fn in_order(&self, line: u16, next: u16) -> String {
         let (block, next_block) = (block_of(line), block_of(next));
         let order = format!("(bvule {block} {next_block})");
-        let mut blocks = self.blocks(line);
-        if !self.spelling.orders || blocks.pop().is_none() {
+        if !self.spelling.orders {
             return order;
         }
+        let blocks = self.blocks(line);
         let said = blocks.iter().map(|&last| {
             let up_to = blocks.iter().take_while(|&&own| own <= last).map(|&own| equal(&block, &constant(own)));
             format!("(=> {} {})", equal(&next_block, &constant(last)), or(up_to.collect::<Vec<_>>().into_iter()))
@@ -185,13 +190,15 @@ impl Writer<'_> {
         and(said, order)
     }
 
-    fn in_bounds(&self, line: u16, switches: usize) -> String {
-        let bound = format!("(bvule {} {})", block_of(line), constant(switches));
+    fn in_bounds(&self, line: u16) -> String {
+        let unrun = usize::from(self.case.unrun_block());
+        let bound = format!("(bvule {} {})", block_of(line), constant(unrun));
         if !self.spelling.orders {
             return bound;
         }
         let chain: Vec<u16> = self.case.chain(self.threads[usize::from(line)]).map(|(line, _)| line).collect();
-        let one_of = |&line: &u16| or(self.blocks(line).into_iter().map(|own| equal(&block_of(line), &constant(own))));
+        let one_of =
+            |&line: &u16| or(self.blocks(line).into_iter().chain([unrun]).map(|own| equal(&block_of(line), &constant(own))));
         and(chain.iter().map(one_of), bound)
     }
 
@@ -244,10 +251,12 @@ impl Writer<'_> {
         let [_, line, guard_copy, ..] = row;
         let record = self.case.record(line);
         let guarded_in = self.guarded_in(&record, row);
-        match record.guard {
+        let when_run = match record.guard {
             0 => guarded_in,
             _ => format!("(ite {} {guarded_in} {})", guard(&record, guard_copy), self.guarded_out(&record, row)),
-        }
+        };
+        let unrun_value = constant(usize::from(matches!(record.kind, ASSERT | ASSUME)));
+        format!("(ite {} {} {when_run})", self.not_run(line), equal(&value_of(line), &unrun_value))
     }
 
     fn guarded_in(&self, record: &Record, [_, line, _, a_copy, b_copy, _]: [u16; 6]) -> String {

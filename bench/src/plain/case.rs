@@ -112,7 +112,11 @@ impl<'a> Case<'a> {
 
     /// The lines of a thread in chain order, each with its record.
     pub fn chain(&self, thread: usize) -> impl Iterator<Item = (u16, Record)> + '_ {
-        let mut line = self.firsts[thread];
+        self.lines_from(self.firsts[thread])
+    }
+
+    /// A line and those that follow in its thread.
+    pub fn lines_from(&self, mut line: u16) -> impl Iterator<Item = (u16, Record)> + '_ {
         std::iter::from_fn(move || {
             let this = line;
             if this == 0 {
@@ -142,6 +146,16 @@ impl<'a> Case<'a> {
 
     pub fn constraints(&self) -> usize {
         3 * self.records.len() + self.demands + self.switches * self.items() + 1
+    }
+
+    /// The block number of a line that was not run.
+    pub fn unrun_block(&self) -> u16 {
+        self.switches as u16 + 1
+    }
+
+    /// Whether a line with this block number was run.
+    pub fn was_run(&self, block: u16) -> bool {
+        block != self.unrun_block()
     }
 
     /// Where the block values begin in an assignment.

@@ -27,15 +27,19 @@ impl Count {
 pub fn check(case: &Case, assignment: &[u16]) -> Result<(), u16> {
     let mut count = Count(0);
     check_order(case, assignment, &mut count)?;
-    // No block number is over n from here on.
+    // No block number of a line that was run is over n from here on.
     let mut items = items_at_start(case, assignment);
     let mut some_assert_is_zero = false;
     for thread in 0..case.threads {
         let mut locals = [0; 16];
         for (line, record) in case.chain(thread) {
             let (block, value) = numbers_of(assignment, line);
-            let items = &mut items[usize::from(block)];
-            check_line(&record, value, case.globals, &mut locals, items, &mut count)?;
+            if case.was_run(block) {
+                let items = &mut items[usize::from(block)];
+                check_line(&record, value, case.globals, &mut locals, items, &mut count)?;
+            } else {
+                check_unrun(&record, value, &mut count)?;
+            }
             some_assert_is_zero |= record.kind == ASSERT && value == 0;
         }
     }
@@ -64,9 +68,9 @@ fn check_order(case: &Case, assignment: &[u16], count: &mut Count) -> Result<(),
     for thread in 0..case.threads {
         for (line, record) in case.chain(thread) {
             let (block, _) = numbers_of(assignment, line);
-            count.next(usize::from(block) % case.threads == thread)?;
+            count.next(!case.was_run(block) || usize::from(block) % case.threads == thread)?;
             let most = match record.next {
-                0 => case.switches as u16,
+                0 => case.unrun_block(),
                 next => numbers_of(assignment, next).0,
             };
             count.next(block <= most)?;
@@ -83,6 +87,15 @@ fn items_at_start(case: &Case, assignment: &[u16]) -> Items {
         items[block + 1][..case.items()].copy_from_slice(block_values(case, assignment, block));
     }
     items
+}
+
+/// The 4 of a line that was not run, and its 5 if it has one, which holds.
+fn check_unrun(record: &Record, value: u16, count: &mut Count) -> Result<(), u16> {
+    count.next(value == u16::from(matches!(record.kind, ASSERT | ASSUME)))?;
+    if matches!(record.kind, ASSUME | LOCK) {
+        count.next(true)?;
+    }
+    Ok(())
 }
 
 /// The 4 of a line, and its 5 if it has one; then its target has its value.

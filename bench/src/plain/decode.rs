@@ -13,10 +13,13 @@ pub fn write_schedule(case: &Case, assignment: &[u16], schedule: &mut [u16]) {
         let mut locals = [0; 16];
         for (line, record) in case.chain(thread) {
             let (block, value) = numbers_of(assignment, line);
-            lengths[usize::from(block)] += 1;
+            let was_run = case.was_run(block);
+            if was_run {
+                lengths[usize::from(block)] += 1;
+            }
             if record.kind == INPUT {
                 let input = inputs.next().expect("there is room for every input");
-                *input = if record.guard_is_true(&locals) { value } else { 0 };
+                *input = if was_run && record.guard_is_true(&locals) { value } else { 0 };
             }
             if matches!(record.kind, COMPUTE | LOAD | INPUT) {
                 locals[usize::from(record.target)] = value;

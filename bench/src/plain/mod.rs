@@ -93,7 +93,7 @@ fn replayed(case: &[u8], schedule: &[u16], items: &mut [u16]) -> Result<Replayed
     let case = Case::accept(case)?;
     refuse_if(items.len() < case.items(), 10)?;
     refuse_if(schedule.len() != case.schedule_numbers(), 12)?;
-    refuse_if(!replay::lengths_add_up(&case, schedule), 13)?;
+    refuse_if(!replay::lengths_fit(&case, schedule), 13)?;
     let run = replay::run(&case, schedule);
     if let Some(Stop::FalseInput(place)) = run.stop {
         return Err(Refusal { number: 14, place });

@@ -20,18 +20,19 @@ pub struct Run {
 #[derive(Clone, Copy, Default)]
 struct Thread {
     next_line: u16,
-    /// Where the schedule has the value of the thread's next input line.
+    /// Where the schedule has the value of the thread's next input line, and where those of its inputs end.
     next_input: usize,
+    inputs_end: usize,
     locals: Locals,
 }
 
 /// Whether check 13 passes.
-pub fn lengths_add_up(case: &Case, schedule: &[u16]) -> bool {
+pub fn lengths_fit(case: &Case, schedule: &[u16]) -> bool {
     let mut sums = [0; 4];
     for (block, &length) in schedule[..=case.switches].iter().enumerate() {
         sums[block % case.threads] += usize::from(length);
     }
-    sums == case.lines
+    sums.iter().zip(&case.lines).all(|(sum, lines)| sum <= lines)
 }
 
 /// Runs a schedule that checks 12 and 13 pass.
@@ -47,7 +48,15 @@ pub fn run(case: &Case, schedule: &[u16]) -> Run {
             }
         }
     }
+    run.stop = threads[..case.threads].iter().find_map(|thread| unrun_input(case, schedule, thread)).map(Stop::FalseInput);
     run
+}
+
+/// The first input line that a thread has left and that has a value other than 0.
+fn unrun_input(case: &Case, schedule: &[u16], thread: &Thread) -> Option<u16> {
+    let left = &schedule[thread.next_input..thread.inputs_end];
+    let before = left.iter().position(|&value| value != 0)?;
+    case.lines_from(thread.next_line).filter(|(_, record)| record.kind == INPUT).nth(before).map(|(line, _)| line)
 }
 
 fn threads_at_start(case: &Case) -> [Thread; 4] {
@@ -57,6 +66,7 @@ fn threads_at_start(case: &Case) -> [Thread; 4] {
         thread.next_line = case.first(number);
         thread.next_input = next_input;
         next_input += case.inputs[number];
+        thread.inputs_end = next_input;
     }
     threads
 }

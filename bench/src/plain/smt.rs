@@ -141,7 +141,7 @@ impl<S: Sink> Writer<'_, S> {
                 self.put_thread(line, second, third);
             }
             1 => self.put_two(b"(bvule ", block_of(line), block_of(second)),
-            2 => self.put_two(b"(bvule ", block_of(line), Term::constant(second)),
+            2 => self.put_two(b"(bvule ", block_of(line), Term::constant(second + 1)),
             4 => {
                 self.targets[usize::from(line)] = row[5];
                 self.put_value(row);
@@ -166,12 +166,20 @@ impl<S: Sink> Writer<'_, S> {
         (0..times).for_each(|_| self.to.put(b")"));
     }
 
+    /// "not run of k", behind what opens the formula that it is the first part of.
+    fn open_with_not_run(&mut self, opening: &[u8], line: u16) {
+        self.to.put(opening);
+        self.put_two(b"(= ", block_of(line), Term::constant(self.case.unrun_block()));
+        self.to.put(b" ");
+    }
+
     fn put_thread(&mut self, line: u16, threads: u16, thread: u16) {
+        self.open_with_not_run(b"(or ", line);
         self.to.put(b"(= ");
         self.put_two(b"(bvurem ", block_of(line), Term::constant(threads));
         self.to.put(b" ");
         self.to.put(Term::constant(thread).spelling());
-        self.to.put(b")");
+        self.to.put(b"))");
     }
 
     /// "X is Y": the equation, with a link for each source where both are variables.
@@ -246,15 +254,20 @@ impl<S: Sink> Writer<'_, S> {
     fn put_value(&mut self, row: [u16; 6]) {
         let [_, line, guard, ..] = row;
         let record = self.case.record(line);
+        self.open_with_not_run(b"(ite ", line);
+        self.put_is_constant(value_of(line), if matches!(record.kind, ASSERT | ASSUME) { ONE } else { ZERO });
+        self.to.put(b" ");
         if record.guard == 0 {
-            return self.put_guarded_in(&record, row);
+            self.put_guarded_in(&record, row);
+        } else {
+            self.to.put(b"(ite ");
+            self.put_guard(&record, guard);
+            self.to.put(b" ");
+            self.put_guarded_in(&record, row);
+            self.to.put(b" ");
+            self.put_guarded_out(&record, row);
+            self.to.put(b")");
         }
-        self.to.put(b"(ite ");
-        self.put_guard(&record, guard);
-        self.to.put(b" ");
-        self.put_guarded_in(&record, row);
-        self.to.put(b" ");
-        self.put_guarded_out(&record, row);
         self.to.put(b")");
     }
 
@@ -343,6 +356,12 @@ impl<S: Sink> Writer<'_, S> {
 
     /// A 5.
     fn put_demand(&mut self, line: u16, guard: u16, target: u16) {
+        self.open_with_not_run(b"(or ", line);
+        self.put_demand_when_run(line, guard, target);
+        self.to.put(b")");
+    }
+
+    fn put_demand_when_run(&mut self, line: u16, guard: u16, target: u16) {
         let record = self.case.record(line);
         if record.kind == ASSUME {
             return self.put_is_constant(value_of(line), ONE);
