@@ -14,7 +14,7 @@ use Rattle.model.specs.Lists.{writtenOver}
 use Rattle.model.specs.CaseFile.{switchCount, caseOf, itemCount}
 use Rattle.model.specs.Accept.{verdict}
 use Rattle.model.specs.Machine.{State, Outcome, refused14, cutOff, violated, clean, run}
-use Rattle.model.specs.Schedule.{allInputLines, scheduleSize, blockLengths, valueGiven, lengthsAddUp, runOf}
+use Rattle.model.specs.Schedule.{allInputLines, scheduleSize, blockLengths, valueGiven, lengthsFit, runOf}
 use Rattle.model.specs.Answers.{answerOfRun, itemsAfter, afterReplayed, replayed, replayedInto}
 use Rattle.model.specs.declared.Verdict.the-variants as verdicts
 use Rattle.model.specs.declared.Replayed.{Replayed}
@@ -125,14 +125,14 @@ module _ (bytes schedule slice : List ℕ) where
                 ne-eqb (length schedule) (scheduleSize (caseOf bytes)) (λ e. differ (e ∙ sym size-is)),
               )) refl
 
-          module _ (whole : length schedule ≡ f .used) {sums : Bool} (are-sums : sums ≡ lengthsAddUp (caseOf bytes) (take (switches + 1) schedule)) where
+          module _ (whole : length schedule ≡ f .used) {fit : Bool} (is-fit : fit ≡ lengthsFit (caseOf bytes) (take (switches + 1) schedule)) where
             blocks : switches + 1 ≡ suc (switchCount bytes)
             blocks = omega arith
 
-            sums-are : sums ≡ lengthsAddUp (caseOf bytes) (blockLengths (caseOf bytes) schedule)
-            sums-are = are-sums ∙ ap (λ (x : ℕ). lengthsAddUp (caseOf bytes) (take x schedule)) blocks
+            fit-is : fit ≡ lengthsFit (caseOf bytes) (blockLengths (caseOf bytes) schedule)
+            fit-is = is-fit ∙ ap (λ (x : ℕ). lengthsFit (caseOf bytes) (take x schedule)) blocks
 
-            pub answers-13 : sums ≡ false → Answered bytes schedule slice slice (Refused 13 0)
+            pub answers-13 : fit ≡ false → Answered bytes schedule slice slice (Refused 13 0)
             unfolding replayed
             answers-13 fail =
                 answers (Refused 13 0) slice
@@ -140,7 +140,7 @@ module _ (bytes schedule slice : List ℕ) where
                   on-accepted _ _ _ accepted,
                   le-leb (itemCount (caseOf bytes)) (length slice) enough,
                   eq-eqb (length schedule) (scheduleSize (caseOf bytes)) (whole ∙ size-is),
-                  ← sums-are,
+                  ← fit-is,
                   fail,
                 )) refl
 
@@ -153,7 +153,7 @@ module _ (bytes schedule slice : List ℕ) where
                 ∙ value-is bytes schedule (switches + 1) (accepted-of bytes accepted) (whole ∙ ap (λ (x : Inputs). x .used) is-spread ∙ used-is bytes schedule (switches + 1)) k
                 ∙ ap (λ (x : ℕ). valueGiven (allInputLines (caseOf bytes .threads)) (drop x schedule) k) blocks))
 
-            pub answers-run : {r : Replayed} {after : List ℕ} → sums ≡ true → Ran bytes (take (switches + 1) schedule) (f .given) slice r after
+            pub answers-run : {r : Replayed} {after : List ℕ} → fit ≡ true → Ran bytes (take (switches + 1) schedule) (f .given) slice r after
                 → Answered bytes schedule slice after r
             unfolding replayed
             answers-run {r} {after} pass ran =
@@ -162,7 +162,7 @@ module _ (bytes schedule slice : List ℕ) where
                   on-accepted _ _ _ accepted,
                   le-leb (itemCount (caseOf bytes)) (length slice) enough,
                   eq-eqb (length schedule) (scheduleSize (caseOf bytes)) (whole ∙ size-is),
-                  ← sums-are,
+                  ← fit-is,
                   pass,
                 )
                 (ran .answer ∙ ap answerOfRun same-run))

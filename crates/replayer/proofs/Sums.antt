@@ -7,15 +7,15 @@ use mathlib.Core.List.{List}
 use native.Mathlib.Omega.{arith}
 use native.Mathlib.Nat.{mod-lt}
 use native.Mathlib.Numerals.{add-one}
-use lib.Dec.{eqb}
+use lib.Dec.{leb, eqb}
 use lib.ListN.{getD, set, length, drop, replicate, length-set, length-replicate, getD-replicate, drop-of-length-le, List·getD-eq-default}
 use lib.Seq.{drop-cons, getD-set-same, getD-set-other}
-use borrow.Author.Tests.{eq-eqb, ne-eqb}
+use borrow.Author.Tests.{le-leb, lt-leb}
 use Rattle.model.specs.Word.{wordSize}
 use Rattle.model.specs.Limits.{mostThreads}
 use Rattle.model.specs.Lists.{allFrom}
 use Rattle.model.specs.CaseFile.{threadCount, caseOf, linesOf}
-use Rattle.model.specs.Schedule.{stepsOf, lengthsAddUp}
+use Rattle.model.specs.Schedule.{stepsOf, lengthsFit}
 use Rattle.laws.specs.Accepted.{Accepted}
 use Rattle.laws.proofs.Views.{EqView, same, diff, eq-view, LtView, below, above, lt-view}
 
@@ -88,37 +88,37 @@ module _ (bytes lengths : List ℕ) where
         does u h (same e q) = omega (arith, here u e, a .does u h, steps-more bytes lengths u i threads steps steps more all are (rw (← is, q)))
         does u h (diff e q) = omega (arith, there u e, a .does u h, steps-more bytes lengths u i threads steps 0 more all are (rw (← is, q)))
 
--- Whether the lengths of threads t and on add up, so many of them.
-unfoldable pub addUpFrom : List ℕ → List ℕ → ℕ → ℕ → Bool
-addUpFrom bytes lengths t many = allFrom (λ u. eqb (stepsOf (caseOf bytes) u 0 lengths) (length (linesOf (caseOf bytes) u))) t many
+-- Whether the lengths of threads t and on fit, so many of them.
+unfoldable pub fitFrom : List ℕ → List ℕ → ℕ → ℕ → Bool
+fitFrom bytes lengths t many = allFrom (λ u. leb (stepsOf (caseOf bytes) u 0 lengths) (length (linesOf (caseOf bytes) u))) t many
 
--- The threads before t add up.
+-- Those of the threads before t fit.
 pub record Comparing (bytes lengths : List ℕ) (threads t : ℕ) : Type 0 where
   pub inside : t ≤ threads
-  pub does : addUpFrom bytes lengths t (threads - t) ≡ lengthsAddUp (caseOf bytes) lengths
+  pub does : fitFrom bytes lengths t (threads - t) ≡ lengthsFit (caseOf bytes) lengths
 
 module _ (bytes lengths : List ℕ) (threads : ℕ) where
   pub comparing-start : threads ≡ threadCount bytes → Comparing bytes lengths threads 0
-  unfolding addUpFrom lengthsAddUp
+  unfolding fitFrom lengthsFit
   comparing-start all = let none : threads - 0 ≡ threadCount bytes = omega arith in record { inside = omega arith; does = rw none }
 
   module _ (t : ℕ) (s : Comparing bytes lengths threads t) where
-    pub comparing-end : threads ≤ t → true ≡ lengthsAddUp (caseOf bytes) lengths
-    unfolding addUpFrom allFrom
+    pub comparing-end : threads ≤ t → true ≡ lengthsFit (caseOf bytes) lengths
+    unfolding fitFrom allFrom
     comparing-end over = let none : threads - t ≡ 0 = omega arith in rw none at (s .does)
 
     module _ (more : t < threads) (sum lines : ℕ) (is-sum : sum ≡ stepsOf (caseOf bytes) t 0 lengths) (lines-are : lines ≡ length (linesOf (caseOf bytes) t)) where
       left : threads - t ≡ suc (threads - (t + 1))
       left = omega arith
 
-      pub comparing-fails : (sum ≡ lines → ⊥) → false ≡ lengthsAddUp (caseOf bytes) lengths
-      unfolding addUpFrom allFrom
-      comparing-fails differ =
-          let e = ne-eqb (stepsOf (caseOf bytes) t 0 lengths) (length (linesOf (caseOf bytes) t)) (λ q. differ (is-sum ∙ q ∙ sym lines-are)) in
+      pub comparing-fails : lines < sum → false ≡ lengthsFit (caseOf bytes) lengths
+      unfolding fitFrom allFrom
+      comparing-fails over =
+          let e = lt-leb (stepsOf (caseOf bytes) t 0 lengths) (length (linesOf (caseOf bytes) t)) (omega (arith, over, is-sum, lines-are)) in
           rw (left, e) at (s .does)
 
-      pub comparing-more : sum ≡ lines → Comparing bytes lengths threads (t + 1)
-      unfolding addUpFrom allFrom
-      comparing-more equal =
-          let e = eq-eqb (stepsOf (caseOf bytes) t 0 lengths) (length (linesOf (caseOf bytes) t)) (sym is-sum ∙ equal ∙ lines-are) in
-          record { inside = omega arith; does = ap (λ (x : ℕ). addUpFrom bytes lengths x (threads - (t + 1))) (add-one t) ∙ (rw (left, e) at (s .does)) }
+      pub comparing-more : sum ≤ lines → Comparing bytes lengths threads (t + 1)
+      unfolding fitFrom allFrom
+      comparing-more fits =
+          let e = le-leb (stepsOf (caseOf bytes) t 0 lengths) (length (linesOf (caseOf bytes) t)) (omega (arith, fits, is-sum, lines-are)) in
+          record { inside = omega arith; does = ap (λ (x : ℕ). fitFrom bytes lengths x (threads - (t + 1))) (add-one t) ∙ (rw (left, e) at (s .does)) }

@@ -164,9 +164,9 @@ module _ (bytes schedule : List ℕ) (lengths : ℕ) where
       ∙ value-or-none lines (drop lengths schedule) k
 
 -- A schedule with a number for each use has its block lengths.
-pub lengths-fit : (bytes schedule : List ℕ) (lengths : ℕ) (f : Inputs) → f ≡ putThreads schedule (caseOf bytes .threads) (noInputs lengths)
+pub has-lengths : (bytes schedule : List ℕ) (lengths : ℕ) (f : Inputs) → f ≡ putThreads schedule (caseOf bytes .threads) (noInputs lengths)
     → length schedule ≡ f .used → lengths ≤ length schedule
-lengths-fit bytes schedule lengths f is whole = omega (arith, whole, ap (λ (x : Inputs). x .used) is, used-is bytes schedule lengths)
+has-lengths bytes schedule lengths f is whole = omega (arith, whole, ap (λ (x : Inputs). x .used) is, used-is bytes schedule lengths)
 
 -- Every record number has a place among the values.
 pub places : (bytes schedule : List ℕ) (lengths : ℕ) (f : Inputs) → f ≡ putThreads schedule (caseOf bytes .threads) (noInputs lengths)

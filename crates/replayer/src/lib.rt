@@ -6,7 +6,7 @@ ghost use Rattle.model.specs.Limits.{mostThreads};
 ghost use Rattle.model.specs.Lists.{writtenOver};
 ghost use Rattle.model.specs.CaseFile.{caseOf};
 ghost use Rattle.model.specs.Accept.{verdict};
-ghost use Rattle.model.specs.Schedule.{stepsOf, lengthsAddUp};
+ghost use Rattle.model.specs.Schedule.{stepsOf, lengthsFit};
 ghost use Rattle.model.specs.Answers.{replayed, replayedInto};
 ghost use Rattle.model.specs.declared.Verdict.the-variants as verdicts;
 ghost use Rattle.replayer.specs.InputValues.{inputs, ThreadPut, AllPut};
@@ -101,16 +101,16 @@ fn sums_of(case: &[u8], lengths: &[u16]) -> [usize; THREADS]
     sums
 }
 
-// Whether the block lengths of each thread add up to its lines.
-fn lengths_add_up(case: &[u8], lengths: &[u16], lines: [usize; THREADS]) -> bool
+// Whether the block lengths of each thread add up to at most its lines.
+fn lengths_fit(case: &[u8], lengths: &[u16], lines: [usize; THREADS]) -> bool
     requires { ⌜ SumsReady (now case) (now lengths) lines ⌝ }
-    ensures { λ r. ⌜ r ≡ lengthsAddUp (caseOf (now (case .entry))) (now (lengths .entry)) ⌝ }
+    ensures { λ r. ⌜ r ≡ lengthsFit (caseOf (now (case .entry))) (now (lengths .entry)) ⌝ }
 {
     let threads = case_file::threads(case) as usize;
     let sums = sums_of(case, lengths);
     let mut t = 0;
     while t < threads {
-        if sums[t] != lines[t] {
+        if lines[t] < sums[t] {
             return false;
         }
         t += 1;
@@ -177,7 +177,7 @@ fn replay_accepted(case: &[u8], schedule: &[u16], items: &mut [u16]) -> Replayed
         };
     }
     let lengths = &schedule[..blocks];
-    if !lengths_add_up(case, lengths, lines) {
+    if !lengths_fit(case, lengths, lines) {
         return Replayed::Refused {
             number: 13,
             place: 0,

@@ -2,18 +2,21 @@
 -- Assumes nothing.
 use mathlib.Core.Path.{_≡_, refl, ap, _∙_, subst}
 use Prim.Native.Nat.{ℕ}
-use mathlib.Core.List.{List}
+use mathlib.Core.Bool.{cond}
+use mathlib.Core.List.{List, []}
+use lib.Dec.{eqb}
 use borrow.Author.Tests.{eq-eqb, ne-eqb}
-use Rattle.model.specs.Machine.{State, Outcome, refused14, cutOff, violated, clean, ending}
+use Rattle.model.specs.Machine.{State, Outcome, refused14, cutOff, violated, clean, firstStrayLeft, ending, runBlocks}
 use Rattle.model.specs.declared.Replayed.the-variants.{Violated, Clean, CutOff, Refused}
+use Rattle.laws.proofs.Views.{EqView, same, diff, eq-view}
 use Rattle.turn.specs.declared.Stand.{Stand}
 use Rattle.turn.specs.declared.Stand.the-variants.{Running, Strayed, Stopped}
-use Rattle.turn.specs.TurnState.{itemsOf}
+use Rattle.turn.specs.TurnState.{itemsOf, givenBy}
 use Rattle.run.specs.declared.Thread.{Thread}
 use Rattle.run.specs.declared.Shared.{Shared}
 use Rattle.run.specs.declared.Ended.{Ended}
-use Rattle.run.specs.RunState.{stateOf}
-use Rattle.run.specs.Promises.{resumed, outcomeOf, Played, Replies, Comes}
+use Rattle.run.specs.RunState.{restsOf, stateOf}
+use Rattle.run.specs.Promises.{resumed, outcomeFrom, Played, standAfter, lookedAt, outcomeOf, Replies}
 
 module _ (bytes : List ℕ) (threads : List Thread) (shared : Shared) where
   abbrev state : State
@@ -22,8 +25,12 @@ module _ (bytes : List ℕ) (threads : List Thread) (shared : Shared) where
   abbrev Ends : Ended → Type 0
   Ends e = Replies bytes (outcomeOf bytes threads shared) e
 
-  resumes : (stand : Stand) → shared .stand ≡ stand → outcomeOf bytes threads shared ≡ resumed stand (itemsOf bytes (shared .items)) (ending (shared .note) state)
-  resumes stand is = ap (λ (x : Stand). resumed x (itemsOf bytes (shared .items)) (ending (shared .note) state)) is
+  -- where nothing has ended the run
+  abbrev finished : Outcome
+  finished = cond (eqb (shared .note) 0) (clean state) (violated (shared .note) state)
+
+  resumes : (stand : Stand) → shared .stand ≡ stand → outcomeOf bytes threads shared ≡ resumed stand (itemsOf bytes (shared .items)) finished
+  resumes stand is = ap (λ (x : Stand). resumed x (itemsOf bytes (shared .items)) finished) is
 
   pub ends-stray : (k : ℕ) → shared .stand ≡ Strayed k → Ends (record { reply = Refused 14 k; threads = threads; items = shared .items })
   ends-stray k is = let o : outcomeOf bytes threads shared ≡ refused14 k = resumes (Strayed k) is in rw o (record { reply = refl; left = tt })
@@ -43,6 +50,24 @@ module _ (bytes : List ℕ) (threads : List Thread) (shared : Shared) where
       let o : outcomeOf bytes threads shared ≡ violated (shared .note) state = resumes Running is ∙ rw (ne-eqb (shared .note) 0 some) in
       rw o (record { reply = refl; left = refl })
 
-pub comes : (bytes givens lengths : List ℕ) (threads : List Thread) (shared : Shared) (after : List Thread) (last : Shared) (e : Ended)
-    → Played bytes givens lengths threads shared after last → ((bs : List ℕ) → Replies bs (outcomeOf bs after last) e) → Comes bytes givens lengths threads shared e
-comes bytes givens lengths threads shared after last e played ended = subst (λ (x : Outcome). Replies bytes x e) (played .comes) (ended bytes)
+  -- no block is left, and the lines that are left have been looked at
+  looked : (givens : List ℕ) → outcomeOf bytes threads (lookedAt (firstStrayLeft (givenBy givens) (restsOf bytes threads)) shared)
+      ≡ outcomeFrom bytes givens 0 [] threads shared
+  unfolding runBlocks
+  looked givens = go (shared .stand) (eq-view stray 0)
+    where
+      stray : ℕ
+      stray = firstStrayLeft (givenBy givens) (restsOf bytes threads)
+
+      go : (stand : Stand) → EqView stray 0 → resumed (standAfter stray stand) (itemsOf bytes (shared .items)) finished
+          ≡ resumed stand (itemsOf bytes (shared .items)) (ending (givenBy givens) (shared .note) state)
+      go Running (same e q) = rw q
+      go Running (diff e q) = rw q
+      go (Strayed k) v = refl
+      go (Stopped k) v = refl
+
+pub comes : (bytes givens lengths : List ℕ) (threads : List Thread) (shared : Shared) (after : List Thread) (moved last : Shared) (e : Ended)
+    → Played bytes givens lengths threads shared after moved → last ≡ lookedAt (firstStrayLeft (givenBy givens) (restsOf bytes after)) moved
+    → ((bs : List ℕ) → Replies bs (outcomeOf bs after last) e) → Replies bytes (outcomeFrom bytes givens 0 lengths threads shared) e
+comes bytes givens lengths threads shared after moved last e played is-last ended =
+    subst (λ (x : Outcome). Replies bytes x e) (ap (outcomeOf bytes after) is-last ∙ looked bytes after moved givens ∙ played .comes) (ended bytes)

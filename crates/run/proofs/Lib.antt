@@ -3,3 +3,4 @@ pub mod Starts
 pub mod Ends
 pub mod LentAgain
 pub mod WalkValues
+pub mod Looks

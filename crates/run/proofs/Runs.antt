@@ -164,6 +164,7 @@ module _ (bytes givens lengths : List ℕ) (threads₀ : List Thread) (shared₀
     unfolding runBlocks
     playing-end over = record {
       comes = ap (λ (x : List ℕ). outcomeFrom bytes givens i x threads shared) (sym (drop-of-length-le lengths over)) ∙ p .does;
+      ready = p .ready;
     }
 
 -- Block i by its thread's turn.

@@ -19,7 +19,7 @@ use Rattle.run.specs.declared.Thread.{Thread}
 use Rattle.run.specs.declared.Shared.{Shared}
 use Rattle.run.specs.declared.Ended.{Ended}
 use Rattle.run.specs.RunState.{threadAt, listFrom, restAt, stateOf, firstThread, firstThreads, firstShared}
-use Rattle.run.specs.Promises.{RunReady, outcomeFrom, Replies, Comes}
+use Rattle.run.specs.Promises.{RunReady, outcomeFrom, Replies}
 use Rattle.run.proofs.Runs.{listFrom-same}
 
 take-zeros : (m n : ℕ) → m ≤ n → take {A = ℕ} m (replicate n 0) ≡ replicate m 0
@@ -81,7 +81,7 @@ module _ (bytes : List ℕ) where
     }
 
     pub run-replies : (givens lengths : List ℕ) (threads : List Thread) (shared : Shared) (e : Ended) → threads ≡ firstThreads bytes → shared ≡ firstShared bytes
-        → Comes bytes givens lengths threads shared e → Replies bytes (run (caseOf bytes) lengths (givenBy givens)) e
+        → Replies bytes (outcomeFrom bytes givens 0 lengths threads shared) e → Replies bytes (run (caseOf bytes) lengths (givenBy givens)) e
     unfolding run
     run-replies givens lengths threads shared e are-threads is-shared replies =
         subst (λ (x : Outcome). Replies bytes x e)

@@ -2,11 +2,13 @@
 -- Assumes nothing.
 use mathlib.Core.Path.{_≡_}
 use Prim.Native.Nat.{ℕ, _%_, _≤_, _<_}
-use mathlib.Core.List.{List}
+use mathlib.Core.Bool.{cond}
+use mathlib.Core.List.{List, []}
+use lib.Dec.{eqb}
 use lib.ListN.{getD, length, set}
 use Rattle.model.specs.Limits.{mostThreads}
 use Rattle.model.specs.CaseFile.{records, threadCount, caseOf}
-use Rattle.model.specs.Machine.{Outcome, refused14, cutOff, violated, clean, ending, runBlocks}
+use Rattle.model.specs.Machine.{Outcome, refused14, cutOff, violated, clean, runBlocks}
 use Rattle.model.specs.Answers.{answerOfRun}
 use Rattle.laws.specs.Accepted.{Accepted}
 use Rattle.turn.specs.declared.Stand.{Stand}
@@ -36,6 +38,12 @@ pub record RunAtBlock (bytes lengths givens : List ℕ) (threads : List Thread) 
   pub ready : RunReady bytes givens threads
   pub is-block : i < length lengths
 
+-- The same for one thread, at record k or at its end.
+pub record RestReady (bytes givens : List ℕ) (k : ℕ) : Type 0 where
+  pub accepted : Accepted bytes
+  pub all-given : records bytes < length givens
+  pub within : k ≤ records bytes
+
 -- The same for a block's thread.
 pub record BlockReady (bytes lengths givens : List ℕ) (thread : Thread) (i : ℕ) : Type 0 where
   pub accepted : Accepted bytes
@@ -64,14 +72,25 @@ outcomeFrom bytes givens i lengths threads shared =
     resumed (shared .stand) (itemsOf bytes (shared .items))
     (runBlocks (caseOf bytes) (givenBy givens) i lengths (stateOf bytes threads (shared .items)) (shared .note))
 
--- What a run has come to, when no block is left.
+-- The blocks with these lengths have been run, and no block is left.
+pub record Played (bytes givens lengths : List ℕ) (threads : List Thread) (shared : Shared) (after : List Thread) (last : Shared) : Type 0 where
+  pub comes : outcomeFrom bytes givens 0 [] after last ≡ outcomeFrom bytes givens 0 lengths threads shared
+  pub ready : RunReady bytes givens after
+
+-- How a run stands after its last step, where this is the first record that strays among the lines that are left, or 0.
+abbrev pub standAfter : ℕ → Stand → Stand
+standAfter stray Running = cond (eqb stray 0) Running (Strayed stray)
+standAfter stray (Strayed k) = Strayed k
+standAfter stray (Stopped k) = Stopped k
+
+abbrev pub lookedAt : ℕ → Shared → Shared
+lookedAt stray shared = record { items = shared .items; stand = standAfter stray (shared .stand); note = shared .note }
+
+-- What a run has come to, when the lines that are left have been looked at.
 abbrev pub outcomeOf : List ℕ → List Thread → Shared → Outcome
 outcomeOf bytes threads shared =
-    resumed (shared .stand) (itemsOf bytes (shared .items)) (ending (shared .note) (stateOf bytes threads (shared .items)))
-
--- The blocks with these lengths have been run.
-pub record Played (bytes givens lengths : List ℕ) (threads : List Thread) (shared : Shared) (after : List Thread) (last : Shared) : Type 0 where
-  pub comes : outcomeOf bytes after last ≡ outcomeFrom bytes givens 0 lengths threads shared
+    let s = stateOf bytes threads (shared .items) in
+    resumed (shared .stand) (itemsOf bytes (shared .items)) (cond (eqb (shared .note) 0) (clean s) (violated (shared .note) s))
 
 -- Threads and items at the end of a run with this outcome: they stand for its state; of a run that is cut off, the items do.
 abbrev pub EndState : List ℕ → Outcome → List Thread → List ℕ → Type 0
@@ -84,7 +103,3 @@ EndState bytes (clean s) threads items = stateOf bytes threads items ≡ s
 pub record Replies (bytes : List ℕ) (outcome : Outcome) (e : Ended) : Type 0 where
   pub reply : e .reply ≡ answerOfRun outcome
   pub left : EndState bytes outcome (e .threads) (e .items)
-
--- The run in blocks with these lengths, from these threads on.
-abbrev pub Comes : List ℕ → List ℕ → List ℕ → List Thread → Shared → Ended → Type 0
-Comes bytes givens lengths threads shared e = Replies bytes (outcomeFrom bytes givens 0 lengths threads shared) e

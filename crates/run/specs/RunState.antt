@@ -38,13 +38,16 @@ unfoldable pub listFrom : {A : Type 0} → (ℕ → A) → ℕ → ℕ → List 
 listFrom f t zero = []
 listFrom f t (suc many) = f t ∷ listFrom f (suc t) many
 
--- The lines of thread t that are left.
+-- The lines that are left of thread t, and of all threads.
 abbrev pub restAt : List ℕ → List Thread → ℕ → List Line
 restAt bytes threads t = linesFrom bytes t (threadAt threads t .next)
 
+abbrev pub restsOf : List ℕ → List Thread → List (List Line)
+restsOf bytes threads = listFrom (restAt bytes threads) 0 (threadCount bytes)
+
 abbrev pub stateOf : List ℕ → List Thread → List ℕ → State
 stateOf bytes threads items = record {
-  rests = listFrom (restAt bytes threads) 0 (threadCount bytes);
+  rests = restsOf bytes threads;
   locals = listFrom (λ t. threadAt threads t .locals) 0 (threadCount bytes);
   items = itemsOf bytes items;
 }

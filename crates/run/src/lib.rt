@@ -4,13 +4,14 @@ ghost use Prim.Native.Nat.{ℕ, _%_, _≤_};
 ghost use mathlib.Core.List.{List};
 ghost use lib.ListN.{length};
 ghost use Rattle.model.specs.Limits.{mostThreads, headerBytes};
-ghost use Rattle.model.specs.CaseFile.{threadCount, caseOf};
+ghost use Rattle.model.specs.CaseFile.{threadCount, kindOf, caseOf};
+ghost use Rattle.model.specs.Line.{unrunStray};
 ghost use Rattle.model.specs.Machine as machine;
-ghost use Rattle.laws.specs.Accepted.{Accepted};
+ghost use Rattle.laws.specs.Accepted.{Accepted, linesFrom};
 ghost use Rattle.case_file.specs.Present.{InHeader};
 ghost use Rattle.turn.specs.TurnState.{givenBy};
-ghost use Rattle.run.specs.RunState.{turnOf, firstThread, firstThreads, firstShared};
-ghost use Rattle.run.specs.Promises.{AllGiven, BlockReady, RunReady, RunAtBlock, BlockAt, MovedBy, outcomeOf, Played, Comes, Replies};
+ghost use Rattle.run.specs.RunState.{turnOf, restsOf, firstThread, firstThreads, firstShared};
+ghost use Rattle.run.specs.Promises.{AllGiven, BlockReady, RestReady, RunReady, RunAtBlock, BlockAt, MovedBy, Played, lookedAt, outcomeOf, Replies};
 use model::ITEMS;
 use model::LOCALS;
 use model::Replayed;
@@ -37,6 +38,12 @@ pub struct Moved {
     pub shared: Shared,
 }
 
+// All threads after the blocks, and what they then share.
+pub struct AllMoved {
+    pub threads: [Thread; THREADS],
+    pub shared: Shared,
+}
+
 // The reply, and the threads and the items at the run's end.
 pub struct Ended {
     pub reply: Replayed,
@@ -49,9 +56,12 @@ pub fn run_case(case: &[u8], lengths: &[u16], given: &[u16]) -> Ended
     requires { ⌜ AllGiven (now case) (now given) ⌝ }
     ensures { λ r. ⌜ Replies (now (case .entry)) (machine.run (caseOf (now (case .entry))) (now (lengths .entry)) (givenBy (now (given .entry)))) r ⌝ }
 {
-    let threads = first_threads(case);
+    let first = first_threads(case);
     let shared = first_shared(case);
-    lend(threads, case, lengths, given, shared)
+    let all = lend(first, case, lengths, given, shared);
+    let threads = all.threads;
+    let last = look_left(threads, all.shared, case, given);
+    end_of(threads, last)
 }
 
 // The threads where a run starts; an absent thread is at its end.
@@ -96,13 +106,16 @@ fn lend(
     lengths: &[u16],
     given: &[u16],
     shared: Shared,
-) -> Ended
+) -> AllMoved
     requires { ⌜ RunReady (now case) (now given) threads ⌝ }
-    ensures { λ r. ⌜ Comes (now (case .entry)) (now (given .entry)) (now (lengths .entry)) threads shared r ⌝ }
+    ensures { λ r. ⌜ Played (now (case .entry)) (now (given .entry)) (now (lengths .entry)) threads shared (r .threads) (r .shared) ⌝ }
 {
     let mut ts = threads;
     let last = blocks_at(&mut ts, case, lengths, given, shared);
-    end_of(ts, last)
+    AllMoved {
+        threads: ts,
+        shared: last,
+    }
 }
 
 // All blocks with these lengths.
@@ -193,6 +206,73 @@ fn turn_of(thread: Thread, shared: Shared) -> Turn
         locals,
         items,
         stand,
+        note: shared.note,
+    }
+}
+
+// Whether an unrun line of this kind strays, by the value that it is given.
+fn unrun_stray(kind: u16, given: u16) -> bool
+    ensures { λ r. ⌜ r ≡ unrunStray (kindOf kind) given ⌝ }
+{
+    match kind {
+        4 => given != 0,
+        _ => false,
+    }
+}
+
+// The first record that strays among the unrun lines from k on, or else among those of the threads that follow.
+fn stray_left(case: &[u8], given: &[u16], k: usize, others: u16) -> u16
+    requires { ⌜ RestReady (now case) (now given) k ⌝ }
+    ensures { λ r. ⌜ ((t : ℕ) → r ≡ machine.strayLeft (givenBy (now (given .entry))) (linesFrom (now (case .entry)) t k) others) ⌝ }
+{
+    let mut at = k;
+    while at != 0 {
+        if unrun_stray(case_file::kind_of(case, at), given[at]) {
+            return at as u16;
+        }
+        at = case_file::next_of(case, at);
+    }
+    others
+}
+
+// The first that strays among the lines that all threads have left; 0 if there is none. The threads are looked at from the last
+// to the first, so that the earliest decides.
+fn first_stray_left(threads: [Thread; THREADS], case: &[u8], given: &[u16]) -> u16
+    requires { ⌜ RunReady (now case) (now given) threads ⌝ }
+    ensures { λ r. ⌜ r ≡ machine.firstStrayLeft (givenBy (now (given .entry))) (restsOf (now (case .entry)) threads) ⌝ }
+{
+    let mut t = case_file::threads(case) as usize;
+    let mut found = 0;
+    while 0 < t {
+        t -= 1;
+        found = stray_left(case, given, threads[t].next, found);
+    }
+    found
+}
+
+// What the threads share after the last step: the run strays where an unrun input does, unless it has ended before.
+fn look_left(threads: [Thread; THREADS], shared: Shared, case: &[u8], given: &[u16]) -> Shared
+    requires { ⌜ RunReady (now case) (now given) threads ⌝ }
+    ensures { λ r. ⌜ r ≡ lookedAt (machine.firstStrayLeft (givenBy (now (given .entry))) (restsOf (now (case .entry)) threads)) shared ⌝ }
+{
+    let stand = shared.stand;
+    match stand {
+        Stand::Running => {}
+        Stand::Strayed(_) => {
+            return shared;
+        }
+        Stand::Stopped(_) => {
+            return shared;
+        }
+    }
+    let found = first_stray_left(threads, case, given);
+    if found == 0 {
+        return shared;
+    }
+    let items = shared.items;
+    Shared {
+        items,
+        stand: Stand::Strayed(found),
         note: shared.note,
     }
 }

@@ -4,7 +4,7 @@ use Prim.Native.Nat.{_+_}
 use lib.Seq.{length-take-le}
 use borrow.Author.Tests.{not-true, not-false}
 use Rattle.laws.proofs.Accepted.{accepted-of}
-use Rattle.replayer.proofs.Values.{lengths-fit, places, records-have-places}
+use Rattle.replayer.proofs.Values.{has-lengths, places, records-have-places}
 use Rattle.replayer.proofs.Calls.{answers-10, answers-12, answers-13, answers-run}
 use borrow.Author.Needs.{needs}
 use Rattle.replayer.proofs.replay_accepted.Statement.{statement}
@@ -32,19 +32,19 @@ returns-2 : tie.Need-returns-2
 returns-2 c = answers-12 _ _ _ (c .before .before .before .before .before .before .before .before .before .before .pre) (c .before .before .before .before .before .before .switches .ensures) (c .before .before .before .before .before .items .ensures .is) (c .before .before .before .before .if1 .left) (c .before .before .inputs-of .ensures .values) (c .if2 .taken)
 
 slice-aggregate-lengths : tie.Need-slice-aggregate-lengths
-slice-aggregate-lengths c = sym (length-take-le _ _ (lengths-fit _ _ _ _ (c .before .before .before .inputs-of .ensures .values) (c .before .if2 .left)))
+slice-aggregate-lengths c = sym (length-take-le _ _ (has-lengths _ _ _ _ (c .before .before .before .inputs-of .ensures .values) (c .before .if2 .left)))
 
-lengths-add-up-requires : tie.Need-lengths-add-up-requires
-lengths-add-up-requires c κs =
+lengths-fit-requires : tie.Need-lengths-fit-requires
+lengths-fit-requires c κs =
     let entry = c .before .before .before .before .before .before .before .before .before .before .before in
     let ok = accepted-of _ (entry .pre) in
-    let fit = length-take-le (c .before .before .before .before .before .before .before .switches .result + 1) (entry .args .schedule .now) (lengths-fit _ _ _ _ (c .before .before .before .inputs-of .ensures .values) (c .before .if2 .left)) in
+    let long = length-take-le (c .before .before .before .before .before .before .before .switches .result + 1) (entry .args .schedule .now) (has-lengths _ _ _ _ (c .before .before .before .inputs-of .ensures .values) (c .before .if2 .left)) in
     search needs
 
 returns-3 : tie.Need-returns-3
 returns-3 c =
     let at-if1 = c .before .before .before .before .before .before .before in
-    answers-13 _ _ _ (at-if1 .before .before .before .before .before .before .pre) (at-if1 .before .before .switches .ensures) (at-if1 .before .items .ensures .is) (at-if1 .if1 .left) (c .before .before .before .before .before .inputs-of .ensures .values) (c .before .before .before .if2 .left) (c .before .lengths-add-up .ensures) (not-true _ (c .if3 .taken))
+    answers-13 _ _ _ (at-if1 .before .before .before .before .before .before .pre) (at-if1 .before .before .switches .ensures) (at-if1 .before .items .ensures .is) (at-if1 .if1 .left) (c .before .before .before .before .before .inputs-of .ensures .values) (c .before .before .before .if2 .left) (c .before .lengths-fit .ensures) (not-true _ (c .if3 .taken))
 
 slice-aggregate-replay-blocks : tie.Need-slice-aggregate-replay-blocks
 slice-aggregate-replay-blocks c = sym (places _ _ _ _ (c .before .before .before .before .before .before .inputs-of .ensures .values))
@@ -62,7 +62,7 @@ returns-4 : tie.Need-returns-4
 returns-4 c =
     let at-if3 = c .before .before .before .before .before in
     let at-if1 = at-if3 .before .before .before .before .before .before .before in
-    answers-run _ _ _ (at-if1 .before .before .before .before .before .before .pre) (at-if1 .before .before .switches .ensures) (at-if1 .before .items .ensures .is) (at-if1 .if1 .left) (at-if3 .before .before .before .before .before .inputs-of .ensures .values) (at-if3 .before .before .before .if2 .left) (at-if3 .before .lengths-add-up .ensures) (not-false _ (at-if3 .if3 .left)) (c .before .before .replay-blocks .ensures)
+    answers-run _ _ _ (at-if1 .before .before .before .before .before .before .pre) (at-if1 .before .before .switches .ensures) (at-if1 .before .items .ensures .is) (at-if1 .if1 .left) (at-if3 .before .before .before .before .before .inputs-of .ensures .values) (at-if3 .before .before .before .if2 .left) (at-if3 .before .lengths-fit .ensures) (not-false _ (at-if3 .if3 .left)) (c .before .before .replay-blocks .ensures)
 
 pub replay-accepted-spec : {M : Type 1} → statement M
 replay-accepted-spec =
@@ -76,7 +76,7 @@ replay-accepted-spec =
     inputs-of-requires
     returns-2
     slice-aggregate-lengths
-    lengths-add-up-requires
+    lengths-fit-requires
     returns-3
     slice-aggregate-replay-blocks
     replay-blocks-requires

@@ -1,5 +1,6 @@
 -- `run::run_case` meets its contract. Assumes nothing.
 use Rattle.run.proofs.Starts.{ready-start, run-replies}
+use Rattle.run.proofs.Ends.{comes}
 use borrow.Author.Needs.{needs}
 use Rattle.run.proofs.run_case.Statement.{statement}
 use Rattle.run.proofs.run_case.Tie as tie
@@ -13,9 +14,16 @@ first-shared-requires c κs = search needs
 lend-requires : tie.Need-lend-requires
 lend-requires c κs = rw (c .before .first-threads .ensures) (ready-start _ (c .before .before .before .before .before .pre .accepted) _ (c .before .before .before .before .before .pre .all-given))
 
+look-left-requires : tie.Need-look-left-requires
+look-left-requires c κs = search needs
+
+end-of-requires : tie.Need-end-of-requires
+end-of-requires c κs = search needs
+
 returns : tie.Need-returns
-returns c = run-replies _ (c .before .before .before .before .before .before .pre .accepted) (c .before .before .before .before .before .before .args .given .now) (c .before .before .before .before .before .before .args .lengths .now) _ _ _ (c .before .before .first-threads .ensures) (c .before .first-shared .ensures) (c .lend .ensures)
+returns c = run-replies _ (c .before .before .before .before .before .before .before .before .before .pre .accepted) (c .before .before .before .before .before .before .before .before .before .args .given .now) (c .before .before .before .before .before .before .before .before .before .args .lengths .now) _ _ _ (c .before .before .before .before .before .first-threads .ensures) (c .before .before .before .before .first-shared .ensures) (comes _ _ _ _ _ _ _ _ _ (c .before .before .before .lend .ensures) (c .before .look-left .ensures) (c .end-of .ensures))
 
 pub run-case-spec : {M : Type 1} → statement M
 run-case-spec =
-    tie.close (tie.spec first-threads-requires first-shared-requires lend-requires returns)
+    tie.close
+    (tie.spec first-threads-requires first-shared-requires lend-requires look-left-requires end-of-requires returns)

@@ -1,10 +1,10 @@
--- `replayer::lengths_add_up` meets its contract. The invariant: the threads that are left decide. Assumes nothing.
+-- `replayer::lengths_fit` meets its contract. The invariant: the threads that are left decide. Assumes nothing.
 use Prim.Native.Nat.{_-_}
 use native.Mathlib.Omega.{arith}
 use Rattle.replayer.proofs.Sums.{Comparing, comparing-start, comparing-more, comparing-fails, comparing-end}
 use borrow.Author.Needs.{needs}
-use Rattle.replayer.proofs.lengths_add_up.Statement.{statement}
-use Rattle.replayer.proofs.lengths_add_up.Tie as tie
+use Rattle.replayer.proofs.lengths_fit.Statement.{statement}
+use Rattle.replayer.proofs.lengths_fit.Tie as tie
 
 abbrev Inv-loop : tie.InvT-loop
 Inv-loop case lengths lines threads sums t₀ t = Comparing case lengths threads t
@@ -51,8 +51,8 @@ loop-again c = comparing-more _ _ _ _ (c .before .before .loop .inv) (c .before 
 returns-2 : tie.Need-returns-2 Inv-loop μ-loop
 returns-2 c = comparing-end _ _ _ _ (c .before .loop .inv) (c .loop-test .left)
 
-pub lengths-add-up-spec : {M : Type 1} → statement M
-lengths-add-up-spec =
+pub lengths-fit-spec : {M : Type 1} → statement M
+lengths-fit-spec =
     tie.close
     (tie.spec
     Inv-loop
