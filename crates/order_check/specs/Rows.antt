@@ -1,13 +1,15 @@
--- The order constraints of a line, of a thread and of all threads of a case.
+-- The order constraints of a line, of a thread and of all threads of a case, and what they ask of a block number.
 -- Assumes nothing.
-use Prim.Native.Nat.{ℕ, _<_}
-use mathlib.Core.Bool.{cond}
+use Prim.Native.Nat.{ℕ, suc, _%_, _<_}
+use mathlib.Core.Bool.{Bool, cond, not, _||_}
 use mathlib.Core.List.{List, [], _∷_}
 use lib.Dec.{eqb}
 use Rattle.model.specs.Limits.{mostConstraints}
-use Rattle.model.specs.CaseFile.{Line, threadCount, lineOf, caseOf}
+use Rattle.model.specs.CaseFile.{Line, threadCount, switchCount, lineOf, caseOf}
+use Rattle.model.specs.Assignment.{wasRun}
 use Rattle.model.specs.Table.{Row, lineOrderRows, orderRows, allOrderRows}
 use Rattle.laws.specs.Accepted.{Accepted, threadLines}
+use Rattle.assignment.specs.Numbers.{recordBlock}
 use Rattle.search.specs.Search.{Room}
 use Rattle.case_file.specs.declared.Link.{Link}
 
@@ -25,6 +27,14 @@ threadOrders bytes t = orderRows (caseOf bytes) t [] (threadLines bytes t)
 
 abbrev pub allOrders : List ℕ → List Row
 allOrders bytes = allOrderRows (caseOf bytes) 0 (caseOf bytes .threads)
+
+-- What the 3 of a line of thread t asks of its block number.
+abbrev pub ownBlock : List ℕ → ℕ → ℕ → Bool
+ownBlock bytes t block = not (wasRun (caseOf bytes) block) || eqb (block % threadCount bytes) t
+
+-- What a line's block number is at most: by its 1 that of the next line, or by its 2 n + 1, the number of a line that was not run.
+abbrev pub mostBlock : List ℕ → List ℕ → ℕ → ℕ
+mostBlock bytes xs next = cond (eqb next 0) (suc (switchCount bytes)) (recordBlock xs next)
 
 -- An accepted case, and a number that a constraint can have.
 pub record AtConstraint (bytes : List ℕ) (at : ℕ) : Type 0 where

@@ -1,16 +1,11 @@
-// Constraints 1 to 3: along a thread the block numbers do not fall, are at most n, and are the thread's modulo T.
+// Constraints 1 to 3: along a thread the block numbers do not fall, are at most n + 1, and are the thread's modulo T, but for n + 1,
+// the number of a line that was not run.
 ghost use mathlib.Core.Path.{_≡_};
-ghost use mathlib.Core.Bool.{cond};
-ghost use Prim.Native.Nat.{_≤_};
-ghost use lib.Dec.{eqb};
-ghost use lib.ListN.{length};
-ghost use Rattle.model.specs.Limits.{headerBytes};
-ghost use Rattle.model.specs.CaseFile.{switchCount};
 ghost use Rattle.laws.specs.Accepted.{Accepted};
-ghost use Rattle.assignment.specs.Numbers.{recordBlock};
 ghost use Rattle.search.specs.Search.{failingIn, Searched};
-ghost use Rattle.order_check.specs.Rows.{linkRows, threadOrders, allOrders, AtConstraint, ThreadReady};
+ghost use Rattle.order_check.specs.Rows.{linkRows, threadOrders, allOrders, ownBlock, mostBlock, AtConstraint, ThreadReady};
 use assignment::block_of;
+use assignment::was_run;
 use case_file::Link;
 use case_file::first_of;
 use case_file::next_of;
@@ -19,13 +14,24 @@ use case_file::threads;
 use line::ORDER_ROWS;
 use search::Found;
 
-// What a line's block number is at most: that of the next line, or n.
+// Whether thread t may have a line with this block number: where the line was run, the block is the thread's.
+fn own_block(case: &[u8], t: u16, block: u16) -> bool
+    requires { ⌜ Accepted (now case) ⌝ }
+    ensures { λ r. ⌜ r ≡ ownBlock (now (case .entry)) t block ⌝ }
+{
+    if was_run(case, block) {
+        return block % threads(case) == t;
+    }
+    true
+}
+
+// What a line's block number is at most: that of the next line, or n + 1.
 fn most_block(case: &[u8], assignment: &[u16], next: u16) -> u16
-    requires { ⌜ headerBytes ≤ length (now case) ⌝ }
-    ensures { λ r. ⌜ r ≡ cond (eqb next 0) (switchCount (now (case .entry))) (recordBlock (now (assignment .entry)) next) ⌝ }
+    requires { ⌜ Accepted (now case) ⌝ }
+    ensures { λ r. ⌜ r ≡ mostBlock (now (case .entry)) (now (assignment .entry)) next ⌝ }
 {
     if next == 0 {
-        return switches(case);
+        return switches(case) + 1;
     }
     block_of(assignment, next)
 }
@@ -36,7 +42,7 @@ fn line_order(case: &[u8], assignment: &[u16], t: u16, at: u16, link: Link) -> u
     ensures { λ r. ⌜ r ≡ failingIn (now (case .entry)) (now (assignment .entry)) at (linkRows (now (case .entry)) t link) ⌝ }
 {
     let block = block_of(assignment, link.line);
-    if block % threads(case) != t {
+    if !own_block(case, t, block) {
         return at;
     }
     if block <= most_block(case, assignment, link.next) {

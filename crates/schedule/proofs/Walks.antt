@@ -1,9 +1,9 @@
 -- The two loops that write input values: over a thread's lines, and over the threads. What holds as each starts, goes on and ends.
 -- Assumes nothing. Met again in write_values and write_all_values.
-use mathlib.Core.Path.{_≡_, refl, sym, ap, _∙_}
+use mathlib.Core.Path.{_≡_, refl, sym, ap, ap₂, _∙_}
 use mathlib.Core.Logic.{_≢_}
 use Prim.Native.Nat.{ℕ, _+_, _-_, _≤_, _<_}
-use mathlib.Core.Bool.{Bool, true, false, cond}
+use mathlib.Core.Bool.{Bool, true, false, cond, _&&_}
 use mathlib.Core.List.{List, [], _∷_, _++_}
 use native.Mathlib.Omega.{arith}
 use lib.ListN.{getD, set, length, replicate, getD-replicate}
@@ -11,7 +11,7 @@ use Rattle.model.specs.Limits.{mostThreads, mostBlocks, localCount}
 use Rattle.model.specs.CaseFile.{Line, records, threadCount, globalCount, firstRecord, nextRecord, lineOf, chains, caseOf}
 use Rattle.model.specs.Line.{guardName, targetName, guardTrue, isInput}
 use Rattle.model.specs.Machine.{putLocal}
-use Rattle.model.specs.Assignment.{assignmentOf}
+use Rattle.model.specs.Assignment.{assignmentOf, wasRun}
 use Rattle.model.specs.Copies.{readsAfter}
 use Rattle.model.specs.Schedule.{decodedValues, allDecodedValues}
 use Rattle.laws.specs.Accepted.{Accepted, linesFrom, threadLines}
@@ -24,7 +24,7 @@ use Rattle.case_file.specs.declared.Record.{Record}
 use Rattle.case_file.specs.Records.{recordOf, asLine}
 use Rattle.line.proofs.KindNumbers.{kind-4, input-other}
 use Rattle.assignment.specs.Numbers.{recordBlock, recordValue}
-use Rattle.schedule.specs.Schedules.{valuesOf, threadInputs, CountsOf, ThreadToWrite, ThreadWritten, AllWritten, FewCounted, withLine, inputNumber, ownNumbers}
+use Rattle.schedule.specs.Schedules.{valuesOf, threadInputs, CountsOf, ThreadToWrite, ThreadWritten, AllWritten, FewCounted, withLine, runValue, inputNumber, ownNumbers}
 use Rattle.schedule.proofs.Locals.{LocalsAre, locals-start, locals-step, guard-same}
 use Rattle.schedule.proofs.Counts.{CountingLines, counting-lines-start, counting-lines-few, counting-lines-more, counting-lines-end}
 
@@ -71,21 +71,36 @@ pub put-none : (l : Record) (locals : List ℕ) (value : ℕ) (out : List ℕ) (
 unfolding ownNumbers
 put-none l locals value out at n = rw (input-other (l .kind) n) put-nothing
 
+-- A line's value where it was run and its guard is true, whichever is asked first.
+guarded-value : (run on : Bool) (value : ℕ) → cond (run && on) value 0 ≡ cond on (cond run value 0) 0
+guarded-value true on value = refl
+guarded-value false true value = refl
+guarded-value false false value = refl
+
 -- The numbers of record k, and then those of the records after it.
 own-and-rest : (bytes xs : List ℕ) → Accepted bytes → (t k : ℕ) → k ≢ 0 → k ≤ records bytes → (locals : List ℕ) (earlier : List Line)
-    → LocalsAre (caseOf bytes) xs locals earlier → (l : Record) → l ≡ recordOf bytes t k → (value : ℕ) → value ≡ recordValue xs k
-    → valuesFrom bytes xs t earlier k ≡ ownNumbers l locals value ++ valuesFrom bytes xs t (lineOf bytes t k ∷ earlier) (nextRecord bytes k)
+    → LocalsAre (caseOf bytes) xs locals earlier → (l : Record) → l ≡ recordOf bytes t k → (given : ℕ) → given ≡ runValue bytes (recordBlock xs k) (recordValue xs k)
+    → valuesFrom bytes xs t earlier k ≡ ownNumbers l locals given ++ valuesFrom bytes xs t (lineOf bytes t k ∷ earlier) (nextRecord bytes k)
 unfolding decodedValues ownNumbers inputNumber assignmentOf guardTrue guardName
-own-and-rest bytes xs ok t k low high locals earlier are l el value ev =
-    rw (lines-more bytes ok t k low high, el, ev) (go (isInput (lineOf bytes t k .kind)))
+own-and-rest bytes xs ok t k low high locals earlier are l el given eg =
+    rw (lines-more bytes ok t k low high, el, eg) (go (isInput (lineOf bytes t k .kind)))
   where
     rest : List ℕ
     rest = valuesFrom bytes xs t (lineOf bytes t k ∷ earlier) (nextRecord bytes k)
 
+    run : Bool
+    run = wasRun (caseOf bytes) (recordBlock xs k)
+
+    value : ℕ
+    value = runValue bytes (recordBlock xs k) (recordValue xs k)
+
     go : (q : Bool)
-        → cond q (cond (guardTrue (lineOf bytes t k) (readsAfter (caseOf bytes) (assignmentOf (caseOf bytes) xs) earlier (lineOf bytes t k))) (recordValue xs k) 0 ∷ rest) rest
-        ≡ cond q (inputNumber (recordOf bytes t k) locals (recordValue xs k) ∷ []) [] ++ rest
-    go true = ap (λ (on : Bool). cond on (recordValue xs k) 0 ∷ rest) (sym (guard-same (caseOf bytes) xs (omega (arith, ok .few-globals, ok .few-mutexes)) locals earlier are (lineOf bytes t k)))
+        → cond q (cond (run && guardTrue (lineOf bytes t k) (readsAfter (caseOf bytes) (assignmentOf (caseOf bytes) xs) earlier (lineOf bytes t k))) (recordValue xs k) 0 ∷ rest) rest
+        ≡ cond q (inputNumber (recordOf bytes t k) locals value ∷ []) [] ++ rest
+    go true =
+        ap (λ (x : ℕ). x ∷ rest)
+        (guarded-value run _ (recordValue xs k)
+        ∙ ap (λ (on : Bool). cond on value 0) (sym (guard-same (caseOf bytes) xs (omega (arith, ok .few-globals, ok .few-mutexes)) locals earlier are (lineOf bytes t k))))
     go false = refl
 
 module _ {bytes xs : List ℕ} {t : ℕ} {before : List ℕ} {start : ℕ} {counts₀ : List (List ℕ)} {out : List ℕ} {at : ℕ} {locals : List ℕ} {counts : List (List ℕ)} {k : ℕ}
@@ -112,17 +127,17 @@ module _ {bytes xs : List ℕ} {t : ℕ} {before : List ℕ} {start : ℕ} {coun
     pub walk-less : {next : ℕ} → next ≡ nextRecord bytes k → length (linesFrom bytes t next) < length (linesFrom bytes t k)
     walk-less {next} e = lines-less bytes (v .ok) t k low (v .within) next e
 
-    module _ {l : Record} {value : ℕ} (el : l ≡ recordOf bytes t k) (ev : value ≡ recordValue xs k) where
-      go-on : valuesFrom bytes xs t (v .earlier) k ≡ ownNumbers l locals value ++ valuesFrom bytes xs t (lineOf bytes t k ∷ v .earlier) (nextRecord bytes k)
-      go-on = own-and-rest bytes xs (v .ok) t k low (v .within) locals (v .earlier) (v .held) l el value ev
+    module _ {l : Record} {block value given : ℕ} (el : l ≡ recordOf bytes t k) (eb : block ≡ recordBlock xs k) (ev : value ≡ recordValue xs k) (er : given ≡ runValue bytes block value) where
+      go-on : valuesFrom bytes xs t (v .earlier) k ≡ ownNumbers l locals given ++ valuesFrom bytes xs t (lineOf bytes t k ∷ v .earlier) (nextRecord bytes k)
+      go-on = own-and-rest bytes xs (v .ok) t k low (v .within) locals (v .earlier) (v .held) l el given (er ∙ ap₂ (runValue bytes) eb ev)
 
-      pub walk-room : start + length (threadInputs bytes xs t) ≤ length before → at + length (ownNumbers l locals value) ≤ length out
-      walk-room room = writing-room (v .writing) (ownNumbers l locals value) (valuesFrom bytes xs t (lineOf bytes t k ∷ v .earlier) (nextRecord bytes k)) go-on room
+      pub walk-room : start + length (threadInputs bytes xs t) ≤ length before → at + length (ownNumbers l locals given) ≤ length out
+      walk-room room = writing-room (v .writing) (ownNumbers l locals given) (valuesFrom bytes xs t (lineOf bytes t k ∷ v .earlier) (nextRecord bytes k)) go-on room
 
-      pub walk-more : {out' : List ℕ} {at' : ℕ} {locals' : List ℕ} {counts' : List (List ℕ)} {globals name block next : ℕ} → Put (ownNumbers l locals value) out at out' at'
+      pub walk-more : {out' : List ℕ} {at' : ℕ} {locals' : List ℕ} {counts' : List (List ℕ)} {globals name next : ℕ} → Put (ownNumbers l locals given) out at out' at'
           → globals ≡ globalCount bytes → ((j : ℕ) → name ≡ targetName globals (asLine l j)) → locals' ≡ putLocal true name value locals
-          → block ≡ recordBlock xs k → counts' ≡ withLine counts t block → next ≡ nextRecord bytes k → Walk bytes xs t before start counts₀ out' at' locals' counts' next
-      walk-more put eg en elocals eb ecounts ek = record {
+          → counts' ≡ withLine counts t block → next ≡ nextRecord bytes k → Walk bytes xs t before start counts₀ out' at' locals' counts' next
+      walk-more put eg en elocals ecounts ek = record {
         ok = v .ok;
         thread = v .thread;
         within = rw ek (next-low bytes (v .ok) t k low (v .within));

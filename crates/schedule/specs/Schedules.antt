@@ -11,7 +11,7 @@ use Rattle.model.specs.Limits.{mostThreads, mostLines, mostBlocks}
 use Rattle.model.specs.Lists.{numbersFrom}
 use Rattle.model.specs.CaseFile.{kindOf, threadCount, switchCount, caseOf}
 use Rattle.model.specs.Line.{guardTrue, isInput}
-use Rattle.model.specs.Assignment.{assignmentOf}
+use Rattle.model.specs.Assignment.{assignmentOf, wasRun}
 use Rattle.model.specs.Schedule.{linesInBlock, decodedValues, allDecodedValues, decode}
 use Rattle.laws.specs.Accepted.{threadLines}
 use Rattle.laws.specs.Written.{numbersAt, Put, ThreadRoom}
@@ -68,7 +68,11 @@ withLine counts t block = cond (ltb block mostBlocks) (set counts t (set (getD c
 abbrev pub lengthsIn : List ℕ → List (List ℕ) → List ℕ
 lengthsIn bytes counts = numbersFrom (λ i. getD (getD counts (i % threadCount bytes) []) i 0) 0 (suc (switchCount bytes))
 
--- The number of an input line with this value, where its thread's locals have these: of what the line reads, only the guard's
+-- The value of a line with this block number where it was run, else 0.
+abbrev pub runValue : List ℕ → ℕ → ℕ → ℕ
+runValue bytes block value = cond (wasRun (caseOf bytes) block) value 0
+
+-- The number of an input line that was run with this value, where its thread's locals have these: of what the line reads, only the guard's
 -- local matters, and the line's number does not.
 unfoldable pub inputNumber : Record → List ℕ → ℕ → ℕ
 inputNumber l locals value = cond (guardTrue (asLine l 0) (readsFrom 0 0 0 locals [] (asLine l 0))) value 0

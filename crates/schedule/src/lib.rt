@@ -11,10 +11,11 @@ ghost use Rattle.model.specs.Schedule.{scheduleSize};
 ghost use Rattle.laws.specs.Accepted.{Accepted};
 ghost use Rattle.laws.specs.Bounded.{Bounded};
 ghost use Rattle.laws.specs.Written.{numbersAt, Put, RoomFor};
-ghost use Rattle.schedule.specs.Schedules.{scheduleOf, valuesOf, lengthsIn, withLine, inputNumber, ownNumbers};
+ghost use Rattle.schedule.specs.Schedules.{scheduleOf, valuesOf, lengthsIn, withLine, runValue, inputNumber, ownNumbers};
 ghost use Rattle.schedule.specs.Schedules.{FewCounted, ThreadToWrite, ThreadWritten, AllWritten};
 use assignment::block_of;
 use assignment::value_of;
+use assignment::was_run;
 use case_file::Record;
 use case_file::first_of;
 use case_file::globals;
@@ -94,7 +95,8 @@ fn write_lengths(case: &[u8], schedule: &mut [u16], counts: &[[u16; BLOCKS]; THR
     }
 }
 
-// One more line of thread t is in a block; what is no block changes nothing.
+// One more line of thread t is in a block; what is no block changes nothing. Lines that were not run are counted as of block n + 1,
+// whose length is not written.
 fn count_line(counts: &mut [[u16; BLOCKS]; THREADS], t: usize, block: u16)
     requires { ⌜ FewCounted (now counts) t block ⌝ }
     ensures { λ r. ⌜ now (counts .exit) ≡ withLine (now (counts .entry)) t block ⌝ }
@@ -105,7 +107,15 @@ fn count_line(counts: &mut [[u16; BLOCKS]; THREADS], t: usize, block: u16)
     }
 }
 
-// An input line's number: its variable's value where its guard is true, else 0.
+// The value of a line with this block number where it was run, else 0.
+fn run_value(case: &[u8], block: u16, value: u16) -> u16
+    requires { ⌜ Accepted (now case) ⌝ }
+    ensures { λ r. ⌜ r ≡ runValue (now (case .entry)) block value ⌝ }
+{
+    if was_run(case, block) { value } else { 0 }
+}
+
+// An input line's number: the value that it was run with where its guard is true, else 0.
 fn input_number(l: Record, locals: &[u16; LOCALS], value: u16) -> u16
     ensures { λ r. ⌜ r ≡ inputNumber l (now (locals .entry)) value ⌝ }
 {
@@ -152,10 +162,12 @@ fn write_values(
     while k != 0 {
         let l = record_at(case, t, k);
         let number = k as u16;
+        let block = block_of(assignment, number);
         let value = value_of(assignment, number);
-        at = put_number(schedule, at, l, &locals, value);
+        let given = run_value(case, block, value);
+        at = put_number(schedule, at, l, &locals, given);
         put_local(&mut locals, target_name(many, l), value);
-        count_line(counts, t as usize, block_of(assignment, number));
+        count_line(counts, t as usize, block);
         k = next_of(case, k);
     }
     at
