@@ -128,14 +128,7 @@ fn put_own(text: &mut [u8], start: usize, k: u16, threads: u16, t: u16) -> usize
 }
 
 // A 3: record k was not run, or its block is its thread's.
-pub fn put_three(
-    text: &mut [u8],
-    start: usize,
-    shape: Shape,
-    k: u16,
-    threads: u16,
-    t: u16,
-) -> usize
+pub fn put_three(text: &mut [u8], start: usize, shape: Shape, k: u16, threads: u16, t: u16) -> usize
     ensures { λ r. ⌜ ((case : Case) → HasShape case shape → Spelt (formulaText (join disjunction (notRun case k) (equal (apply bvurem (blockOf k) (constant threads)) (constant t)))) (now (text .entry)) start (now (text .exit)) r) ⌝ }
 {
     let mut at = put(text, start, b"(or ");
