@@ -9,7 +9,7 @@ use borrow.Author.Tests.{ne-eqb, not-true, not-false}
 use Rattle.laws.specs.RowCounts.{valueRowCount}
 use Rattle.laws.proofs.Views.{EqView, same, diff, eq-view}
 use Rattle.model.specs.CaseFile.{Kind, compute, store, load, input, assert, assume, lock, unlock, Line, kindOf}
-use Rattle.model.specs.Line.{Reads, noName, itemName, localName, nameOfA, hasExpression, nameOfB, nameOfTarget, breaks, isInput}
+use Rattle.model.specs.Line.{Reads, noName, itemName, localName, nameOfA, hasExpression, nameOfB, nameOfTarget, unrunValue, breaks, isInput}
 
 -- A kind of number k: one of 1 to 7, or an unlock, which every other number gives.
 pub data KindView (k : ℕ) : Kind → Type 0 where
@@ -142,6 +142,20 @@ target-other k G target n = go (kindOf k) (kind-view k)
     go store (is2 e) = absurd (n .0 .0 .0 .0 .1 e)
     go load (is3 e) = absurd (n .0 .0 .0 .1 e)
     go input (is4 e) = absurd (n .0 .0 .1 e)
+    go assert (is5 e) = absurd (n .0 .1 e)
+    go assume (is6 e) = absurd (n .1 e)
+    go lock v = refl
+    go unlock v = refl
+
+pub unrun-other : (k : ℕ) → Not2 k 5 6 → 0 ≡ unrunValue (kindOf k)
+unfolding unrunValue
+unrun-other k n = go (kindOf k) (kind-view k)
+  where
+    go : (κ : Kind) → KindView k κ → 0 ≡ unrunValue κ
+    go compute v = refl
+    go store v = refl
+    go load v = refl
+    go input v = refl
     go assert (is5 e) = absurd (n .0 .1 e)
     go assume (is6 e) = absurd (n .1 e)
     go lock v = refl

@@ -8,7 +8,7 @@ ghost use lib.ListN.{take};
 ghost use Rattle.model.specs.Word.{bit};
 ghost use Rattle.model.specs.Limits.{mostGlobals, mostItems};
 ghost use Rattle.model.specs.CaseFile.{kindOf};
-ghost use Rattle.model.specs.Line.{localName, itemName, guardName, operandA, hasExpression, operandB, targetName, guardTrue, operandValue};
+ghost use Rattle.model.specs.Line.{localName, itemName, guardName, operandA, hasExpression, operandB, targetName, guardTrue, unrunValue, operandValue};
 ghost use Rattle.model.specs.Line as model;
 ghost use Rattle.model.specs.Machine.{look, putLocal, putItem};
 ghost use Rattle.laws.specs.Accepted.{Accepted};
@@ -130,6 +130,17 @@ pub fn value_rows(kind: u16) -> usize
         6 => 2,
         7 => 2,
         _ => 1,
+    }
+}
+
+// The value of a line of a kind that was not run: 1 for assert and assume, else 0.
+pub fn unrun_value(kind: u16) -> u16
+    ensures { λ r. ⌜ r ≡ unrunValue (kindOf kind) ⌝ }
+{
+    match kind {
+        5 => 1,
+        6 => 1,
+        _ => 0,
     }
 }
 

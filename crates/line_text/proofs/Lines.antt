@@ -4,11 +4,11 @@ use mathlib.Core.Logic.{_≢_}
 use Prim.Native.Nat.{ℕ, _+_, _-_, _*_}
 use mathlib.Core.List.{List, _++_}
 use borrow.Author.Tests.{eq-eqb, ne-eqb}
-use Rattle.model.specs.CaseFile.{Kind, compute, store, load, input, assert, assume, lock, unlock, Line, Case, kindOf}
-use Rattle.model.specs.Line.{operandA, targetName}
+use Rattle.model.specs.CaseFile.{Kind, compute, store, load, input, assert, assume, lock, unlock, Line, Case, kindOf, lineAt}
+use Rattle.model.specs.Line.{operandA, targetName, unrunValue}
 use Rattle.smt.specs.Term.{Term, variable, constant}
 use Rattle.smt.specs.Spelling.{ascii, formulaText}
-use Rattle.script.specs.Assertions.{equal, operand, isExpression, isTruth, readName, guardTrue, guardedIn, guardedOut, oldTarget, valueOf, lineAssertion, mutexFree, demandAssertion}
+use Rattle.script.specs.Assertions.{equal, operand, isExpression, isTruth, readName, guardTrue, guardedIn, guardedOut, oldTarget, valueOf, notRun, lineAssertion, valueAssertion, mutexFree, demandAssertion}
 use Rattle.line.proofs.KindNumbers.{KindView, is1, is2, is3, is4, is5, is6, is7, kind-view, Not2}
 use Rattle.spell.specs.Spelt.{Spelt}
 use Rattle.spell.proofs.Spelling.{spelt-then}
@@ -92,6 +92,22 @@ module _ (case : Case) (sources : List ℕ) (l : Line) (guard a b target : ℕ) 
   line-guarded k word asked blank here behind there close =
       rw (ne-eqb (l .guard) 0 k)
       (spelt-then word (spelt-then asked (spelt-then blank (spelt-then here (spelt-then behind (spelt-then there close))))))
+
+-- A 4, and the demand of a 5, of the line that its number finds.
+module _ (case : Case) (sources : List ℕ) {l : Line} (k : ℕ) (found : l ≡ lineAt case k) where
+  pub four-spelt : (guard a b target : ℕ) {v unrun : ℕ} → v ≡ 2 * (k - 1) + 1 → unrun ≡ unrunValue (l .kind) → {d e f h m n o x : List ℕ} {start i j p q r s t : ℕ}
+      → Spelt (ascii "(ite ") d start e i → Spelt (formulaText (notRun case k)) e i f j → Spelt (ascii " ") f j h p
+      → Spelt (formulaText (equal (variable v) (constant unrun))) h p m q → Spelt (ascii " ") m q n r
+      → Spelt (formulaText (lineAssertion case sources l guard a b target)) n r o s → Spelt (ascii ")") o s x t
+      → Spelt (formulaText (valueAssertion case sources k guard a b target)) d start x t
+  unfolding valueAssertion formulaText
+  four-spelt guard a b target z u word asked blank fixed behind own close =
+      rw (← found)
+      (spelt-then word (spelt-then asked (spelt-then blank (spelt-then (rw (z, u) at fixed) (spelt-then behind (spelt-then own close))))))
+
+  pub demand-found : (guard target : ℕ) {d e : List ℕ} {start r : ℕ} → Spelt (formulaText (demandAssertion (l .kind) case sources l guard target)) d start e r
+      → Spelt (formulaText (demandAssertion (lineAt case k .kind) case sources (lineAt case k) guard target)) d start e r
+  demand-found guard target put = rw (← found) put
 
 -- A lock's demand, and the demand of a line.
 module _ (case : Case) (sources : List ℕ) (l : Line) (guard target : ℕ) where

@@ -1,9 +1,11 @@
 // The assertions of a line as text: its value, and what an assume or a lock demands.
+ghost use mathlib.Core.Path.{_≡_};
 ghost use Prim.Native.Nat.{_≤_};
 ghost use Rattle.model.specs.Limits.{mostGlobals};
-ghost use Rattle.model.specs.CaseFile.{Case, kindOf};
+ghost use Rattle.model.specs.CaseFile.{Case, kindOf, lineAt};
+ghost use Rattle.smt.specs.Term.{disjunction, join};
 ghost use Rattle.smt.specs.Spelling.{formulaText};
-ghost use Rattle.script.specs.Assertions.{sourcesOf, guardedIn, guardedOut, lineAssertion, mutexFree, demandAssertion};
+ghost use Rattle.script.specs.Assertions.{sourcesOf, guardedIn, guardedOut, notRun, lineAssertion, valueAssertion, mutexFree, demandAssertion};
 ghost use Rattle.case_file.specs.Records.{asLine};
 ghost use Rattle.spell.specs.Spelt.{Spelt};
 ghost use Rattle.linked.specs.Shape.{HasShape, HasSources};
@@ -14,8 +16,10 @@ use expressions::put_is_expression;
 use expressions::put_is_truth;
 use line::operand_a;
 use line::target_name;
+use line::unrun_value;
 use linked::Shape;
 use linked::Sources;
+use linked::put_not_run;
 use linked::value_variable;
 use reads_text::put_name;
 use spell::Atom;
@@ -81,8 +85,8 @@ fn put_out(
     }
 }
 
-// The value of line k: its 4.
-pub fn put_line(
+// The value of line k where it was run.
+fn put_line(
     text: &mut [u8],
     start: usize,
     shape: Shape,
@@ -104,6 +108,30 @@ pub fn put_line(
     at = put_in(text, at, shape, sources, l, k, copies);
     at = put(text, at, b" ");
     at = put_out(text, at, shape, sources, l, k, copies.target);
+    put(text, at, b")")
+}
+
+// A 4: line k, which has record l, was not run and has the value of such a line, or has its own.
+pub fn put_four(
+    text: &mut [u8],
+    start: usize,
+    shape: Shape,
+    sources: Sources,
+    l: Record,
+    k: u16,
+    copies: Copies,
+) -> usize
+    requires { ⌜ shape .globals ≤ mostGlobals ⌝ }
+    ensures { λ r. ⌜ ((case : Case) → HasShape case shape → HasSources case sources → asLine l k ≡ lineAt case k → Spelt (formulaText (valueAssertion case (sourcesOf case) k (copies .guard) (copies .a) (copies .b) (copies .target))) (now (text .entry)) start (now (text .exit)) r) ⌝ }
+{
+    let v = Atom::Variable(value_variable(k));
+    let unrun = Atom::Constant(unrun_value(l.kind));
+    let mut at = put(text, start, b"(ite ");
+    at = put_not_run(text, at, shape, k);
+    at = put(text, at, b" ");
+    at = put_equal(text, at, v, unrun);
+    at = put(text, at, b" ");
+    at = put_line(text, at, shape, sources, l, k, copies);
     put(text, at, b")")
 }
 
@@ -134,8 +162,8 @@ fn put_free(
     put(text, at, b")")
 }
 
-// What line k demands: its 5.
-pub fn put_demand(
+// What line k demands where it was run.
+fn put_demand(
     text: &mut [u8],
     start: usize,
     shape: Shape,
@@ -159,4 +187,25 @@ pub fn put_demand(
         7 => put_free(text, start, shape, sources, l, k, guard, target),
         _ => put(text, start, b"true"),
     }
+}
+
+// A 5: line k, which has record l, was not run, or what it demands is so.
+pub fn put_five(
+    text: &mut [u8],
+    start: usize,
+    shape: Shape,
+    sources: Sources,
+    l: Record,
+    k: u16,
+    guard: u16,
+    target: u16,
+) -> usize
+    requires { ⌜ shape .globals ≤ mostGlobals ⌝ }
+    ensures { λ r. ⌜ ((case : Case) → HasShape case shape → HasSources case sources → asLine l k ≡ lineAt case k → Spelt (formulaText (join disjunction (notRun case k) (demandAssertion (lineAt case k .kind) case (sourcesOf case) (lineAt case k) guard target))) (now (text .entry)) start (now (text .exit)) r) ⌝ }
+{
+    let mut at = put(text, start, b"(or ");
+    at = put_not_run(text, at, shape, k);
+    at = put(text, at, b" ");
+    at = put_demand(text, at, shape, sources, l, k, guard, target);
+    put(text, at, b")")
 }

@@ -1,23 +1,29 @@
--- The 1s to 5s of an accepted case's table are about its records.
+-- The 1s to 5s of an accepted case's table are about its records, and its 2s have n.
 -- Assumes nothing. Met again where the text of a row reads its line's record.
-use Prim.Native.Nat.{ℕ, zero, suc, _%_}
+use mathlib.Core.Path.{refl}
+use mathlib.Core.Logic.{_≢_}
+use Prim.Native.Nat.{ℕ, zero, suc, _%_, _<_}
 use mathlib.Core.List.{List, [], _∷_, _++_, reverse}
 use native.Mathlib.Omega.{arith}
-use Rattle.model.specs.CaseFile.{Kind, compute, store, load, input, assert, assume, lock, unlock, Line, Case, records, caseOf, linesOf, itemCount}
+use Rattle.model.specs.CaseFile.{Kind, compute, store, load, input, assert, assume, lock, unlock, Line, Case, caseOf, linesOf, itemCount}
 use Rattle.model.specs.Table.{Row, followRow, lineOrderRows, orderRows, demandRows, valueRows, allOrderRows, allValueRows, itemRows, blockRows, runRows, goalRow, table}
 use Rattle.laws.specs.Accepted.{Accepted}
 use Rattle.laws.specs.Order.{AllLines, AllThreads}
 use Rattle.laws.specs.RecordNumber.{RecordNumber}
 use Rattle.laws.proofs.AllLines.{all-threads}
-use Rattle.line_threads.specs.Threads.{LinesAreRecords}
+use Rattle.line_threads.specs.Threads.{RowOf, RowsOf}
 use Rattle.line_threads.proofs.RecordLines.{lines-are-records}
 
-module _ (case : Case) (R : ℕ) where
+module _ (case : Case) where
   abbrev Numbered : List Row → Type 0
-  Numbered = LinesAreRecords R
+  Numbered = RowsOf case
 
   abbrev IsRecord : Line → Type 0
-  IsRecord l = RecordNumber R (l .number)
+  IsRecord l = RecordNumber (case .R) (l .number)
+
+  -- A row of a line that is no 2.
+  of-line : {w : Row} → w .kind ≢ 2 → RecordNumber (case .R) (w .one) → RowOf case w
+  of-line n is = record { line = λ few. is; last = λ e. absurd (n e) }
 
   append : (ws us : List Row) → Numbered ws → Numbered us → Numbered (ws ++ us)
   append [] us h g = g
@@ -25,14 +31,14 @@ module _ (case : Case) (R : ℕ) where
 
   follow-numbered : (l : Line) (ls : List Line) (ws : List Row) → IsRecord l → Numbered ws → Numbered (followRow case l ls ∷ ws)
   unfolding followRow
-  follow-numbered l [] ws is h = ((λ few. is), h)
-  follow-numbered l (next ∷ ls) ws is h = ((λ few. is), h)
+  follow-numbered l [] ws is h = (record { line = λ few. is; last = λ e. refl }, h)
+  follow-numbered l (next ∷ ls) ws is h = (of-line (λ e. omega (arith, e)) is, h)
 
   order-numbered : (t : ℕ) (earlier ls : List Line) → AllLines IsRecord ls → Numbered (orderRows case t earlier ls)
   unfolding orderRows lineOrderRows
   order-numbered t earlier [] are = tt
   order-numbered t earlier (l ∷ ls) are =
-      ((λ few. are .0), follow-numbered l ls (orderRows case t (l ∷ earlier) ls) (are .0) (order-numbered t (l ∷ earlier) ls (are .1)))
+      (of-line (λ e. omega (arith, e)) (are .0), follow-numbered l ls (orderRows case t (l ∷ earlier) ls) (are .0) (order-numbered t (l ∷ earlier) ls (are .1)))
 
   orders-numbered : (t : ℕ) (threads : List (List Line)) → AllThreads IsRecord threads → Numbered (allOrderRows case t threads)
   unfolding allOrderRows
@@ -47,15 +53,15 @@ module _ (case : Case) (R : ℕ) where
   demand-numbered load earlier l is = tt
   demand-numbered input earlier l is = tt
   demand-numbered assert earlier l is = tt
-  demand-numbered assume earlier l is = ((λ few. is), tt)
-  demand-numbered lock earlier l is = ((λ few. is), tt)
+  demand-numbered assume earlier l is = (of-line (λ e. omega (arith, e)) is, tt)
+  demand-numbered lock earlier l is = (of-line (λ e. omega (arith, e)) is, tt)
   demand-numbered unlock earlier l is = tt
 
   value-numbered : (earlier ls : List Line) → AllLines IsRecord ls → Numbered (valueRows case earlier ls)
   unfolding valueRows
   value-numbered earlier [] are = tt
   value-numbered earlier (l ∷ ls) are = (
-    (λ few. are .0),
+    of-line (λ e. omega (arith, e)) (are .0),
     append (demandRows (l .kind) case earlier l) (valueRows case (l ∷ earlier) ls) (demand-numbered (l .kind) earlier l (are .0))
         (value-numbered (l ∷ earlier) ls (are .1)),
   )
@@ -66,11 +72,14 @@ module _ (case : Case) (R : ℕ) where
   values-numbered (ls ∷ threads) are =
       append (valueRows case [] ls) (allValueRows case threads) (value-numbered [] ls (are .0)) (values-numbered threads (are .1))
 
-  -- A 6 is about an item.
+  -- A 6 is about an item, and the 7 about none.
+  of-none : {w : Row} → 5 < w .kind → RowOf case w
+  of-none h = record { line = λ few. absurd (omega (arith, h, few)); last = λ e. absurd (omega (arith, h, e)) }
+
   items-numbered : (lines : List Line) (i g many : ℕ) → Numbered (itemRows case lines i g many)
   unfolding itemRows
   items-numbered lines i g zero = tt
-  items-numbered lines i g (suc many) = ((λ few. absurd (omega (arith, few))), items-numbered lines i (suc g) many)
+  items-numbered lines i g (suc many) = (of-none (omega arith), items-numbered lines i (suc g) many)
 
   blocks-numbered : (i many : ℕ) → Numbered (blockRows case i many)
   unfolding blockRows
@@ -85,9 +94,9 @@ module _ (case : Case) (R : ℕ) where
       append (runRows case) (goalRow ∷ [])
       (append (allOrderRows case 0 (case .threads)) (allValueRows case (case .threads) ++ blockRows case 0 (case .n)) (orders-numbered 0 (case .threads) are)
       (append (allValueRows case (case .threads)) (blockRows case 0 (case .n)) (values-numbered (case .threads) are) (blocks-numbered 0 (case .n))))
-      ((λ few. absurd (omega (arith, few))), tt)
+      (of-none (omega arith), tt)
 
-pub table-lines-are-records : {bytes : List ℕ} → Accepted bytes → LinesAreRecords (records bytes) (table (caseOf bytes))
-table-lines-are-records {bytes} ok =
-    table-numbered (caseOf bytes) (records bytes)
-    (all-threads (λ l. RecordNumber (records bytes) (l .number)) (caseOf bytes .threads) (λ t few. lines-are-records ok t))
+pub table-rows-of : {bytes : List ℕ} → Accepted bytes → RowsOf (caseOf bytes) (table (caseOf bytes))
+table-rows-of {bytes} ok =
+    table-numbered (caseOf bytes)
+    (all-threads (λ l. RecordNumber (caseOf bytes .R) (l .number)) (caseOf bytes .threads) (λ t few. lines-are-records ok t))

@@ -1,4 +1,4 @@
--- The threads of a case's lines, and which rows of a table are about a line.
+-- The threads of a case's lines, and what the rows of its table have of the case.
 -- Assumes nothing.
 use mathlib.Core.Path.{_≡_}
 use Prim.Native.Nat.{ℕ, _≤_, _<_}
@@ -12,7 +12,11 @@ use Rattle.laws.specs.RecordNumber.{RecordNumber}
 abbrev pub HasThreads : Case → List ℕ → Type 0
 HasThreads case threads = (k : ℕ) → 0 < k → k ≤ case .R → getD threads k 0 ≡ lineAt case k .thread
 
--- Each 1 to 5 of these rows has a record number, from 1 to R, as its line.
-abbrev pub LinesAreRecords : ℕ → List Row → Type 0
-LinesAreRecords R [] = Unit
-LinesAreRecords R (w ∷ ws) = (w .kind ≤ 5 → RecordNumber R (w .one)) × LinesAreRecords R ws
+-- A 1 to 5 has a record number, from 1 to R, as its line, and a 2 has n.
+pub record RowOf (case : Case) (w : Row) : Type 0 where
+  pub line : w .kind ≤ 5 → RecordNumber (case .R) (w .one)
+  pub last : w .kind ≡ 2 → w .two ≡ case .n
+
+abbrev pub RowsOf : Case → List Row → Type 0
+RowsOf case [] = Unit
+RowsOf case (w ∷ ws) = RowOf case w × RowsOf case ws

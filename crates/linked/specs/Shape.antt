@@ -1,7 +1,7 @@
 -- What a case's shape holds.
 -- Assumes nothing.
 use mathlib.Core.Path.{_≡_}
-use Prim.Native.Nat.{ℕ, _+_, _*_, _≤_}
+use Prim.Native.Nat.{ℕ, suc, _+_, _*_, _≤_}
 use lib.ListN.{length, getD, take}
 use Rattle.model.specs.Limits.{mostItems}
 use Rattle.model.specs.CaseFile.{Case, itemCount}
@@ -12,6 +12,7 @@ use Rattle.linked.specs.declared.Sources.{Sources}
 pub record HasShape (case : Case) (shape : Shape) : Type 0 where
   pub threads : shape .threads ≡ case .T
   pub switches : shape .switches ≡ case .n
+  pub unrun : shape .unrun ≡ suc (case .n)
   pub globals : shape .globals ≡ case .G
   pub items : shape .items ≡ itemCount case
   pub base : shape .base ≡ 2 * case .R

@@ -5,7 +5,7 @@ ghost use lib.ListN.{take};
 ghost use Rattle.model.specs.CaseFile.{Case};
 ghost use Rattle.smt.specs.Term.{variable};
 ghost use Rattle.smt.specs.Spelling.{formulaText};
-ghost use Rattle.script.specs.Assertions.{mostSources, sourcesOf, linked, same, valueBefore};
+ghost use Rattle.script.specs.Assertions.{mostSources, sourcesOf, linked, same, valueBefore, notRun};
 ghost use Rattle.spell.specs.Spelt.{Spelt};
 ghost use Rattle.spell.specs.Atoms.{atomTerm};
 ghost use Rattle.linked.specs.Links.{linkHead, linkHeads};
@@ -26,10 +26,12 @@ pub struct Sources {
     pub records: [u16; SOURCES],
 }
 
-// What assertions need of a case: its counts, twice its records, and its items' initial values.
+// What assertions need of a case: its counts, the block number of lines that were not run, twice its records, and its items' initial
+// values.
 pub struct Shape {
     pub threads: u16,
     pub switches: u16,
+    pub unrun: u16,
     pub globals: u16,
     pub items: u16,
     pub base: u16,
@@ -71,6 +73,14 @@ pub fn value_before(shape: Shape, i: u16, g: u16) -> Atom
         return Atom::Constant(shape.first[item]);
     }
     Atom::Constant(0)
+}
+
+// Line k was not run.
+pub fn put_not_run(text: &mut [u8], start: usize, shape: Shape, k: u16) -> usize
+    ensures { λ r. ⌜ ((case : Case) → HasShape case shape → Spelt (formulaText (notRun case k)) (now (text .entry)) start (now (text .exit)) r) ⌝ }
+{
+    let block = Atom::Variable(block_variable(k));
+    put_equal(text, start, block, Atom::Constant(shape.unrun))
 }
 
 // A link: both variables equal the source, or neither does.

@@ -1,12 +1,12 @@
 // Parts of a case's text: its sources and its shape, the declarations, the assertions of the order rows, and the goal.
 ghost use mathlib.Core.Path.{_≡_};
-ghost use Prim.Native.Nat.{ℕ};
+ghost use Prim.Native.Nat.{ℕ, suc};
 ghost use mathlib.Core.List.{List};
-ghost use Rattle.model.specs.CaseFile.{caseOf, kindOf};
+ghost use Rattle.model.specs.CaseFile.{Case, caseOf, kindOf};
 ghost use Rattle.laws.specs.Accepted.{Accepted, threadLines};
-ghost use Rattle.smt.specs.Term.{bvurem, bvule, constant, apply, test};
+ghost use Rattle.smt.specs.Term.{bvurem, bvule, disjunction, constant, apply, test, join};
 ghost use Rattle.smt.specs.Spelling.{formulaText, declaration, declarations};
-ghost use Rattle.script.specs.Assertions.{equal, blockOf, someThreadBreaks};
+ghost use Rattle.script.specs.Assertions.{equal, blockOf, notRun, someThreadBreaks};
 ghost use Rattle.spell.specs.Spelt.{Spelt};
 ghost use Rattle.linked.specs.Shape.{HasShape, HasSources};
 ghost use Rattle.smt_parts.specs.Sources.{Found, withSource};
@@ -24,6 +24,7 @@ use linked::SOURCES;
 use linked::Shape;
 use linked::Sources;
 use linked::block_variable;
+use linked::put_not_run;
 use linked::value_variable;
 use spell::Atom;
 use spell::put;
@@ -84,6 +85,7 @@ pub fn shape_of(case: &[u8]) -> Shape
     Shape {
         threads: threads(case),
         switches: switches(case),
+        unrun: switches(case) + 1,
         globals: globals(case),
         items: items(case) as u16,
         base: (2 * records(case)) as u16,
@@ -113,8 +115,8 @@ pub fn put_declarations(text: &mut [u8], start: usize, count: u16) -> usize
     at
 }
 
-// A 3: the block number of record k modulo the number of threads is its thread.
-pub fn put_three(text: &mut [u8], start: usize, k: u16, threads: u16, t: u16) -> usize
+// The block number of record k modulo the number of threads is its thread.
+fn put_own(text: &mut [u8], start: usize, k: u16, threads: u16, t: u16) -> usize
     ensures { λ r. ⌜ Spelt (formulaText (equal (apply bvurem (blockOf k) (constant threads)) (constant t))) (now (text .entry)) start (now (text .exit)) r ⌝ }
 {
     let block = Atom::Variable(block_variable(k));
@@ -122,6 +124,17 @@ pub fn put_three(text: &mut [u8], start: usize, k: u16, threads: u16, t: u16) ->
     at = put_two(text, at, block, Atom::Constant(threads));
     at = put(text, at, b" ");
     at = put_constant(text, at, t);
+    put(text, at, b")")
+}
+
+// A 3: record k was not run, or its block is its thread's.
+pub fn put_three(text: &mut [u8], start: usize, shape: Shape, k: u16, threads: u16, t: u16) -> usize
+    ensures { λ r. ⌜ ((case : Case) → HasShape case shape → Spelt (formulaText (join disjunction (notRun case k) (equal (apply bvurem (blockOf k) (constant threads)) (constant t)))) (now (text .entry)) start (now (text .exit)) r) ⌝ }
+{
+    let mut at = put(text, start, b"(or ");
+    at = put_not_run(text, at, shape, k);
+    at = put(text, at, b" ");
+    at = put_own(text, at, k, threads, t);
     put(text, at, b")")
 }
 
@@ -135,13 +148,13 @@ pub fn put_one(text: &mut [u8], start: usize, k: u16, l: u16) -> usize
     put_two(text, at, block, next)
 }
 
-// A 2: the block number of record k is at most n.
-pub fn put_last(text: &mut [u8], start: usize, k: u16, n: u16) -> usize
-    ensures { λ r. ⌜ Spelt (formulaText (test bvule (blockOf k) (constant n))) (now (text .entry)) start (now (text .exit)) r ⌝ }
+// A 2: the block number of record k is at most n + 1.
+pub fn put_last(text: &mut [u8], start: usize, shape: Shape, k: u16) -> usize
+    ensures { λ r. ⌜ ((case : Case) → HasShape case shape → Spelt (formulaText (test bvule (blockOf k) (constant (suc (case .n))))) (now (text .entry)) start (now (text .exit)) r) ⌝ }
 {
     let block = Atom::Variable(block_variable(k));
     let place = put(text, start, b"(bvule ");
-    put_two(text, place, block, Atom::Constant(n))
+    put_two(text, place, block, Atom::Constant(shape.unrun))
 }
 
 // That the assert of record k breaks, or ..

@@ -1,22 +1,23 @@
 -- The assertion of a row by its kind. Assumes nothing. Met again in `line_of` and `put_row`.
-use mathlib.Core.Path.{_≡_, subst}
+use mathlib.Core.Path.{_≡_}
 use mathlib.Core.Logic.{_≢_}
-use Prim.Native.Nat.{ℕ, _≤_}
+use Prim.Native.Nat.{ℕ, suc, _≤_}
 use mathlib.Core.List.{List}
 use native.Mathlib.Omega.{arith}
 use borrow.Author.Tests.{ne-eqb}
 use lib.ListN.{getD}
 use Rattle.model.specs.Limits.{mostLines}
-use Rattle.model.specs.CaseFile.{Line, caseOf, lineAt}
+use Rattle.model.specs.CaseFile.{caseOf, lineAt}
 use Rattle.model.specs.Table.{Row}
-use Rattle.smt.specs.Term.{bvurem, bvule, constant, apply, test}
+use Rattle.smt.specs.Term.{bvurem, bvule, disjunction, constant, apply, test, join}
 use Rattle.smt.specs.Spelling.{ascii, formulaText}
-use Rattle.script.specs.Assertions.{equal, blockOf, sourcesOf, lineAssertion, demandAssertion, someThreadBreaks, assertionOf}
+use Rattle.script.specs.Assertions.{equal, blockOf, sourcesOf, notRun, valueAssertion, demandAssertion, someThreadBreaks, assertionOf}
 use Rattle.case_file.specs.Records.{recordOf, asLine}
 use Rattle.case_file.specs.declared.Record.{Record}
 use Rattle.spell.specs.Spelt.{Spelt}
 use Rattle.linked.specs.declared.Shape.{Shape}
 use Rattle.linked.specs.declared.Sources.{Sources}
+use Rattle.line_threads.specs.Threads.{RowOf}
 use Rattle.line_threads.proofs.RecordLines.{record-is-line}
 use Rattle.walk_text.specs.Walk.{walkCopies}
 use Rattle.smt_text.specs.Rows.{rowAssertion, LineThere, RowKnown, RowHanded}
@@ -31,7 +32,7 @@ module _ {bytes threads : List ℕ} {k : ℕ} (h : LineThere bytes threads k) wh
 
 pub line-handed : {bytes previous threads : List ℕ} {shape : Shape} {sources : Sources} {w : Row} {kind : ℕ} → RowHanded bytes shape sources previous threads w
     → w .kind ≡ kind → kind ≤ 5 → LineThere bytes threads (w .one)
-line-handed h e low = record { accepted = h .accepted; lines = h .lines; number = h .known .line (omega (arith, e)) }
+line-handed h e low = record { accepted = h .accepted; lines = h .lines; number = h .known .of .line (omega (arith, e)) }
 
 -- ---- What is spelled for a kind is the row's assertion.
 
@@ -43,26 +44,27 @@ module _ (bytes : List ℕ) (w : Row) {d a : List ℕ} {start r : ℕ} where
   unfolding assertionOf
   follows-spelt e put = rw e put
 
-  pub last-spelt : w .kind ≡ 2 → Spelt (formulaText (test bvule (blockOf (w .one)) (constant (w .two)))) d start a r → RowSpelt bytes w d start a r
+  pub last-spelt : RowOf (caseOf bytes) w → w .kind ≡ 2 → Spelt (formulaText (test bvule (blockOf (w .one)) (constant (suc (caseOf bytes .n))))) d start a r
+      → RowSpelt bytes w d start a r
   unfolding assertionOf
-  last-spelt e put = rw e put
+  last-spelt of e put = rw (e, of .last e) put
 
-  pub thread-spelt : w .kind ≡ 3 → Spelt (formulaText (equal (apply bvurem (blockOf (w .one)) (constant (w .two))) (constant (w .three)))) d start a r
+  pub thread-spelt : w .kind ≡ 3
+      → Spelt (formulaText (join disjunction (notRun (caseOf bytes) (w .one)) (equal (apply bvurem (blockOf (w .one)) (constant (w .two))) (constant (w .three))))) d start a r
       → RowSpelt bytes w d start a r
   unfolding assertionOf
   thread-spelt e put = rw e put
 
-  module _ {l : Line} (same : l ≡ lineAt (caseOf bytes) (w .one)) where
-    pub value-spelt : w .kind ≡ 4 → Spelt (formulaText (lineAssertion (caseOf bytes) (sourcesOf (caseOf bytes)) l (w .two) (w .three) (w .four) (w .five))) d start a r
-        → RowSpelt bytes w d start a r
-    unfolding assertionOf
-    value-spelt e put = rw e (rw same at put)
+  pub value-spelt : w .kind ≡ 4 → Spelt (formulaText (valueAssertion (caseOf bytes) (sourcesOf (caseOf bytes)) (w .one) (w .two) (w .three) (w .four) (w .five))) d start a r
+      → RowSpelt bytes w d start a r
+  unfolding assertionOf
+  value-spelt e put = rw e put
 
-    pub demand-spelt : w .kind ≡ 5 → Spelt (formulaText (demandAssertion (l .kind) (caseOf bytes) (sourcesOf (caseOf bytes)) l (w .two) (w .three))) d start a r
-        → RowSpelt bytes w d start a r
-    unfolding assertionOf
-    demand-spelt e put =
-        rw e (subst (λ (l : Line). Spelt (formulaText (demandAssertion (l .kind) (caseOf bytes) (sourcesOf (caseOf bytes)) l (w .two) (w .three))) d start a r) same put)
+  pub demand-spelt : w .kind ≡ 5
+      → Spelt (formulaText (join disjunction (notRun (caseOf bytes) (w .one)) (demandAssertion (lineAt (caseOf bytes) (w .one) .kind) (caseOf bytes) (sourcesOf (caseOf bytes)) (lineAt (caseOf bytes) (w .one)) (w .two) (w .three)))) d start a r
+      → RowSpelt bytes w d start a r
+  unfolding assertionOf
+  demand-spelt e put = rw e put
 
   pub walk-spelt : {previous : List ℕ} → RowKnown bytes previous w → w .kind ≡ 6
       → Spelt (formulaText (walkCopies (caseOf bytes) (sourcesOf (caseOf bytes)) (w .two) (w .one) previous mostLines (w .three))) d start a r → RowSpelt bytes w d start a r

@@ -5,12 +5,12 @@ use Prim.Native.Nat.{ℕ, zero, suc, _+_, _*_, _<_}
 use mathlib.Core.List.{List, [], _∷_, _++_}
 use native.Mathlib.Omega.{arith}
 use lib.ListN.{length, drop}
-use Rattle.model.specs.CaseFile.{records, caseOf}
+use Rattle.model.specs.CaseFile.{caseOf}
 use Rattle.model.specs.Table.{Row, table, numbersOf}
 use Rattle.script.specs.Assertions.{sourcesOf}
 use Rattle.laws.specs.Accepted.{Accepted}
-use Rattle.line_threads.specs.Threads.{LinesAreRecords}
-use Rattle.line_threads.proofs.RowLines.{table-lines-are-records}
+use Rattle.line_threads.specs.Threads.{RowsOf}
+use Rattle.line_threads.proofs.RowLines.{table-rows-of}
 use Rattle.walk_text.specs.Walk.{PreviousCopies, SixesWalk}
 use Rattle.walk_text.proofs.Sixes.{table-walks}
 use Rattle.smt_text.specs.Rows.{rowAt, RowKnown}
@@ -39,14 +39,14 @@ module _ (bytes previous : List ℕ) where
   abbrev Walks : List Row → Type 0
   Walks = SixesWalk (caseOf bytes) (sourcesOf (caseOf bytes)) previous
 
-  known-at : (w : Row) (rest rows : List Row) (j : ℕ) → LinesAreRecords (records bytes) rows → Walks rows → drop j rows ≡ w ∷ rest → RowKnown bytes previous w
-  known-at w rest [] zero lines walks e = let z : _≡_ {A = ℕ} 0 1 = cc in absurd (omega arith)
-  known-at w rest [] (suc j) lines walks e = let z : _≡_ {A = ℕ} 0 1 = cc in absurd (omega arith)
-  known-at w rest (u ∷ us) zero lines walks e =
-      let same : u ≡ w = cc in rw (← same) (record { line = lines .0; walk = walks .0 })
-  known-at w rest (u ∷ us) (suc j) lines walks e = known-at w rest us j (lines .1) (walks .1) e
+  known-at : (w : Row) (rest rows : List Row) (j : ℕ) → RowsOf (caseOf bytes) rows → Walks rows → drop j rows ≡ w ∷ rest → RowKnown bytes previous w
+  known-at w rest [] zero ofs walks e = let z : _≡_ {A = ℕ} 0 1 = cc in absurd (omega arith)
+  known-at w rest [] (suc j) ofs walks e = let z : _≡_ {A = ℕ} 0 1 = cc in absurd (omega arith)
+  known-at w rest (u ∷ us) zero ofs walks e =
+      let same : u ≡ w = cc in rw (← same) (record { of = ofs .0; walk = walks .0 })
+  known-at w rest (u ∷ us) (suc j) ofs walks e = known-at w rest us j (ofs .1) (walks .1) e
 
 pub row-known : {bytes previous : List ℕ} → Accepted bytes → PreviousCopies (caseOf bytes) previous → (w : Row) (rest : List Row) (j : ℕ)
     → drop j (table (caseOf bytes)) ≡ w ∷ rest → RowKnown bytes previous w
 row-known {bytes} {previous} ok before w rest j e =
-    known-at bytes previous w rest (table (caseOf bytes)) j (table-lines-are-records ok) (table-walks ok (sourcesOf (caseOf bytes)) previous before) e
+    known-at bytes previous w rest (table (caseOf bytes)) j (table-rows-of ok) (table-walks ok (sourcesOf (caseOf bytes)) previous before) e

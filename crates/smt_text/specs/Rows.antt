@@ -14,7 +14,7 @@ use Rattle.laws.specs.RecordNumber.{RecordNumber}
 use Rattle.linked.specs.Shape.{HasShape, HasSources}
 use Rattle.linked.specs.declared.Shape.{Shape}
 use Rattle.linked.specs.declared.Sources.{Sources}
-use Rattle.line_threads.specs.Threads.{HasThreads}
+use Rattle.line_threads.specs.Threads.{HasThreads, RowOf}
 use Rattle.walk_text.specs.Walk.{walkCopies}
 
 -- The assertion of a row of a case.
@@ -31,9 +31,9 @@ pub record LineThere (bytes threads : List ℕ) (k : ℕ) : Type 0 where
   pub lines : HasThreads (caseOf bytes) threads
   pub number : RecordNumber (records bytes) k
 
--- The line of a row, where it has one, is a record; a 6 has the walk over the copies before each line as its assertion.
+-- What a row has of its case; and a 6 has the walk over the copies before each line as its assertion.
 pub record RowKnown (bytes previous : List ℕ) (w : Row) : Type 0 where
-  pub line : w .kind ≤ 5 → RecordNumber (records bytes) (w .one)
+  pub of : RowOf (caseOf bytes) w
   pub walk : w .kind ≡ 6 → walkCopies (caseOf bytes) (sourcesOf (caseOf bytes)) (w .two) (w .one) previous mostLines (w .three) ≡ rowAssertion bytes w
 
 -- A row of an accepted case, whose shape and sources, the copies before each line and the lines' threads are known.

@@ -16,8 +16,8 @@ use case_file::record_at;
 use encoder::MOST_NUMBERS;
 use encoder::encode;
 use line_text::Copies;
-use line_text::put_demand;
-use line_text::put_line;
+use line_text::put_five;
+use line_text::put_four;
 use line_threads::threads_of;
 use linked::Shape;
 use linked::Sources;
@@ -204,8 +204,8 @@ fn put_row(
     let kind = w.kind;
     match kind {
         1 => put_one(text, start, w.one, w.two),
-        2 => put_last(text, start, w.one, w.two),
-        3 => put_three(text, start, w.one, w.two, w.three),
+        2 => put_last(text, start, shape, w.one),
+        3 => put_three(text, start, shape, w.one, w.two, w.three),
         4 => {
             let l = line_of(case, threads, w.one);
             let copies = Copies {
@@ -214,11 +214,11 @@ fn put_row(
                 b: w.four,
                 target: w.five,
             };
-            put_line(text, start, shape, sources, l, w.one, copies)
+            put_four(text, start, shape, sources, l, w.one, copies)
         }
         5 => {
             let l = line_of(case, threads, w.one);
-            put_demand(text, start, shape, sources, l, w.one, w.two, w.three)
+            put_five(text, start, shape, sources, l, w.one, w.two, w.three)
         }
         6 => put_walk(text, start, shape, sources, previous, w.two, w.one, w.three),
         7 => put_goal(text, start, case),

@@ -1,4 +1,4 @@
--- `put_last` puts a block number and a number. Assumes nothing.
+-- `put_last` puts a block number and the most that it may be. Assumes nothing.
 use borrow.Author.Needs.{needs}
 use Rattle.smt_parts.proofs.Order.{last-spelt}
 use Rattle.smt_parts.proofs.put_last.Statement.{statement}
@@ -20,7 +20,7 @@ same-length : tie.Need-same-length
 same-length c = search needs
 
 returns : tie.Need-returns
-returns c = last-spelt _ _ (c .before .before .before .before .before .before .before .before .before .block-variable .ensures) (c .before .before .before .before .before .before .put .ensures) (c .before .before .put-two .ensures)
+returns c = λ case s. last-spelt _ (c .before .before .before .before .before .before .before .before .before .block-variable .ensures) (s .unrun) (c .before .before .before .before .before .before .put .ensures) (c .before .before .put-two .ensures)
 
 pub put-last-spec : {M : Type 1} → statement M
 put-last-spec =

@@ -1,11 +1,8 @@
--- `put_three` puts a remainder and a number. Assumes nothing.
+-- `put_three` puts both parts in their words. Assumes nothing.
 use borrow.Author.Needs.{needs}
-use Rattle.smt_parts.proofs.Order.{three-spelt}
+use Rattle.linked.proofs.Variables.{or-not-run-spelt}
 use Rattle.smt_parts.proofs.put_three.Statement.{statement}
 use Rattle.smt_parts.proofs.put_three.Tie as tie
-
-block-variable-requires : tie.Need-block-variable-requires
-block-variable-requires c κs = search needs
 
 slice-aggregate-put : tie.Need-slice-aggregate-put
 slice-aggregate-put c = search needs
@@ -13,8 +10,8 @@ slice-aggregate-put c = search needs
 put-requires : tie.Need-put-requires
 put-requires c κs = search needs
 
-put-two-requires : tie.Need-put-two-requires
-put-two-requires c κs = search needs
+put-not-run-requires : tie.Need-put-not-run-requires
+put-not-run-requires c κs = search needs
 
 slice-aggregate-put-2 : tie.Need-slice-aggregate-put-2
 slice-aggregate-put-2 c = search needs
@@ -22,8 +19,8 @@ slice-aggregate-put-2 c = search needs
 put-requires-2 : tie.Need-put-requires-2
 put-requires-2 c κs = search needs
 
-put-constant-requires : tie.Need-put-constant-requires
-put-constant-requires c κs = search needs
+put-own-requires : tie.Need-put-own-requires
+put-own-requires c κs = search needs
 
 slice-aggregate-put-3 : tie.Need-slice-aggregate-put-3
 slice-aggregate-put-3 c = search needs
@@ -35,19 +32,18 @@ same-length : tie.Need-same-length
 same-length c = search needs
 
 returns : tie.Need-returns
-returns c = three-spelt _ _ _ (c .before .before .before .before .before .before .before .before .before .before .before .before .before .before .before .before .before .before .before .before .before .before .before .block-variable .ensures) (c .before .before .before .before .before .before .before .before .before .before .before .before .before .before .before .before .before .before .before .before .put .ensures) (c .before .before .before .before .before .before .before .before .before .before .before .before .before .before .before .before .put-two .ensures) (c .before .before .before .before .before .before .before .before .before .before .before .put2 .ensures) (c .before .before .before .before .before .before .before .put-constant .ensures) (c .before .before .put3 .ensures)
+returns c = λ case s. or-not-run-spelt case _ _ (c .before .before .before .before .before .before .before .before .before .before .before .before .before .before .before .before .before .before .before .before .put .ensures) (c .before .before .before .before .before .before .before .before .before .before .before .before .before .before .before .before .put-not-run .ensures case s) (c .before .before .before .before .before .before .before .before .before .before .before .put2 .ensures) (c .before .before .before .before .before .before .before .put-own .ensures) (c .before .before .put3 .ensures)
 
 pub put-three-spec : {M : Type 1} → statement M
 put-three-spec =
     tie.close
     (tie.spec
-    block-variable-requires
     slice-aggregate-put
     put-requires
-    put-two-requires
+    put-not-run-requires
     slice-aggregate-put-2
     put-requires-2
-    put-constant-requires
+    put-own-requires
     slice-aggregate-put-3
     put-requires-3
     same-length

@@ -16,14 +16,14 @@ put-three-requires c κs = search needs
 line-of-requires : tie.Need-line-of-requires
 line-of-requires c κs = line-handed (c .before .before .before .before .before .pre) (c .match .keys4) (search needs)
 
-put-line-requires : tie.Need-put-line-requires
-put-line-requires c κs = search needs
+put-four-requires : tie.Need-put-four-requires
+put-four-requires c κs = search needs
 
 line-of-requires-2 : tie.Need-line-of-requires-2
 line-of-requires-2 c κs = line-handed (c .before .before .before .before .before .pre) (c .match .keys5) (search needs)
 
-put-demand-requires : tie.Need-put-demand-requires
-put-demand-requires c κs = search needs
+put-five-requires : tie.Need-put-five-requires
+put-five-requires c κs = search needs
 
 put-walk-requires : tie.Need-put-walk-requires
 put-walk-requires c κs = search needs
@@ -47,25 +47,25 @@ same-length-2 : tie.Need-same-length-2
 same-length-2 c = search needs
 
 returns-2 : tie.Need-returns-2
-returns-2 c = last-spelt _ _ (c .before .before .before .before .match .keys2) (c .before .before .put-last .ensures)
+returns-2 c = last-spelt _ _ (c .before .before .before .before .before .before .before .before .before .pre .known .of) (c .before .before .before .before .match .keys2) (c .before .before .put-last .ensures _ (c .before .before .before .before .before .before .before .before .before .pre .shaped))
 
 same-length-3 : tie.Need-same-length-3
 same-length-3 c = search needs
 
 returns-3 : tie.Need-returns-3
-returns-3 c = thread-spelt _ _ (c .before .before .before .before .match .keys3) (c .before .before .put-three .ensures)
+returns-3 c = thread-spelt _ _ (c .before .before .before .before .match .keys3) (c .before .before .put-three .ensures _ (c .before .before .before .before .before .before .before .before .before .pre .shaped))
 
 same-length-4 : tie.Need-same-length-4
 same-length-4 c = search needs
 
 returns-4 : tie.Need-returns-4
-returns-4 c = value-spelt _ _ (c .before .before .before .before .line-of .ensures) (c .before .before .before .before .before .match .keys4) (c .before .before .put-line .ensures _ (c .before .before .before .before .before .before .before .before .before .before .pre .shaped) (c .before .before .before .before .before .before .before .before .before .before .pre .sourced))
+returns-4 c = value-spelt _ _ (c .before .before .before .before .before .match .keys4) (c .before .before .put-four .ensures _ (c .before .before .before .before .before .before .before .before .before .before .pre .shaped) (c .before .before .before .before .before .before .before .before .before .before .pre .sourced) (c .before .before .before .before .line-of .ensures))
 
 same-length-5 : tie.Need-same-length-5
 same-length-5 c = search needs
 
 returns-5 : tie.Need-returns-5
-returns-5 c = demand-spelt _ _ (c .before .before .before .before .line-of2 .ensures) (c .before .before .before .before .before .match .keys5) (c .before .before .put-demand .ensures _ (c .before .before .before .before .before .before .before .before .before .before .pre .shaped) (c .before .before .before .before .before .before .before .before .before .before .pre .sourced))
+returns-5 c = demand-spelt _ _ (c .before .before .before .before .before .match .keys5) (c .before .before .put-five .ensures _ (c .before .before .before .before .before .before .before .before .before .before .pre .shaped) (c .before .before .before .before .before .before .before .before .before .before .pre .sourced) (c .before .before .before .before .line-of2 .ensures))
 
 same-length-6 : tie.Need-same-length-6
 same-length-6 c = search needs
@@ -93,9 +93,9 @@ put-row-spec =
     put-last-requires
     put-three-requires
     line-of-requires
-    put-line-requires
+    put-four-requires
     line-of-requires-2
-    put-demand-requires
+    put-five-requires
     put-walk-requires
     put-goal-requires
     slice-aggregate-put
