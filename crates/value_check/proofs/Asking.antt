@@ -1,23 +1,26 @@
--- What a line of each kind is asked, by its guard.
+-- What a line of each kind is asked, by its guard, or where it was not run.
 -- Assumes nothing.
 use mathlib.Core.Path.{_≡_, refl, sym, ap, _∙_}
-use Prim.Native.Nat.{ℕ}
+use Prim.Native.Nat.{ℕ, _<_}
+use native.Mathlib.Omega.{arith}
 use mathlib.Core.Bool.{Bool, true, false, cond, not}
 use lib.Dec.{eqb}
-use Rattle.model.specs.CaseFile.{Kind, lock, Line}
-use Rattle.model.specs.Line.{Reads, nameOfTarget, guardTrue, guardedInValue, guardedOutValue, valueBy, breaks}
+use Rattle.model.specs.CaseFile.{Kind, compute, store, load, input, assert, assume, lock, unlock, Line, kindOf}
+use Rattle.model.specs.Line.{Reads, nameOfTarget, guardTrue, guardedInValue, guardedOutValue, valueBy, unrunValue, breaks}
 use Rattle.model.specs.Holds.{demandMet}
+use Rattle.laws.proofs.Views.{EqView, same, diff, eq-view}
+use Rattle.line.proofs.KindNumbers.{KindView, is5, is6, kind-view, Not2}
 use Rattle.value_check.specs.declared.Asked.{Asked}
-use Rattle.value_check.specs.Asking.{Asks}
+use Rattle.value_check.specs.Asking.{Asks, failingAsked}
 
 module _ (G : ℕ) (l : Line) (reads : Reads) (value : ℕ) (r : Asked) (on : Bool) (guard : guardTrue l reads ≡ on) (κ : Kind) (kind : l .kind ≡ κ) where
   pub asks-by : r .value ≡ cond on (guardedInValue κ l reads) (guardedOutValue κ reads) → r .met ≡ demandMet κ l reads value
-      → r .breaks ≡ breaks κ l reads value → r .name ≡ nameOfTarget G κ (l .target) → Asks G l reads value r
+      → r .breaks ≡ breaks κ l reads value → r .name ≡ nameOfTarget G κ (l .target) → Asks true G l reads value r
   unfolding valueBy
   asks-by value' met' breaks' name' = record {
     asking = rw guard (value' ∙ ap (λ (x : Kind). cond on (guardedInValue x l reads) (guardedOutValue x reads)) (sym kind));
     meeting = met' ∙ ap (λ (x : Kind). demandMet x l reads value) (sym kind);
-    breaking = breaks' ∙ ap (λ (x : Kind). breaks x l reads value) (sym kind);
+    breaking = λ _. breaks' ∙ ap (λ (x : Kind). breaks x l reads value) (sym kind);
     naming = name' ∙ ap (λ (x : Kind). nameOfTarget G x (l .target)) (sym kind);
   }
 
@@ -34,3 +37,47 @@ module _ (l : Line) (reads : Reads) (value : ℕ) where
   pub lock-out : guardTrue l reads ≡ false → true ≡ demandMet lock l reads value
   unfolding demandMet
   lock-out off = rw off
+
+-- A line that was not run: its 5 is met, and with the value that its 4 asks for it breaks nothing.
+unrun-breaks : (κ : Kind) (l : Line) (reads : Reads) → false ≡ breaks κ l reads (unrunValue κ)
+unfolding breaks unrunValue
+unrun-breaks compute l reads = refl
+unrun-breaks store l reads = refl
+unrun-breaks load l reads = refl
+unrun-breaks input l reads = refl
+unrun-breaks assert l reads = refl
+unrun-breaks assume l reads = refl
+unrun-breaks lock l reads = refl
+unrun-breaks unlock l reads = refl
+
+pub asks-unrun : (G : ℕ) (l : Line) (reads : Reads) (value x name : ℕ) → x ≡ unrunValue (l .kind) → name ≡ nameOfTarget G (l .kind) (l .target)
+    → Asks false G l reads value (record { value = x; met = true; breaks = false; name = name })
+asks-unrun G l reads value x name ex en = record {
+  asking = ex;
+  meeting = refl;
+  breaking = λ e. rw (e, ex) (unrun-breaks (l .kind) l reads);
+  naming = en;
+}
+
+pub unrun-other : (k : ℕ) → Not2 k 5 6 → 0 ≡ unrunValue (kindOf k)
+unfolding unrunValue
+unrun-other k n = go (kindOf k) (kind-view k)
+  where
+    go : (κ : Kind) → KindView k κ → 0 ≡ unrunValue κ
+    go compute v = refl
+    go store v = refl
+    go load v = refl
+    go input v = refl
+    go assert (is5 e) = absurd (n .0 .1 e)
+    go assume (is6 e) = absurd (n .1 e)
+    go lock v = refl
+    go unlock v = refl
+
+-- Where neither fails, the line has the value that its 4 asks for.
+pub value-asked : (at : ℕ) (r : Asked) (value : ℕ) → 0 < at → failingAsked at r value ≡ 0 → value ≡ r .value
+unfolding failingAsked
+value-asked at r value some none = go (eq-view value (r .value))
+  where
+    go : EqView value (r .value) → value ≡ r .value
+    go (same e q) = e
+    go (diff n q) = absurd (omega (arith, some, rw q at none))

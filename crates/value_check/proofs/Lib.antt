@@ -1,3 +1,4 @@
+pub mod Run
 pub mod Asking
 pub mod LineRows
 pub mod Reading

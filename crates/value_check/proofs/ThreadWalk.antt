@@ -2,16 +2,17 @@
 -- Assumes nothing.
 use mathlib.Core.Path.{_≡_, refl, sym, ap, _∙_, subst}
 use mathlib.Core.Logic.{_≢_}
-use Prim.Native.Nat.{ℕ, _+_, _≤_, _<_}
-use mathlib.Core.Bool.{true, cond}
+use Prim.Native.Nat.{ℕ, suc, _+_, _≤_, _<_}
+use mathlib.Core.Bool.{Bool, true, cond}
 use mathlib.Core.List.{List, [], _∷_, _++_, reverse, reverseAux}
 use native.Mathlib.Omega.{arith}
 use lib.Dec.{eqb}
 use lib.ListN.{length, take, replicate}
-use Rattle.model.specs.Limits.{localCount, mostSwitches, mostConstraints}
+use Rattle.model.specs.Limits.{localCount, mostConstraints}
 use Rattle.model.specs.CaseFile.{kindOf, Line, Case, records, firstRecord, nextRecord, lineOf, caseOf, linesOf, itemCount, lineAt}
+use Rattle.model.specs.Line.{breaks}
 use Rattle.model.specs.Machine.{putLocal, putItem}
-use Rattle.model.specs.Assignment.{Assignment, assignmentOf}
+use Rattle.model.specs.Assignment.{Assignment, assignmentOf, wasRun}
 use Rattle.model.specs.Copies.{readsAfter}
 use Rattle.model.specs.Table.{Row, valueRow, demandRows, valueRows}
 use Rattle.laws.specs.Accepted.{Accepted, linesFrom, threadLines}
@@ -38,6 +39,8 @@ use Rattle.value_check.specs.Rows.{threadValues}
 use Rattle.value_check.specs.Asking.{Asks, AskedOf, failingAsked}
 use Rattle.value_check.specs.Breaking.{breakingAfter}
 use Rattle.value_check.specs.Walked.{CopyNoted, Entered, ThreadToAsk, ThreadWalked}
+use Rattle.value_check.proofs.Run.{run-before}
+use Rattle.value_check.proofs.Asking.{value-asked}
 use Rattle.value_check.proofs.LineRows.{line-fails}
 use Rattle.value_check.proofs.Reading.{Reading, reading-start, reading-later, reading-reads, reading-more}
 
@@ -47,7 +50,8 @@ pub record ThreadWalk (bytes xs : List ℕ) (t start was : ℕ) (latest : List (
   pub whole : reverseAux (linesFrom bytes t k) earlier ≡ reverse (linesOf (caseOf bytes) t)
   pub found : AllLines (λ l. lineAt (caseOf bytes) (l .number) ≡ l) (linesFrom bytes t k)
   pub ordered : Ordered (caseOf bytes) (assignmentOf (caseOf bytes) xs .block) t block (linesFrom bytes t k)
-  pub reading : Reading (caseOf bytes) (assignmentOf (caseOf bytes) xs) earlier block (memory locals items (itemCount (caseOf bytes)))
+  -- what is kept is not read after a line that was not run: no line after it was
+  pub reading : wasRun (caseOf bytes) block ≡ true → Reading (caseOf bytes) (assignmentOf (caseOf bytes) xs) earlier block (memory locals items (itemCount (caseOf bytes)))
   pub seeks : Searching bytes xs start (threadValues bytes t) at (valueRows (caseOf bytes) earlier (linesFrom bytes t k))
   pub chains : CopyChains (caseOf bytes) latest previous t earlier
   pub breaking : breakingAfter (caseOf bytes) (assignmentOf (caseOf bytes) xs) broken earlier (linesFrom bytes t k)
@@ -71,7 +75,7 @@ module _ {bytes xs : List ℕ} {t start : ℕ} {latest₀ : List (List ℕ)} {pr
     whole = ap reverse (sym (threads-are bytes t (pre .thread)));
     found = rw (← (threads-are bytes t (pre .thread))) (line-found case (numbers-once bytes ok) t);
     ordered = pre .ordered;
-    reading = reading-start case α items starts (item-numbers bytes ok);
+    reading = λ _. reading-start case α items starts (item-numbers bytes ok);
     seeks = searching-start bytes xs start _ _ (pre .numbers .counted) refl;
     chains = pre .chains;
     breaking = refl;
@@ -126,28 +130,33 @@ module _ {bytes xs : List ℕ} {t start : ℕ} {latest₀ : List (List ℕ)} {pr
         unfolding assignmentOf
         own-block = sym ei
 
-        pub walk-block : i ≤ mostSwitches
-        walk-block = omega (arith, in-order .0 .upto, own-block, ok .few-switches)
+        pub walk-block : i ≤ suc (case .n)
+        walk-block = omega (arith, in-order .0 .upto, own-block)
 
-        reading-in : (items' : List ℕ) → Entered bytes xs block i items items' → Reading case α (v .earlier) i (memory locals items' (itemCount case))
-        reading-in items' entered = go (eq-view i block)
+        -- In block i what it reads is known, if it was run: then so was the line before it.
+        reading-in : {items' : List ℕ} {run : Bool} → Entered bytes xs block i items items' run → run ≡ true
+            → Reading case α (v .earlier) i (memory locals items' (itemCount case))
+        reading-in {items'} entered was-run = go (eq-view i block)
           where
             go : EqView i block → Reading case α (v .earlier) i (memory locals items' (itemCount case))
-            go (same e q) = rw (entered .stays e, e) (v .reading)
-            go (diff n q) = reading-later case α items (v .reading) i items' (omega (arith, in-order .0 .from, own-block, n)) (entered .enters n) (item-numbers bytes ok)
+            go (same e q) = rw (entered .stays e, e) (v .reading (ap (wasRun case) (sym e) ∙ sym (entered .asked) ∙ was-run))
+            go (diff n q) =
+                let later : block < i = omega (arith, in-order .0 .from, own-block, n) in
+                reading-later case α items (v .reading (run-before case block i later walk-block)) i items' later (entered .enters was-run n) (item-numbers bytes ok)
 
-        -- In its block, what it reads is known, and what it is asked.
-        module _ (l : Record) (el : l ≡ recordOf bytes t k) (value : ℕ) (ev : value ≡ recordValue xs k) (items' : List ℕ) (entered : Entered bytes xs block i items items')
-            (counts : Counts) (are : HasCounts bytes counts) (r : Asked) (asked : AskedOf counts locals items' l value r) where
+        -- What it is asked.
+        module _ (l : Record) (el : l ≡ recordOf bytes t k) (value : ℕ) (ev : value ≡ recordValue xs k)
+            (items' : List ℕ) (run : Bool) (entered : Entered bytes xs block i items items' run)
+            (counts : Counts) (are : HasCounts bytes counts) (r : Asked) (asked : AskedOf run counts locals items' l value r) where
           own-value : value ≡ α .value (line .number)
           unfolding assignmentOf
           own-value = ev
 
-          reads-are : readsBy counts value locals items' (asLine l k) ≡ readsAfter case α (v .earlier) line
-          reads-are = rw (el, are .globals, are .items) (reading-reads case α (reading-in items' entered) line own-block value own-value)
+          reads-are : run ≡ true → readsAfter case α (v .earlier) line ≡ readsBy counts value locals items' (asLine l k)
+          reads-are was-run = sym (rw (el, are .globals, are .items) (reading-reads case α (reading-in entered was-run) line own-block value own-value))
 
-          asks : Asks (case .G) line (readsAfter case α (v .earlier) line) (α .value (line .number)) r
-          asks = rw (reads-are, own-value, el, are .globals) at (asked k)
+          asks : Asks (wasRun case (α .block (line .number))) (case .G) line (readsAfter case α (v .earlier) line) (α .value (line .number)) r
+          asks = rw (entered .asked, ← own-block, own-value, el, are .globals) at (asked k (readsAfter case α (v .earlier) line) reads-are)
 
           walk-place : {n : ℕ} → n ≡ valueRowCount (kindOf (l .kind)) → n ≡ length rows
           walk-place en = en ∙ ap (λ (r' : Record). valueRowCount (kindOf (r' .kind))) el ∙ sym (line-value-length (line .kind) case (v .earlier) line)
@@ -169,9 +178,12 @@ module _ {bytes xs : List ℕ} {t start : ℕ} {latest₀ : List (List ℕ)} {pr
             -- The next record, with everything that is kept.
             module _ (none : f ≡ 0) (broken' : ℕ) (eb : broken' ≡ cond (eqb broken 0) (cond (r .breaks) k 0) broken)
                 (n : ℕ) (en : n ≡ valueRowCount (kindOf (l .kind))) where
+              breaks-are : r .breaks ≡ breaks (line .kind) line (readsAfter case α (v .earlier) line) (α .value (line .number))
+              breaks-are = asks .breaking (sym own-value ∙ value-asked at r value (v .seeks .some) (sym ef ∙ none))
+
               breaking-rest : breakingAfter case α broken' (line ∷ v .earlier) rest ≡ breakingAfter case α was [] (threadLines bytes t)
               unfolding breakingAfter
-              breaking-rest = rw (eb, asks .breaking) (sym (ap (breakingAfter case α broken (v .earlier)) more) ∙ v .breaking)
+              breaking-rest = rw (eb, breaks-are) (sym (ap (breakingAfter case α broken (v .earlier)) more) ∙ v .breaking)
 
               pub walk-more : {latest' : List (List ℕ)} {previous' : List ℕ} → CopyNoted t (r .name) k previous latest previous' latest'
                   → (locals' items'' : List ℕ) → locals' ≡ putLocal true (r .name) value locals
@@ -184,7 +196,7 @@ module _ {bytes xs : List ℕ} {t start : ℕ} {latest₀ : List (List ℕ)} {pr
                 whole = whole;
                 found = is-found .1;
                 ordered = subst (λ (x : ℕ). Ordered case (α .block) t x rest) own-block (in-order .1);
-                reading = rw (elo, put-items, asks .naming) (reading-more case α (reading-in items' entered) line own-block value own-value (omega arith));
+                reading = λ was-run. rw (elo, put-items, asks .naming) (reading-more case α (reading-in entered (entered .asked ∙ was-run)) line own-block value own-value (omega arith));
                 seeks = searching-more (v .seeks) here split none;
                 chains = rw (noted .notes, noted .takes, asks .naming) (chains-more bytes ok (v .chains) (omega (arith, ok .few-threads)) line rest whole);
                 breaking = breaking-rest;

@@ -3,12 +3,13 @@
 -- Assumes nothing.
 use mathlib.Core.Path.{_≡_}
 use mathlib.Core.Logic.{_≢_}
-use Prim.Native.Nat.{ℕ, suc, _<_}
+use Prim.Native.Nat.{ℕ, suc, _≤_, _<_}
+use mathlib.Core.Bool.{Bool, true, false}
 use mathlib.Core.List.{List, []}
 use lib.ListN.{set}
 use Rattle.model.specs.Limits.{mostThreads, recordPlaces}
 use Rattle.model.specs.CaseFile.{threadCount, caseOf}
-use Rattle.model.specs.Assignment.{assignmentOf}
+use Rattle.model.specs.Assignment.{assignmentOf, wasRun}
 use Rattle.laws.specs.Accepted.{Accepted, threadLines}
 use Rattle.copies.specs.Held.{copyIn, withCopy}
 use Rattle.copies.specs.CopyChains.{CopyChains}
@@ -28,10 +29,17 @@ pub record CopyNoted (t name k : ℕ) (previous : List ℕ) (latest : List (List
   pub notes : previous' ≡ set previous k (copyIn latest t name)
   pub takes : latest' ≡ withCopy latest t name k
 
--- The items where a thread goes on in block i.
-pub record Entered (bytes xs : List ℕ) (block i : ℕ) (items items' : List ℕ) : Type 0 where
+-- An accepted case, and a block number that a line can have, run or not.
+pub record AtLine (bytes : List ℕ) (i : ℕ) : Type 0 where
+  pub accepted : Accepted bytes
+  pub upto : i ≤ suc (caseOf bytes .n)
+
+-- Whether a line with block number i was run, and the items: if so, where its thread goes on in block i.
+pub record Entered (bytes xs : List ℕ) (block i : ℕ) (items items' : List ℕ) (run : Bool) : Type 0 where
+  pub asked : run ≡ wasRun (caseOf bytes) i
+  pub leaves : run ≡ false → items' ≡ items
   pub stays : i ≡ block → items' ≡ items
-  pub enters : i ≢ block → StartOf bytes xs i items'
+  pub enters : run ≡ true → i ≢ block → StartOf bytes xs i items'
 
 -- After thread t's lines, of which all 4s and 5s hold.
 pub record ThreadWalked (bytes xs : List ℕ) (t was : ℕ) (latest : List (List ℕ)) (previous : List ℕ) (broken : ℕ) : Type 0 where

@@ -5,12 +5,12 @@ ghost use mathlib.Core.Bool.{true, false};
 ghost use Prim.Native.Nat.{_<_};
 ghost use Rattle.model.specs.Limits.{mostConstraints};
 ghost use Rattle.line.specs.CaseCounts.{Few};
-ghost use Rattle.assignment.specs.Numbers.{AtBlock};
-ghost use Rattle.value_check.specs.Asking.{AskedWhere, AskedOf, failingAsked};
-ghost use Rattle.value_check.specs.Walked.{HasPlaces, CopyNoted, Entered, ThreadToAsk, ThreadAsked, AllToAsk, AllAsked};
+ghost use Rattle.value_check.specs.Asking.{AskedWhere, AskedUnrun, AskedOf, failingAsked};
+ghost use Rattle.value_check.specs.Walked.{HasPlaces, CopyNoted, AtLine, Entered, ThreadToAsk, ThreadAsked, AllToAsk, AllAsked};
 use assignment::block_of;
 use assignment::start_of_block;
 use assignment::value_of;
+use assignment::was_run;
 use case_file::Record;
 use case_file::first_of;
 use case_file::next_of;
@@ -44,7 +44,7 @@ pub struct Asked {
     pub name: usize,
 }
 
-// The value of an assert or assume that its guard leaves out, and the value that a 5 asks of an assume.
+// The value of an assert or assume that its guard leaves out or that was not run, and the value that a 5 asks of an assume.
 const LEFT_OUT: u16 = 1;
 
 const ASSUMED: u16 = 1;
@@ -147,17 +147,35 @@ fn asked_out<'a>(
     }
 }
 
-// A line, by its guard.
+// A line that was not run: nothing is read at it.
+fn asked_unrun(counts: Counts, l: Record) -> Asked
+    requires { ⌜ Few counts ⌝ }
+    ensures { λ r. ⌜ AskedUnrun counts l r ⌝ }
+{
+    let kind = l.kind;
+    let name = line::target_name(counts.globals, l);
+    match kind {
+        5 => four(LEFT_OUT, name),
+        6 => four(LEFT_OUT, name),
+        _ => four(0, name),
+    }
+}
+
+// A line, by whether it was run, and by its guard.
 fn asked_of<'a>(
     locals: &'a [u16; LOCALS],
     items: &'a [u16; ITEMS],
     counts: Counts,
     l: Record,
     value: u16,
+    run: bool,
 ) -> Asked
     requires { ⌜ Few counts ⌝ }
-    ensures { λ r. ⌜ AskedOf counts (now (locals .entry)) (now (items .entry)) l value r ⌝ }
+    ensures { λ r. ⌜ AskedOf run counts (now (locals .entry)) (now (items .entry)) l value r ⌝ }
 {
+    if !run {
+        return asked_unrun(counts, l);
+    }
     if line::guarded(locals, l) {
         return asked_in(locals, items, counts, l, value);
     }
@@ -194,15 +212,26 @@ fn note_copy(
     take_copy(latest, t as usize, name, k);
 }
 
-// A thread goes on in block i: the items' values stay where it is the same block, and are those that another block starts from.
-fn enter_block(case: &[u8], assignment: &[u16], items: &mut [u16; ITEMS], block: u16, i: u16)
-    requires { ⌜ AtBlock (now case) i ⌝ }
-    ensures { λ r. ⌜ Entered (now (case .entry)) (now (assignment .entry)) block i (now (items .entry)) (now (items .exit)) ⌝ }
+// Whether a line with block number i was run. If so, its thread goes on in block i: the items' values stay where it is the same block,
+// and are those that another block starts from.
+fn enter_block(
+    case: &[u8],
+    assignment: &[u16],
+    items: &mut [u16; ITEMS],
+    block: u16,
+    i: u16,
+) -> bool
+    requires { ⌜ AtLine (now case) i ⌝ }
+    ensures { λ r. ⌜ Entered (now (case .entry)) (now (assignment .entry)) block i (now (items .entry)) (now (items .exit)) r ⌝ }
 {
+    if !was_run(case, i) {
+        return false;
+    }
     if i == block {
-        return;
+        return true;
     }
     *items = start_of_block(case, assignment, i);
+    true
 }
 
 // The 4s and 5s of thread t, after a walk over those of the threads before it. The values of its locals, and of the items in its
@@ -229,9 +258,9 @@ fn thread_values(
         let l = record_at(case, t, k as usize);
         let i = block_of(assignment, k);
         let value = value_of(assignment, k);
-        enter_block(case, assignment, &mut items, block, i);
+        let run = enter_block(case, assignment, &mut items, block, i);
         block = i;
-        let asked = asked_of(&locals, &items, counts, l, value);
+        let asked = asked_of(&locals, &items, counts, l, value, run);
         let failed = line_failing(at, asked, value);
         if failed != 0 {
             return Walk {

@@ -49,7 +49,7 @@ enter-block-requires : tie.Need-enter-block-requires Inv-loop μ-loop
 enter-block-requires c κs =
     let line = c .before .before .before .before in
     let start = line .before .before .before .before .before .before .before in
-    record { accepted = start .pre .accepted; block = walk-block (start .pre) (line .before .loop .inv) (line .loop-test .taken) _ (c .before .before .block-of .ensures) }
+    record { accepted = start .pre .accepted; upto = walk-block (start .pre) (line .before .loop .inv) (line .loop-test .taken) _ (c .before .before .block-of .ensures) }
 
 asked-of-requires : tie.Need-asked-of-requires Inv-loop μ-loop
 asked-of-requires c κs = search needs
@@ -66,7 +66,7 @@ returns c =
     let line = read .before .before .before .before .before .before .before .before in
     let start = line .before .before .before .before .before .before .before in
     record {
-      found = walk-found (start .pre) (line .before .loop .inv) (line .loop-test .taken) _ (read .before .before .before .before .before .before .block-of .ensures) _ (read .before .before .before .before .before .before .before .record-at .ensures) _ (read .before .before .before .before .before .value-of .ensures) _ (read .before .before .before .enter-block .ensures) _
+      found = walk-found (start .pre) (line .before .loop .inv) (line .loop-test .taken) _ (read .before .before .before .before .before .before .block-of .ensures) _ (read .before .before .before .before .before .before .before .record-at .ensures) _ (read .before .before .before .before .before .value-of .ensures) _ _ (read .before .before .before .enter-block .ensures) _
           (line .before .before .before .before .counts-of .ensures) _ (read .asked-of .ensures) _ (c .before .line-failing .ensures) (c .if1 .taken) _;
       walked = λ z. absurd (c .if1 .taken z);
     }
@@ -87,7 +87,7 @@ add-at c =
     let start = line .before .before .before .before .before .before .before in
     omega (
       arith,
-      walk-room-after (start .pre) (line .before .loop .inv) (line .loop-test .taken) _ (read .before .before .before .before .before .before .block-of .ensures) _ (read .before .before .before .before .before .before .before .record-at .ensures) _ (read .before .before .before .before .before .value-of .ensures) _ (read .before .before .before .enter-block .ensures) _
+      walk-room-after (start .pre) (line .before .loop .inv) (line .loop-test .taken) _ (read .before .before .before .before .before .before .block-of .ensures) _ (read .before .before .before .before .before .before .before .record-at .ensures) _ (read .before .before .before .before .before .value-of .ensures) _ _ (read .before .before .before .enter-block .ensures) _
           (line .before .before .before .before .counts-of .ensures) _ (read .asked-of .ensures) (c .value-rows .ensures),
     )
 
@@ -133,7 +133,7 @@ loop-again c =
     let read = c .before .before .before .before .before .before .before .before .before .before .before .before in
     let line = read .before .before .before .before .before .before .before .before in
     let start = line .before .before .before .before .before .before .before in
-    walk-more (start .pre) (line .before .loop .inv) (line .loop-test .taken) _ (read .before .before .before .before .before .before .block-of .ensures) _ (read .before .before .before .before .before .before .before .record-at .ensures) _ (read .before .before .before .before .before .value-of .ensures) _ (read .before .before .before .enter-block .ensures) _
+    walk-more (start .pre) (line .before .loop .inv) (line .loop-test .taken) _ (read .before .before .before .before .before .before .block-of .ensures) _ (read .before .before .before .before .before .before .before .record-at .ensures) _ (read .before .before .before .before .before .value-of .ensures) _ _ (read .before .before .before .enter-block .ensures) _
     (line .before .before .before .before .counts-of .ensures) _ (read .asked-of .ensures) _ (c .before .before .before .before .before .before .before .before .before .before .before .line-failing .ensures) (c .before .before .before .before .before .before .before .before .before .before .if1 .left) _ (c .before .before .before .before .before .before .before .before .before .noted .ensures) _ (c .before .before .before .before .before .before .before .before .value-rows .ensures)
     (c .before .before .before .before .before .note-copy .ensures) _ _ (c .before .before .before .put-local .ensures) (c .before .put-item .ensures) _ (c .next-of .ensures)
 
