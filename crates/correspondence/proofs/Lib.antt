@@ -32,6 +32,7 @@ pub mod Demand3
 pub mod KindByKind
 pub mod Computing
 pub mod NoLines
+pub mod EverySchedule
 pub mod CaseA
 pub mod CaseBytes
 pub mod Examples
