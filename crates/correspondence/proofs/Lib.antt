@@ -36,5 +36,6 @@ pub mod EverySchedule
 pub mod CaseA
 pub mod CaseBytes
 pub mod Examples
+pub mod StopExamples
 pub mod Refusals
 pub mod Conventions
