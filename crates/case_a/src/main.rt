@@ -144,22 +144,23 @@ fn two(text: &[u8], first: u16, second: u16) {
 }
 
 // What a schedule of the case is answered with, and its one item's value at the end.
-fn replayed(case: &[u8], schedule: &[u16]) {
+fn replayed(name: &[u8], case: &[u8], schedule: &[u16]) {
+    word(name);
     let mut items = [0u16; 1];
     match replayer::replay(case, schedule, &mut items) {
         Replayed::Violated(k) => {
-            word(b"violated ");
+            word(b" violated ");
             number(k);
         }
         Replayed::Clean => {
-            word(b"clean");
+            word(b" clean");
         }
         Replayed::CutOff(k) => {
-            word(b"cut off ");
+            word(b" cut off ");
             number(k);
         }
         Replayed::Refused { number, place } => {
-            two(b"refused ", number, place);
+            two(b" refused ", number, place);
         }
     }
     word(b", item ");
@@ -229,16 +230,11 @@ fn empty() {
 
 fn violated_and_clean() {
     let case = case_with(2);
-    word(b"P1 ");
-    replayed(&case, &[2, 1, 2]);
-    word(b"P2 ");
-    replayed(&case, &[0, 1, 4]);
-    word(b"P3 ");
-    replayed(&case, &[1, 1, 3]);
-    word(b"P4 ");
-    replayed(&case, &[3, 1, 1]);
-    word(b"P5 ");
-    replayed(&case, &[4, 1, 0]);
+    replayed(b"P1", &case, &[2, 1, 2]);
+    replayed(b"P2", &case, &[0, 1, 4]);
+    replayed(b"P3", &case, &[1, 1, 3]);
+    replayed(b"P4", &case, &[3, 1, 1]);
+    replayed(b"P5", &case, &[4, 1, 0]);
 }
 
 fn assignments() {
@@ -249,23 +245,45 @@ fn assignments() {
     checked(&case, &[2, 5, 2, 6, 2, 6, 2, 0, 1, 5, 0, 5]);
 }
 
-fn fewer_switches() {
-    let none = case_with(0);
-    word(b"P8 ");
-    replayed(&none, &[4]);
-    word(b"P8 ");
-    replayed(&none, &[5]);
-    let one = case_with(1);
-    word(b"P9 ");
-    replayed(&one, &[4, 1]);
-    word(b"P9 ");
-    replayed(&one, &[3, 2]);
+// "every run is clean": every schedule whose lengths fit, and one that has a step too many.
+fn no_switch() {
+    let case = case_with(0);
+    replayed(b"P8", &case, &[0]);
+    replayed(b"P8", &case, &[1]);
+    replayed(b"P8", &case, &[2]);
+    replayed(b"P8", &case, &[3]);
+    replayed(b"P8", &case, &[4]);
+    replayed(b"P8", &case, &[5]);
+}
+
+fn thread_1_stops(case: &[u8]) {
+    replayed(b"P9", case, &[0, 0]);
+    replayed(b"P9", case, &[1, 0]);
+    replayed(b"P9", case, &[2, 0]);
+    replayed(b"P9", case, &[3, 0]);
+    replayed(b"P9", case, &[4, 0]);
+}
+
+fn thread_1_runs(case: &[u8]) {
+    replayed(b"P9", case, &[0, 1]);
+    replayed(b"P9", case, &[1, 1]);
+    replayed(b"P9", case, &[2, 1]);
+    replayed(b"P9", case, &[3, 1]);
+    replayed(b"P9", case, &[4, 1]);
+}
+
+fn one_switch() {
+    let case = case_with(1);
+    thread_1_stops(&case);
+    thread_1_runs(&case);
+    replayed(b"P9", &case, &[4, 2]);
 }
 
 fn main() {
     violated_and_clean();
     assignments();
-    fewer_switches();
+    no_switch();
+    one_switch();
     word(b"P10 ");
     empty();
 }

@@ -1,31 +1,36 @@
--- Case A of document 01, from its bytes: its listing, as numbers and as text, and P1 to P10 as one table, over what the calls answer.
+-- Case A of document 01, from its bytes: its listing, as numbers and as text, and P1 to P10 as one table, over what the calls answer
+-- and, where it speaks of runs, over these too.
 -- Assumes nothing. Its bytes are met again in Examples, Refusals and Conventions.
-use mathlib.Core.Path.{_≡_, refl, sym, ap₂}
-use mathlib.Core.Logic.{_↔_}
-use Prim.Native.Nat.{ℕ, zero, suc, _+_, _≤_, _<_}
+use mathlib.Core.Path.{_≡_, refl, sym, ap, _∙_, subst}
+use mathlib.Core.Logic.{_↔_, _⊎_, inl, inr}
+use Prim.Native.Nat.{ℕ, zero, suc, _≤_, _<_}
 use Prim.Native.Char.{code}
 use Prim.Native.String.{String, [] as nothing, _∷_ as _then_}
-use mathlib.Core.Bool.{true, false, _&&_, true≢false}
+use mathlib.Core.Bool.{Bool, true, cond, _||_}
 use mathlib.Core.List.{List, [], _∷_, _++_}
 use native.Mathlib.Omega.{arith}
-use lib.Dec.{eqb}
+use native.Mathlib.Nat.{le-refl}
 use lib.ListN.{length, replicate}
-use borrow.Author.Tests.{eqb-true}
+use Rattle.model.specs.Word.{wordSize, AllBelow}
 use Rattle.model.specs.CaseFile.{records, switchCount, caseOf, linesOf}
 use Rattle.model.specs.Accept.{verdict}
-use Rattle.model.specs.Schedule.{scheduleSize, blockLengths, stepsOf, lengthsAddUp}
-use Rattle.model.specs.Runs.{Complete, InBlocks}
-use Rattle.model.specs.Answers.{encoded, encodedInto, checked, decodedInto, replayed}
+use Rattle.model.specs.Schedule.{scheduleSize, lengthsFit, runOf}
+use Rattle.model.specs.Runs.{Legal, NoneBroken, InBlocks}
+use Rattle.model.specs.Answers.{answerOfRun, encoded, encodedInto, checked, decodedInto, replayed}
 use Rattle.model.specs.Listing.{listingText}
 use Rattle.model.specs.declared.Verdict.the-variants.{Accepted}
 use Rattle.model.specs.declared.Encoded.the-variants.{Table}
 use Rattle.model.specs.declared.Checked.the-variants.{Meets}
 use Rattle.model.specs.declared.Replayed.the-variants.{Violated, Clean}
-use Rattle.laws.proofs.Views.{and-true}
+use Rattle.laws.proofs.Accepted.{accepted-of}
+use Rattle.correspondence.specs.Meaning.{WellFormed}
+use Rattle.correspondence.specs.Demand3.{itemRoom, NotRefused, ViolatingRun, Demand3}
 use Rattle.correspondence.proofs.Computing.{computing}
-use Rattle.correspondence.specs.Demand3.{NotRefused}
-use Rattle.correspondence.proofs.Replies.{fits-of-answered}
-use Rattle.correspondence.proofs.RunEnds.{adds-up-of-complete}
+use Rattle.correspondence.proofs.WellFormed.{well-formed}
+use Rattle.correspondence.proofs.Replies.{fits-of-answered, replayed-fits}
+use Rattle.correspondence.proofs.RunReplies.{takes-of-in-blocks}
+use Rattle.correspondence.proofs.Demand3.{demand-3}
+use Rattle.correspondence.proofs.EverySchedule.{isClean, clean-is, same, same-is, below-is, below, either-is, allLists, each-that-fits}
 use Rattle.correspondence.proofs.NoLines.{OneConstraintMetByNothing, one-constraint-met-by-nothing}
 
 -- Fields below 256 as bytes, low byte first.
@@ -102,6 +107,21 @@ textA = linesOfText (
     ∷ "7 0 0 0 0 0"
     ∷ [])
 
+-- The schedules of P1 and P2; and this one is either.
+abbrev pub scheduleP1 : List ℕ
+scheduleP1 = 2 ∷ 1 ∷ 2 ∷ []
+
+abbrev pub scheduleP2 : List ℕ
+scheduleP2 = 0 ∷ 1 ∷ 4 ∷ []
+
+abbrev pub OneOfTheTwo : List ℕ → Type 0
+OneOfTheTwo schedule = (schedule ≡ scheduleP1) ⊎ (schedule ≡ scheduleP2)
+
+-- "every run is clean": none is cut off or breaks an assertion, and every schedule that is not refused is answered with clean.
+pub record EveryRunIsClean (bytes : List ℕ) : Type 0 where
+  pub runs : (schedule : List ℕ) → InBlocks (caseOf bytes) schedule → Legal (caseOf bytes) schedule × NoneBroken (caseOf bytes) schedule
+  pub answers : (schedule : List ℕ) (room : ℕ) → NotRefused (replayed bytes schedule room) → replayed bytes schedule room ≡ Clean
+
 -- Document 01: "To be proved, as one table". One item, so one number of room for the final values.
 pub record CaseA : Type 0 where
   pub accepted : verdict (caseA 2) ≡ Accepted
@@ -117,54 +137,124 @@ pub record CaseA : Type 0 where
   pub p6-decodes : decodedInto (caseA 2) (0 ∷ 0 ∷ 0 ∷ 1 ∷ 2 ∷ 5 ∷ 2 ∷ 0 ∷ 1 ∷ 5 ∷ 1 ∷ 5 ∷ []) (replicate 3 0) ≡ 2 ∷ 1 ∷ 2 ∷ []
   pub p7 : checked (caseA 2) (2 ∷ 5 ∷ 2 ∷ 6 ∷ 2 ∷ 6 ∷ 2 ∷ 0 ∷ 1 ∷ 5 ∷ 0 ∷ 5 ∷ []) ≡ Meets
   pub p7-decodes : decodedInto (caseA 2) (2 ∷ 5 ∷ 2 ∷ 6 ∷ 2 ∷ 6 ∷ 2 ∷ 0 ∷ 1 ∷ 5 ∷ 0 ∷ 5 ∷ []) (replicate 3 0) ≡ 0 ∷ 1 ∷ 4 ∷ []
-  -- "(P8) n 0 has no complete run; (P9) n 1 has one, and it is clean": no other schedule is taken either.
-  pub p8 : (schedule : List ℕ) → InBlocks (caseOf (caseA 0)) schedule → Complete (caseOf (caseA 0)) schedule → ⊥
-  pub p8-none-taken : (schedule : List ℕ) → NotRefused (replayed (caseA 0) schedule 1) → ⊥
-  pub p9 : (schedule : List ℕ) → (InBlocks (caseOf (caseA 1)) schedule × Complete (caseOf (caseA 1)) schedule) ↔ (schedule ≡ 4 ∷ 1 ∷ [])
-  pub p9-one-taken : (schedule : List ℕ) → NotRefused (replayed (caseA 1) schedule 1) → schedule ≡ 4 ∷ 1 ∷ []
-  pub p9-clean : replayed (caseA 1) (4 ∷ 1 ∷ []) 1 ≡ Clean
+  -- Two: "Case A keeps its two violating schedules": the runs that violate are theirs, and no other schedule is answered with violated.
+  pub two-violating-runs : (schedule : List ℕ) → ViolatingRun (caseA 2) schedule ↔ OneOfTheTwo schedule
+  pub two-violated : (schedule : List ℕ) (room k : ℕ) → (replayed (caseA 2) schedule room ≡ Violated k) ↔ ((1 ≤ room) × (k ≡ 4) × OneOfTheTwo schedule)
+  -- Two: "P8 and P9 become: every run is clean." There are runs: here those with the most steps.
+  pub p8 : EveryRunIsClean (caseA 0)
+  pub p8-most-steps : replayed (caseA 0) (4 ∷ []) 1 ≡ Clean
+  pub p9 : EveryRunIsClean (caseA 1)
+  pub p9-most-steps : replayed (caseA 1) (4 ∷ 1 ∷ []) 1 ≡ Clean
   pub p10 : (bytes : List ℕ) → verdict bytes ≡ Accepted → records bytes ≡ 0 → switchCount bytes ≡ 0 → OneConstraintMetByNothing bytes
 
--- Block lengths that add up: with n 0, thread 1 has a line and no block; with n 1 each thread has one block.
-never-adds-up : (schedule : List ℕ) → length schedule ≡ scheduleSize (caseOf (caseA 0))
-    → lengthsAddUp (caseOf (caseA 0)) (blockLengths (caseOf (caseA 0)) schedule) ≡ true → ⊥
-unfolding computing caseA
-never-adds-up [] sized sums = absurd (omega (arith, sized))
-never-adds-up (x ∷ []) sized sums = true≢false (sym (and-true (eqb (x + 0) 4) false sums .rest))
-never-adds-up (x ∷ (y ∷ ys)) sized sums = absurd (omega (arith, sized))
+-- ---- Every schedule, tried
 
-adds-up-once : (schedule : List ℕ) → length schedule ≡ scheduleSize (caseOf (caseA 1))
-    → lengthsAddUp (caseOf (caseA 1)) (blockLengths (caseOf (caseA 1)) schedule) ≡ true → schedule ≡ 4 ∷ (1 ∷ [])
-unfolding computing caseA
-adds-up-once [] sized sums = absurd (omega (arith, sized))
-adds-up-once (x ∷ []) sized sums = absurd (omega (arith, sized))
-adds-up-once (x ∷ (y ∷ [])) sized sums =
-    let both = and-true (eqb (x + (0 + 0)) 4) (eqb (0 + (y + 0)) 1 && true) sums in
-    ap₂ (λ (a b : ℕ). a ∷ (b ∷ [])) (omega (arith, eqb-true (x + (0 + 0)) 4 (both .first)))
-    (omega (arith, eqb-true (0 + (y + 0)) 1 (and-true (eqb (0 + (y + 0)) 1) true (both .rest) .first)))
-adds-up-once (x ∷ (y ∷ (z ∷ zs))) sized sums = absurd (omega (arith, sized))
+-- The run of the schedule is clean, or it is one of the two.
+abbrev cleanOrTwo : ℕ → List ℕ → Bool
+cleanOrTwo n schedule =
+    isClean (answerOfRun (runOf (caseOf (caseA n)) schedule)) || (same schedule scheduleP1 || same schedule scheduleP2)
 
--- The run of a schedule, where it is complete, has block lengths that add up.
-complete-adds-up : (n : ℕ) (schedule : List ℕ) → InBlocks (caseOf (caseA n)) schedule → Complete (caseOf (caseA n)) schedule
-    → lengthsAddUp (caseOf (caseA n)) (blockLengths (caseOf (caseA n)) schedule) ≡ true
-complete-adds-up n schedule blocks complete = adds-up-of-complete (caseOf (caseA n)) schedule complete (blocks .few-steps)
+-- Thread 0 has four lines and thread 1 has one: no length that fits is over 4.
+abbrev triedWith : ℕ → Bool
+triedWith n = allLists 5 (suc (caseOf (caseA n) .n)) (λ lens. cond (lengthsFit (caseOf (caseA n)) lens) (cleanOrTwo n lens) true)
 
-complete-once : InBlocks (caseOf (caseA 1)) (4 ∷ 1 ∷ []) × Complete (caseOf (caseA 1)) (4 ∷ 1 ∷ [])
+few-lines : (n t : ℕ) → t < caseOf (caseA n) .T → length (linesOf (caseOf (caseA n)) t) < 5
 unfolding computing caseA
-complete-once = (record { numbers = (omega arith, (omega arith, tt)); has-size = refl; few-steps = few; none-strays = (refl, (refl, (refl, (refl, (refl, tt))))) }, all)
+few-lines n zero h = omega arith
+few-lines n (suc zero) h = omega arith
+few-lines n (suc (suc t)) h = absurd (omega arith)
+
+no-inputs : (n : ℕ) → scheduleSize (caseOf (caseA n)) ≡ suc (caseOf (caseA n) .n)
+unfolding computing caseA
+no-inputs n = omega arith
+
+module _ (n : ℕ) (small : below 256 (caseA n) ≡ true) (accepted : verdict (caseA n) ≡ Accepted) where
+  wf : WellFormed (caseOf (caseA n))
+  wf = well-formed (caseA n) (below-is 256 (caseA n) small) (accepted-of (caseA n) accepted)
+
+  demand : Demand3 (caseA n)
+  demand = demand-3 (caseA n) (below-is 256 (caseA n) small) accepted
+
+  module _ (tried : triedWith n ≡ true) where
+    answered-clean : (schedule : List ℕ) (room : ℕ) → NotRefused (replayed (caseA n) schedule room)
+        → (replayed (caseA n) schedule room ≡ Clean) ⊎ OneOfTheTwo schedule
+    answered-clean schedule room answered =
+        let fits = fits-of-answered (caseA n) schedule room answered in
+        let said = each-that-fits (caseOf (caseA n)) wf 5 (cleanOrTwo n) (few-lines n) tried schedule (fits .has-size ∙ no-inputs n) (fits .fit) in
+        go (replayed-fits (caseA n) schedule room fits) (either-is _ _ said)
+      where
+        go : replayed (caseA n) schedule room ≡ answerOfRun (runOf (caseOf (caseA n)) schedule)
+            → (isClean (answerOfRun (runOf (caseOf (caseA n)) schedule)) ≡ true)
+            ⊎ ((same schedule scheduleP1 || same schedule scheduleP2) ≡ true)
+            → (replayed (caseA n) schedule room ≡ Clean) ⊎ OneOfTheTwo schedule
+        go reply (inl clean) = inl (reply ∙ clean-is _ clean)
+        go reply (inr two) = inr (which (either-is _ _ two))
+          where
+            which : (same schedule scheduleP1 ≡ true) ⊎ (same schedule scheduleP2 ≡ true) → OneOfTheTwo schedule
+            which (inl e) = inl (same-is schedule _ e)
+            which (inr e) = inr (same-is schedule _ e)
+
+    -- With fewer than two switches no schedule has three lengths.
+    every-run-is-clean : caseOf (caseA n) .n < 2 → EveryRunIsClean (caseA n)
+    every-run-is-clean few = record { runs = runs; answers = answers }
+      where
+        answers : (schedule : List ℕ) (room : ℕ) → NotRefused (replayed (caseA n) schedule room) → replayed (caseA n) schedule room ≡ Clean
+        answers schedule room answered = go (answered-clean schedule room answered) (fits-of-answered (caseA n) schedule room answered .has-size)
+          where
+            go : (replayed (caseA n) schedule room ≡ Clean) ⊎ OneOfTheTwo schedule → length schedule ≡ scheduleSize (caseOf (caseA n))
+                → replayed (caseA n) schedule room ≡ Clean
+            go (inl clean) sized = clean
+            go (inr (inl e)) sized = absurd (omega (arith, few, sized, no-inputs n, ap length e))
+            go (inr (inr e)) sized = absurd (omega (arith, few, sized, no-inputs n, ap length e))
+
+        runs : (schedule : List ℕ) → InBlocks (caseOf (caseA n)) schedule → Legal (caseOf (caseA n)) schedule × NoneBroken (caseOf (caseA n)) schedule
+        runs schedule blocks =
+            let room = itemRoom (caseA n) in
+            let answered = demand .takes-is-no-refusal schedule room (le-refl room) .0 (takes-of-in-blocks (caseA n) accepted wf schedule blocks) in
+            let clean = demand .clean-is-nothing-broken schedule room (le-refl room) .0 (answers schedule room answered) in
+            (clean .1, clean .2)
+
+-- ---- The two that violate
+
+tried-2 : triedWith 2 ≡ true
+unfolding computing allLists caseA
+tried-2 = refl
+
+two-answered : (schedule : List ℕ) (room : ℕ) → 1 ≤ room → OneOfTheTwo schedule → replayed (caseA 2) schedule room ≡ Violated 4
+unfolding computing caseA
+two-answered schedule room h (inl e) = rw e (replayed-fits (caseA 2) scheduleP1 room (record { accepted = refl; has-room = h; has-size = refl; fit = refl }))
+two-answered schedule room h (inr e) = rw e (replayed-fits (caseA 2) scheduleP2 room (record { accepted = refl; has-room = h; has-size = refl; fit = refl }))
+
+two-small : (schedule : List ℕ) → OneOfTheTwo schedule → AllBelow wordSize schedule
+two-small schedule (inl e) = rw e (below-is wordSize scheduleP1 refl)
+two-small schedule (inr e) = rw e (below-is wordSize scheduleP2 refl)
+
+two-of-violated : (schedule : List ℕ) (room k : ℕ) → replayed (caseA 2) schedule room ≡ Violated k → (1 ≤ room) × (k ≡ 4) × OneOfTheTwo schedule
+unfolding computing caseA
+two-of-violated schedule room k reply = go (answered-clean 2 refl refl tried-2 schedule room answered)
   where
-    few : (t : ℕ) → t < 2 → stepsOf (caseOf (caseA 1)) t 0 (4 ∷ 1 ∷ []) ≤ length (linesOf (caseOf (caseA 1)) t)
-    few zero h = omega arith
-    few (suc zero) h = omega arith
-    few (suc (suc t)) h = absurd (omega arith)
+    answered : NotRefused (replayed (caseA 2) schedule room)
+    answered = subst NotRefused (sym reply) tt
 
-    all : Complete (caseOf (caseA 1)) (4 ∷ 1 ∷ [])
-    all zero h = refl
-    all (suc zero) h = refl
-    all (suc (suc t)) h = absurd (omega arith)
+    has-room : 1 ≤ room
+    has-room = fits-of-answered (caseA 2) schedule room answered .has-room
+
+    go : (replayed (caseA 2) schedule room ≡ Clean) ⊎ OneOfTheTwo schedule → (1 ≤ room) × (k ≡ 4) × OneOfTheTwo schedule
+    go (inl clean) = let q : Clean ≡ Violated k = sym clean ∙ reply in absurd (let z : _≡_ {A = ℕ} 0 1 = cc in omega arith)
+    go (inr two) =
+        let q : Violated 4 ≡ Violated k = sym (two-answered schedule room has-room two) ∙ reply in
+        (has-room, (let z : k ≡ 4 = cc in z), two)
+
+violating-is-two : (schedule : List ℕ) → ViolatingRun (caseA 2) schedule ↔ OneOfTheTwo schedule
+unfolding computing caseA
+violating-is-two schedule =
+    let violating = demand 2 refl refl .violated-is-violating-run schedule in (
+      λ run. let answered = violating .1 run in two-of-violated schedule 1 (answered .1 .0) (answered .1 .1 1 (omega arith)) .2,
+      λ two. violating .0 (two-small schedule two, (4, λ room h. two-answered schedule room h two)),
+    )
 
 pub case-a : CaseA
-unfolding computing caseA listingA textA
+unfolding computing allLists caseA listingA textA
 case-a = record {
   accepted = refl;
   counts = refl;
@@ -179,13 +269,11 @@ case-a = record {
   p6-decodes = refl;
   p7 = refl;
   p7-decodes = refl;
-  p8 = λ schedule blocks complete. never-adds-up schedule (blocks .has-size) (complete-adds-up 0 schedule blocks complete);
-  p8-none-taken = λ schedule taken. let fits = fits-of-answered (caseA 0) schedule 1 taken in never-adds-up schedule (fits .has-size) (fits .adds-up);
-  p9 = λ schedule. (
-    (λ run. adds-up-once schedule (run .0 .has-size) (complete-adds-up 1 schedule (run .0) (run .1))),
-    (λ e. rw e complete-once),
-  );
-  p9-one-taken = λ schedule taken. let fits = fits-of-answered (caseA 1) schedule 1 taken in adds-up-once schedule (fits .has-size) (fits .adds-up);
-  p9-clean = refl;
+  two-violating-runs = violating-is-two;
+  two-violated = λ schedule room k. (two-of-violated schedule room k, λ is. rw (is .1) (two-answered schedule room (is .0) (is .2)));
+  p8 = every-run-is-clean 0 refl refl refl (omega arith);
+  p8-most-steps = refl;
+  p9 = every-run-is-clean 1 refl refl refl (omega arith);
+  p9-most-steps = refl;
   p10 = one-constraint-met-by-nothing;
 }

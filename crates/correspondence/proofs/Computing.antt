@@ -3,13 +3,13 @@
 use Rattle.model.specs.Lists.{numbersFrom, allFrom, lowestFailing, writtenOver}
 use Rattle.model.specs.CaseFile.{field, kindOf, chain, chains, findLine, findThread}
 use Rattle.model.specs.Accept.{kindRule, verdict}
-use Rattle.model.specs.Line.{localName, guardName, nameOfA, nameOfB, nameOfTarget, guardTrue, apply, expression, guardedInValue, guardedOutValue, valueBy, stops, breaks, strayInput}
-use Rattle.model.specs.Machine.{look, putLocal, putItem, runBlock, runBlocks, run}
-use Rattle.model.specs.Assignment.{assignmentOf}
+use Rattle.model.specs.Line.{localName, guardName, nameOfA, nameOfB, nameOfTarget, guardTrue, apply, expression, guardedInValue, guardedOutValue, valueBy, unrunValue, stops, breaks, strayInput, unrunStray}
+use Rattle.model.specs.Machine.{look, putLocal, putItem, runBlock, strayLeft, firstStrayLeft, runBlocks, run}
+use Rattle.model.specs.Assignment.{assignmentOf, wasRun}
 use Rattle.model.specs.Copies.{latest, copyOf, valueBefore, readLocal, readItem, readName, readAfter, walkBack}
 use Rattle.model.specs.Table.{followRow, lineOrderRows, orderRows, demandRows, valueRows, allOrderRows, allValueRows, itemRows, blockRows, runRows, table, numbersOf}
 use Rattle.model.specs.Holds.{demandMet, fromRecord, someBreaks, someThreadBreaks, holds, firstFailing}
-use Rattle.model.specs.Schedule.{inputLines, allInputLines, valueGiven, stepsOf, lengthsAddUp, runOf, linesInBlock, decodedValues, allDecodedValues, decode}
+use Rattle.model.specs.Schedule.{inputLines, allInputLines, valueGiven, stepsOf, lengthsFit, runOf, linesInBlock, decodedValues, allDecodedValues, decode}
 use Rattle.model.specs.Answers.{onCase, encoded, encodedInto, checked, decoded, decodedInto, replayed, replayedInto}
 use Rattle.model.specs.Listing.{digitsOf, decimal, numbersLine, rowLines, listingText, listed, listedInto}
 
@@ -17,13 +17,13 @@ unfoldable pub computing : Type 0
 unfolding numbersFrom allFrom lowestFailing writtenOver
     field kindOf chain chains findLine findThread
     kindRule verdict
-    localName guardName nameOfA nameOfB nameOfTarget guardTrue apply expression guardedInValue guardedOutValue valueBy stops breaks strayInput
-    look putLocal putItem runBlock runBlocks run
-    assignmentOf
+    localName guardName nameOfA nameOfB nameOfTarget guardTrue apply expression guardedInValue guardedOutValue valueBy unrunValue stops breaks strayInput unrunStray
+    look putLocal putItem runBlock strayLeft firstStrayLeft runBlocks run
+    assignmentOf wasRun
     latest copyOf valueBefore readLocal readItem readName readAfter walkBack
     followRow lineOrderRows orderRows demandRows valueRows allOrderRows allValueRows itemRows blockRows runRows table numbersOf
     demandMet fromRecord someBreaks someThreadBreaks holds firstFailing
-    inputLines allInputLines valueGiven stepsOf lengthsAddUp runOf linesInBlock decodedValues allDecodedValues decode
+    inputLines allInputLines valueGiven stepsOf lengthsFit runOf linesInBlock decodedValues allDecodedValues decode
     onCase encoded encodedInto checked decoded decodedInto replayed replayedInto
     digitsOf decimal numbersLine rowLines listingText listed listedInto
 computing = Unit

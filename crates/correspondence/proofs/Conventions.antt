@@ -14,7 +14,7 @@ use Rattle.model.specs.Listing.{listed, listedNumbers}
 use Rattle.model.specs.declared.Numbers.{Numbers}
 use Rattle.model.specs.declared.Encoded.the-variants.{Table}
 use Rattle.model.specs.declared.Checked.the-variants.{Meets, Fails}
-use Rattle.model.specs.declared.Replayed.the-variants.{Violated, CutOff}
+use Rattle.model.specs.declared.Replayed.the-variants.{Violated, CutOff, Refused}
 use Rattle.correspondence.proofs.Computing.{computing}
 use Rattle.correspondence.proofs.CaseA.{caseA}
 use Rattle.correspondence.proofs.CaseBytes.{header, rec, file}
@@ -213,6 +213,16 @@ inputs-decoded : decodedInto fourInputs
     ≡ 0 ∷ 5 ∷ 4 ∷ 10 ∷ 20 ∷ 30 ∷ 40 ∷ []
 unfolding computing fourInputs
 inputs-decoded = refl
+
+-- Two: "14 at the first such record by thread and chain": not the lowest record. The first that is left with a value is 8 of thread 0,
+-- and where thread 0's have none, 5 of thread 1.
+unrun-inputs-by-thread : replayed fourInputs (0 ∷ 0 ∷ 1 ∷ 10 ∷ 20 ∷ 30 ∷ 40 ∷ []) 4 ≡ Refused 14 8
+unfolding computing fourInputs
+unrun-inputs-by-thread = refl
+
+unrun-inputs-by-chain : replayed fourInputs (0 ∷ 0 ∷ 1 ∷ 10 ∷ 0 ∷ 30 ∷ 40 ∷ []) 4 ≡ Refused 14 5
+unfolding computing fourInputs
+unrun-inputs-by-chain = refl
 
 -- ---- Which assert is named
 

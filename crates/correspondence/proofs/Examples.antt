@@ -45,7 +45,7 @@ earlier-block-not-read : checked (caseA 2) (0 ∷ 0 ∷ 0 ∷ 1 ∷ 2 ∷ 1 ∷ 
 unfolding computing caseA
 earlier-block-not-read = refl
 
--- "2, last line, n: the block number is at most n." Row 8.
+-- "2, last line, n: the block number is at most n"; Two: "allows n + 1". Record 4 in block n + 2, which is thread 0's too: row 8.
 too-late : checked (caseA 2) (0 ∷ 0 ∷ 0 ∷ 1 ∷ 2 ∷ 5 ∷ 4 ∷ 0 ∷ 1 ∷ 5 ∷ 1 ∷ 5 ∷ []) ≡ checkeds.Fails 8
 unfolding computing caseA
 too-late = refl
@@ -193,11 +193,16 @@ no-lines-block-0 : replayed (noLines 0) (1 ∷ []) 0 ≡ replayeds.Refused 13 0
 unfolding computing noLines
 no-lines-block-0 = refl
 
+-- Two: "a thread may stop": thread 1 has no block, and its line is not run.
+no-lines-no-block : replayed (noLines 0) (0 ∷ []) 0 ≡ Clean
+unfolding computing noLines
+no-lines-no-block = refl
+
 no-lines-block-1 : replayed (noLines 1) (0 ∷ 1 ∷ []) 0 ≡ Violated 1
 unfolding computing noLines
 no-lines-block-1 = refl
 
--- T 4 with n 1: threads 2 and 3 have no block, and no lines to run. Row 1 says that record 1's block is thread 1's.
+-- T 4 with n 1: threads 2 and 3 have no block and no lines. Row 1 says that record 1's block is thread 1's.
 fourThreads : List ℕ
 unfolding file
 fourThreads = file (header 4 1 0 0 0 1 0 0) (rec 0 5 0 0 0 16 0 0 [])

@@ -32,8 +32,10 @@ pub mod Demand3
 pub mod KindByKind
 pub mod Computing
 pub mod NoLines
+pub mod EverySchedule
 pub mod CaseA
 pub mod CaseBytes
 pub mod Examples
+pub mod StopExamples
 pub mod Refusals
 pub mod Conventions
