@@ -228,9 +228,14 @@ refused-12 : replayed (caseA 2) (2 ∷ 1 ∷ []) 1 ≡ replayeds.Refused 12 0
 unfolding computing caseA
 refused-12 = refl
 
+-- Two: "refusal 13 is only for more": a step more than the lines of thread 0, and of thread 1 though thread 0 has steps left.
 refused-13 : replayed (caseA 2) (2 ∷ 1 ∷ 3 ∷ []) 1 ≡ replayeds.Refused 13 0
 unfolding computing caseA
 refused-13 = refl
+
+refused-13-thread-1 : replayed (caseA 2) (2 ∷ 2 ∷ 1 ∷ []) 1 ≡ replayeds.Refused 13 0
+unfolding computing caseA
+refused-13-thread-1 = refl
 
 -- "10 .. 12": 10 comes first.
 order-10-12 : replayed (caseA 2) (2 ∷ 1 ∷ []) 0 ≡ replayeds.Refused 10 0

@@ -138,14 +138,10 @@ stops-before-the-lock : replayed stopsAfterTwo (2 ∷ []) 1 ≡ Violated 2
 unfolding computing stopsAfterTwo
 stops-before-the-lock = refl
 
--- "Block lengths may add up to less than a thread's lines, so refusal 13 is only for more."
+-- "Block lengths may add up to less than a thread's lines": each thread of case A leaves one. What is refused is in Refusals.
 fewer-lines-run : replayed (caseA 2) (2 ∷ 0 ∷ 1 ∷ []) 1 ≡ Clean
 unfolding computing caseA
 fewer-lines-run = refl
-
-more-refused : replayed (caseA 2) (2 ∷ 2 ∷ 1 ∷ []) 1 ≡ Refused 13 0
-unfolding computing caseA
-more-refused = refl
 
 -- ---- Inputs that were not run
 
