@@ -26,6 +26,12 @@ pub record AllGiven (bytes givens : List ℕ) : Type 0 where
   pub accepted : Accepted bytes
   pub all-given : records bytes < length givens
 
+-- The same, and a thread is at record k, or at its end where k is 0.
+pub record RestReady (bytes givens : List ℕ) (k : ℕ) : Type 0 where
+  pub accepted : Accepted bytes
+  pub all-given : records bytes < length givens
+  pub within : k ≤ records bytes
+
 -- The same, and every thread is at a record or at its end.
 pub record RunReady (bytes givens : List ℕ) (threads : List Thread) : Type 0 where
   pub accepted : Accepted bytes
@@ -37,12 +43,6 @@ pub record RunReady (bytes givens : List ℕ) (threads : List Thread) : Type 0 w
 pub record RunAtBlock (bytes lengths givens : List ℕ) (threads : List Thread) (i : ℕ) : Type 0 where
   pub ready : RunReady bytes givens threads
   pub is-block : i < length lengths
-
--- The same for one thread, at record k or at its end.
-pub record RestReady (bytes givens : List ℕ) (k : ℕ) : Type 0 where
-  pub accepted : Accepted bytes
-  pub all-given : records bytes < length givens
-  pub within : k ≤ records bytes
 
 -- The same for a block's thread.
 pub record BlockReady (bytes lengths givens : List ℕ) (thread : Thread) (i : ℕ) : Type 0 where
