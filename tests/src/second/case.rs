@@ -64,6 +64,12 @@ impl Record {
         }
     }
 
+    /// The value of a line that was not run: "the value is 0, or 1 for assert
+    /// and assume".
+    pub fn unrun_value(&self) -> u16 {
+        u16::from(matches!(self.kind, ASSERT | ASSUME))
+    }
+
     pub fn has_expression(&self) -> bool {
         matches!(self.kind, COMPUTE | STORE | ASSERT | ASSUME)
     }
@@ -136,6 +142,11 @@ impl Case {
     pub fn thread_of_block(&self, block: usize) -> usize {
         let skipped = self.wrong == Wrong::EmptyThreadPassedOver && self.chains[0].is_empty();
         (block + usize::from(skipped)) % self.threads
+    }
+
+    /// "A line with block number n + 1 was not run".
+    pub fn unrun_block(&self) -> u16 {
+        self.switches as u16 + 1
     }
 
     /// Items are numbered "globals first, then mutexes".

@@ -27,10 +27,11 @@ impl Assigned<'_> {
         match kind {
             // "the block number does not fall"
             1 => self.block(line) <= self.block(row[2]),
-            // "the block number is at most n"
-            2 => self.block(line) <= row[2],
-            // "the block number modulo T is the thread"
-            3 => self.block(line) % row[2] == row[3],
+            // "the block number is at most n"; "constraint 2 then allows n + 1"
+            2 => self.block(line) <= row[2] + 1,
+            // "the block number modulo T is the thread"; "constraint 3 accepts
+            // it", a line that was not run
+            3 => !self.was_run(line) || self.block(line) % row[2] == row[3],
             4 => self.value_is_kept(row),
             5 => self.demand_is_met(row),
             6 => self.block_value_is_kept(row),
@@ -44,14 +45,19 @@ impl Assigned<'_> {
         self.numbers[2 * (usize::from(line) - 1)]
     }
 
+    /// "A line with block number n + 1 was not run".
+    pub fn was_run(&self, line: u16) -> bool {
+        self.block(line) != self.case.unrun_block()
+    }
+
     /// "and 2(k − 1) + 1, its value".
     pub fn value(&self, line: u16) -> u16 {
         self.numbers[2 * (usize::from(line) - 1) + 1]
     }
 
     /// "block i (0 ≤ i < n), item g at 2R + i × (G + M) + g". No other block is
-    /// asked for once the 1s and 2s are met; a mistaken order that asks all
-    /// the same gets 0.
+    /// asked for of lines that were run once the 1s and 2s are met; a mistaken
+    /// order that asks all the same gets 0.
     fn block_value(&self, block: usize, item: usize) -> u16 {
         let first = 2 * self.case.records.len();
         let variable = first + block * self.case.items() + item;
@@ -101,6 +107,9 @@ impl Assigned<'_> {
     fn value_is_kept(&self, row: Row) -> bool {
         let [_, line, guard_copy, ..] = row;
         let record = self.case.record(line);
+        if !self.was_run(line) {
+            return self.value(line) == record.unrun_value();
+        }
         let guarded_in = self.guard_is_true(record, guard_copy);
         if guarded_in && record.kind == INPUT {
             // "an input is free"
@@ -144,10 +153,13 @@ impl Assigned<'_> {
     }
 
     /// "an assume's value is 1 (both copies then 0); a lock whose guard is
-    /// true reads 0".
+    /// true reads 0"; of a line that was not run "constraint 5 is met".
     fn demand_is_met(&self, row: Row) -> bool {
         let [_, line, guard_copy, target_copy, ..] = row;
         let record = self.case.record(line);
+        if !self.was_run(line) {
+            return true;
+        }
         if record.kind == ASSUME {
             return self.value(line) == 1;
         }

@@ -26,7 +26,7 @@ fn block_length(assigned: &Assigned, block: usize) -> u16 {
 fn input_value(assigned: &Assigned, rows: &[Row], line: u16) -> u16 {
     let record = assigned.case.record(line);
     let guarded_in = assigned.guard_is_true(record, guard_copy(rows, line));
-    if guarded_in || assigned.case.wrong == Wrong::FalseInputKept {
+    if assigned.was_run(line) && guarded_in || assigned.case.wrong == Wrong::FalseInputKept {
         assigned.value(line)
     } else {
         0

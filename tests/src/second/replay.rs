@@ -4,13 +4,14 @@
 use super::case::{Case, Record, ASSERT, ASSUME, COMPUTE, INPUT, LOAD, LOCK, STORE, UNLOCK};
 use super::wrong::Wrong;
 
-/// What ends a run before its last step.
+/// What a run ends with, where it does not end well.
 #[derive(Clone, Copy)]
 pub enum Stop {
     /// "an assume that is zero or a lock whose mutex is not 0 ends the run"
     CutOff(u16),
-    /// "an input's schedule value must be 0 (else refusal 14)"
-    FalseInput(u16),
+    /// "an input's schedule value must be 0 (else refusal 14)", of one with a
+    /// false guard and of one that was not run
+    StrayInput(u16),
 }
 
 /// "It holds for each thread its next line, at first the thread's first
@@ -56,7 +57,20 @@ impl<'a> Machine<'a> {
                 }
             }
         }
-        None
+        self.stray_left()
+    }
+
+    /// "An unrun input has value 0, otherwise 14 at the first such record by
+    /// thread and chain, looked for after the last step."
+    fn stray_left(&self) -> Option<Stop> {
+        let mut left = self.threads.iter().flat_map(|thread| self.lines_from(thread.next_line));
+        left.find(|&line| self.is_stray(line)).map(Stop::StrayInput)
+    }
+
+    /// The lines of a chain from this one on.
+    fn lines_from(&self, line: u16) -> impl Iterator<Item = u16> + '_ {
+        let line_or_none = |line: u16| (line != 0).then_some(line);
+        std::iter::successors(line_or_none(line), move |&line| line_or_none(self.case.record(line).next))
     }
 
     /// The items' values, "globals first, then mutexes".
@@ -74,7 +88,7 @@ impl<'a> Machine<'a> {
         }
         let record = case.record(line);
         let stop =
-            if self.guard_is_true(thread, record) { self.run_line(thread, line, record) } else { self.pass_line(line, record) };
+            if self.guard_is_true(thread, record) { self.run_line(thread, line, record) } else { self.pass_line(line) };
         if stop.is_none() {
             // "After any other step the record that follows becomes the next
             // line."
@@ -90,9 +104,13 @@ impl<'a> Machine<'a> {
 
     /// "Guard false: no local, global or mutex changes, and an input's
     /// schedule value must be 0".
-    fn pass_line(&self, line: u16, record: &Record) -> Option<Stop> {
-        let refused = record.kind == INPUT && self.input_value(line) != 0;
-        refused.then_some(Stop::FalseInput(line))
+    fn pass_line(&self, line: u16) -> Option<Stop> {
+        self.is_stray(line).then_some(Stop::StrayInput(line))
+    }
+
+    /// Whether the line is an input with a value other than 0.
+    fn is_stray(&self, line: u16) -> bool {
+        self.case.record(line).kind == INPUT && self.input_value(line) != 0
     }
 
     /// "Guard true: compute, store, load, lock and unlock do what Kinds says,

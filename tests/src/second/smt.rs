@@ -75,6 +75,12 @@ impl<'a> Speller<'a> {
         format!("v{}", 2 * (usize::from(line) - 1))
     }
 
+    /// "not run of k: `(= B #xU)`, where `B` is block of k and `#xU` the constant
+    /// n + 1"
+    fn not_run(&self, line: u16) -> String {
+        equal(&self.block(line), &constant(self.case.unrun_block()))
+    }
+
     /// "value of k: variable 2(k − 1) + 1"
     fn value(&self, line: u16) -> String {
         format!("v{}", 2 * (usize::from(line) - 1) + 1)
@@ -168,8 +174,9 @@ impl<'a> Speller<'a> {
         let [kind, line, ..] = row;
         match kind {
             1 => format!("(bvule {} {})", self.block(line), self.block(row[2])),
-            2 => format!("(bvule {} {})", self.block(line), constant(row[2])),
-            3 => equal(&format!("(bvurem {} {})", self.block(line), constant(row[2])), &constant(row[3])),
+            // "block of k and the constant n + 1"
+            2 => format!("(bvule {} {})", self.block(line), constant(row[2] + 1)),
+            3 => self.thread_formula(row),
             4 => self.value_formula(row),
             5 => self.demand_formula(row),
             6 => self.block_value_formula(row),
@@ -177,8 +184,24 @@ impl<'a> Speller<'a> {
         }
     }
 
-    /// "For guard 0 it is `IN`, else `(ite G IN OUT)`".
+    /// "3, line k, T, t: `(or U M)`, with `U` for not run of k and `M` for
+    /// `(= (bvurem B #xT) #xt)`".
+    fn thread_formula(&self, row: Row) -> String {
+        let [_, line, threads, thread, ..] = row;
+        let remainder = format!("(bvurem {} {})", self.block(line), constant(threads));
+        format!("(or {} {})", self.not_run(line), equal(&remainder, &constant(thread)))
+    }
+
+    /// "`(ite U (= V #x0000) F)`, for assert and assume `(ite U (= V #x0001) F)`,
+    /// with `U` for not run of k and `V` for value of k."
     fn value_formula(&self, row: Row) -> String {
+        let [_, line, ..] = row;
+        let unrun_value = constant(self.case.record(line).unrun_value());
+        if_else(&self.not_run(line), &equal(&self.value(line), &unrun_value), &self.value_of_run(row))
+    }
+
+    /// "For guard 0 `F` is `IN`, else `(ite G IN OUT)`".
+    fn value_of_run(&self, row: Row) -> String {
         let [_, line, guard_copy, ..] = row;
         let record = self.case.record(line);
         match self.guard(record, guard_copy) {
@@ -241,9 +264,17 @@ impl<'a> Speller<'a> {
         nested("and", facts, formula)
     }
 
-    /// "5, line k, guard copy, target copy: for an assume `(= V #x0001)`. For
-    /// a lock: with F for '`#x0000` is the mutex as line k reads it'".
+    /// "5, line k, guard copy, target copy: `(or U F)`, with `U` for not run of
+    /// k."
     fn demand_formula(&self, row: Row) -> String {
+        let [_, line, ..] = row;
+        format!("(or {} {})", self.not_run(line), self.demand_of_run(row))
+    }
+
+    /// "For an assume `F` is `(= V #x0001)`. For a lock: with `D` for '`#x0000`
+    /// is the mutex as line k reads it with the target copy', for guard 0 `F` is
+    /// `D`, else `(=> G D)`".
+    fn demand_of_run(&self, row: Row) -> String {
         let [_, line, guard_copy, target_copy, ..] = row;
         let record = self.case.record(line);
         if record.kind == ASSUME {
