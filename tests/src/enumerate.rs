@@ -2,8 +2,8 @@
 
 use crate::draft::Draft;
 
-/// Every vector of n + 1 block lengths that add up to each thread's lines, in
-/// ascending order.
+/// Every vector of n + 1 block lengths that add up to at most each thread's
+/// lines, in ascending order.
 pub fn block_lengths(draft: &Draft) -> Vec<Vec<u16>> {
     let left: Vec<u16> = draft.chains().iter().map(|chain| chain.len() as u16).collect();
     let mut all = Vec::new();
@@ -16,9 +16,7 @@ pub fn block_lengths(draft: &Draft) -> Vec<Vec<u16>> {
 fn extend(draft: &Draft, lengths: &mut Vec<u16>, left: &[u16], all: &mut Vec<Vec<u16>>) {
     let block = lengths.len();
     if block == draft.blocks() {
-        if left.iter().all(|&lines| lines == 0) {
-            all.push(lengths.clone());
-        }
+        all.push(lengths.clone());
         return;
     }
     let thread = block % usize::from(draft.threads);
@@ -29,6 +27,13 @@ fn extend(draft: &Draft, lengths: &mut Vec<u16>, left: &[u16], all: &mut Vec<Vec
         extend(draft, lengths, &left, all);
         lengths.pop();
     }
+}
+
+/// Whether the block lengths of a schedule that refusals 12 and 13 do not meet
+/// add up to all lines.
+pub fn runs_all_lines(draft: &Draft, schedule: &[u16]) -> bool {
+    let steps: u16 = schedule[..draft.blocks()].iter().sum();
+    usize::from(steps) == draft.records.len()
 }
 
 /// Every schedule whose input values are among those given.

@@ -46,10 +46,9 @@ fn some_schedules(calls: &dyn Calls, tally: &mut Tally) -> Outcome {
         let draft = accepted(&mut random, [ANY, LONG, FULL][seed as usize % 3]);
         let table = table_of(calls, &draft.bytes())?;
         for _ in 0..10 {
-            if let Some(schedule) = schedule(&mut random, &draft) {
-                seen_alike(calls, &draft, &table, &schedule, tally)
-                    .map_err(|message| format!("seed {seed}: {message}; case {draft}"))?;
-            }
+            let schedule = schedule(&mut random, &draft);
+            seen_alike(calls, &draft, &table, &schedule, tally)
+                .map_err(|message| format!("seed {seed}: {message}; case {draft}"))?;
         }
     }
     for reply in ["violated", "clean", "cut off", "refused 14"] {

@@ -130,7 +130,7 @@ impl<'a> Speller<'a> {
         let reader = self.block(line);
         let in_block = |block: usize| (equal(&reader, &constant(block as u16)), self.is(x, &self.before(item, block)));
         let mut cases: Vec<(String, String)> = self.own_blocks(line).into_iter().map(in_block).collect();
-        // The other blocks are excluded by the 1s, 2s and 3s, but the page has the case.
+        // No line that was run comes to it, by the 1s, 2s and 3s, but the page has the case.
         let innermost = match (self.case.wrong, cases.pop()) {
             (Wrong::LastBlockElse, Some((_, formula))) => formula,
             (_, last) => {
