@@ -73,13 +73,18 @@ pub fn assignments(random: &mut Random, draft: &Draft) -> Vec<Vec<u16>> {
     all
 }
 
-/// The assignment with one or two numbers changed, mostly by little.
+/// The assignment with one or two numbers changed, mostly by little, or with a
+/// line left out.
 fn damaged_assignment(random: &mut Random, draft: &Draft, numbers: &[u16]) -> Vec<u16> {
     let mut numbers = numbers.to_vec();
     if numbers.is_empty() {
         return numbers;
     }
     let (switches, threads) = (draft.switches, draft.threads);
+    if !draft.records.is_empty() && random.chance(20) {
+        leave_out_a_line(random, draft, &mut numbers);
+        return numbers;
+    }
     for _ in 0..random.between(1, 2) {
         let place = random.below(numbers.len());
         numbers[place] = match random.below(6) {
@@ -92,6 +97,17 @@ fn damaged_assignment(random: &mut Random, draft: &Draft, numbers: &[u16]) -> Ve
         };
     }
     numbers
+}
+
+/// A line is marked as not run, whatever comes after it; its value is then mostly
+/// right.
+fn leave_out_a_line(random: &mut Random, draft: &Draft, numbers: &mut [u16]) {
+    let record = random.below(draft.records.len());
+    numbers[2 * record] = draft.unrun_block();
+    numbers[2 * record + 1] = match random.chance(80) {
+        true => draft.records[record].unrun_value(),
+        false => random.word(),
+    };
 }
 
 /// Room for a result: mostly enough, at times too little or some to spare.

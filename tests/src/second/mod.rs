@@ -236,8 +236,13 @@ fn block_lengths_fit(case: &Case, schedule: &[u16]) -> Result<(), Refusal> {
     if case.wrong == Wrong::LengthsWrap {
         sums.iter_mut().for_each(|sum| *sum %= 65_536);
     }
+    let fits = |lines: u32, sum: u32| match case.wrong {
+        Wrong::NoThreadStops => sum == lines,
+        Wrong::MoreThanLines => true,
+        _ => sum <= lines,
+    };
     let mut threads = case.chains.iter().zip(sums);
-    if threads.any(|(chain, sum)| sum > chain.len() as u32) {
+    if !threads.all(|(chain, sum)| fits(chain.len() as u32, sum)) {
         return Err(refusal(13));
     }
     Ok(())

@@ -49,6 +49,12 @@ impl<'a> Machine<'a> {
     /// "For i from 0 to n it steps the thread of block i as often as the
     /// length of block i says".
     pub fn run(&mut self) -> Option<Stop> {
+        if self.case.wrong == Wrong::StrayLeftFirst {
+            let stray = self.first_stray(self.lines_left_by_lengths());
+            if stray.is_some() {
+                return stray;
+            }
+        }
         for block in 0..=self.case.switches {
             for _ in 0..self.schedule[block] {
                 let stop = self.step(self.case.thread_of_block(block));
@@ -57,20 +63,41 @@ impl<'a> Machine<'a> {
                 }
             }
         }
-        self.stray_left()
+        // "An unrun input has value 0, otherwise 14 [...], looked for after the
+        // last step."
+        self.first_stray(self.lines_left())
     }
 
-    /// "An unrun input has value 0, otherwise 14 at the first such record by
-    /// thread and chain, looked for after the last step."
-    fn stray_left(&self) -> Option<Stop> {
-        let mut left = self.threads.iter().flat_map(|thread| self.lines_from(thread.next_line));
-        left.find(|&line| self.is_stray(line)).map(Stop::StrayInput)
+    /// "at the first such record by thread and chain"
+    fn first_stray(&self, mut left: Vec<u16>) -> Option<Stop> {
+        match self.case.wrong {
+            Wrong::StrayLeftUnseen => left.clear(),
+            Wrong::StrayLeftByRecord => left.sort(),
+            _ => {}
+        }
+        left.into_iter().find(|&line| self.is_stray(line)).map(Stop::StrayInput)
     }
 
-    /// The lines of a chain from this one on.
-    fn lines_from(&self, line: u16) -> impl Iterator<Item = u16> + '_ {
-        let line_or_none = |line: u16| (line != 0).then_some(line);
-        std::iter::successors(line_or_none(line), move |&line| line_or_none(self.case.record(line).next))
+    /// The lines that the threads have left, by thread and chain.
+    fn lines_left(&self) -> Vec<u16> {
+        let mut left = Vec::new();
+        for thread in &self.threads {
+            let mut line = thread.next_line;
+            while line != 0 {
+                left.push(line);
+                line = self.case.record(line).next;
+            }
+        }
+        left
+    }
+
+    /// The lines that a run to its end would leave.
+    fn lines_left_by_lengths(&self) -> Vec<u16> {
+        let mut left = self.case.chains.clone();
+        for block in 0..=self.case.switches {
+            left[self.case.thread_of_block(block)].drain(..usize::from(self.schedule[block]));
+        }
+        left.concat()
     }
 
     /// The items' values, "globals first, then mutexes".

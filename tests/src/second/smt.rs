@@ -78,7 +78,10 @@ impl<'a> Speller<'a> {
     /// "not run of k: `(= B #xU)`, where `B` is block of k and `#xU` the constant
     /// n + 1"
     fn not_run(&self, line: u16) -> String {
-        equal(&self.block(line), &constant(self.case.unrun_block()))
+        match self.case.wrong {
+            Wrong::UnrunPastN => format!("(bvule {} {})", constant(self.case.unrun_block()), self.block(line)),
+            _ => equal(&self.block(line), &constant(self.case.unrun_block())),
+        }
     }
 
     /// "value of k: variable 2(k − 1) + 1"
@@ -173,7 +176,8 @@ impl<'a> Speller<'a> {
     fn formula(&self, row: Row) -> String {
         let [kind, line, ..] = row;
         match kind {
-            1 => format!("(bvule {} {})", self.block(line), self.block(row[2])),
+            1 => self.order_formula(row),
+            2 if self.case.wrong == Wrong::UnrunTooLate => format!("(bvule {} {})", self.block(line), constant(row[2])),
             // "block of k and the constant n + 1"
             2 => format!("(bvule {} {})", self.block(line), constant(row[2] + 1)),
             3 => self.thread_formula(row),
@@ -184,20 +188,39 @@ impl<'a> Speller<'a> {
         }
     }
 
+    /// "1, line k, next line l: `(bvule B C)`, block of k and block of l".
+    fn order_formula(&self, row: Row) -> String {
+        let [_, line, next, ..] = row;
+        let order = format!("(bvule {} {})", self.block(line), self.block(next));
+        match self.case.wrong {
+            Wrong::RunAfterUnrun => format!("(or {} {order})", self.not_run(line)),
+            _ => order,
+        }
+    }
+
     /// "3, line k, T, t: `(or U M)`, with `U` for not run of k and `M` for
     /// `(= (bvurem B #xT) #xt)`".
     fn thread_formula(&self, row: Row) -> String {
         let [_, line, threads, thread, ..] = row;
         let remainder = format!("(bvurem {} {})", self.block(line), constant(threads));
-        format!("(or {} {})", self.not_run(line), equal(&remainder, &constant(thread)))
+        let own = equal(&remainder, &constant(thread));
+        match self.case.wrong {
+            Wrong::UnrunHasThread => own,
+            _ => format!("(or {} {own})", self.not_run(line)),
+        }
     }
 
     /// "`(ite U (= V #x0000) F)`, for assert and assume `(ite U (= V #x0001) F)`,
     /// with `U` for not run of k and `V` for value of k."
     fn value_formula(&self, row: Row) -> String {
         let [_, line, ..] = row;
-        let unrun_value = constant(self.case.record(line).unrun_value());
-        if_else(&self.not_run(line), &equal(&self.value(line), &unrun_value), &self.value_of_run(row))
+        let record = self.case.record(line);
+        let is_unrun_value = equal(&self.value(line), &constant(self.case.unrun_value(record)));
+        match self.case.wrong {
+            Wrong::UnrunInLastBlock => self.value_of_run(row),
+            Wrong::UnrunInputFree if record.kind == INPUT => if_else(&self.not_run(line), "true", &self.value_of_run(row)),
+            _ => if_else(&self.not_run(line), &is_unrun_value, &self.value_of_run(row)),
+        }
     }
 
     /// "For guard 0 `F` is `IN`, else `(ite G IN OUT)`".
@@ -268,7 +291,10 @@ impl<'a> Speller<'a> {
     /// k."
     fn demand_formula(&self, row: Row) -> String {
         let [_, line, ..] = row;
-        format!("(or {} {})", self.not_run(line), self.demand_of_run(row))
+        match self.case.wrong {
+            Wrong::DemandOfUnrun => self.demand_of_run(row),
+            _ => format!("(or {} {})", self.not_run(line), self.demand_of_run(row)),
+        }
     }
 
     /// "For an assume `F` is `(= V #x0001)`. For a lock: with `D` for '`#x0000`
