@@ -36,6 +36,27 @@ pub fn runs_all_lines(draft: &Draft, schedule: &[u16]) -> bool {
     usize::from(steps) == draft.records.len()
 }
 
+/// The lines that such a schedule runs if nothing cuts it off, by thread and
+/// chain.
+pub fn lines_run(draft: &Draft, schedule: &[u16]) -> Vec<u16> {
+    let mut lines = draft.chains();
+    for (thread, chain) in lines.iter_mut().enumerate() {
+        let own_blocks = schedule[..draft.blocks()].iter().skip(thread).step_by(usize::from(draft.threads));
+        chain.truncate(own_blocks.sum::<u16>().into());
+    }
+    lines.concat()
+}
+
+/// Every schedule of a case with one input, but for those with a value for the
+/// input where it is not run.
+pub fn schedules_with_all_values(draft: &Draft) -> impl Iterator<Item = Vec<u16>> + '_ {
+    block_lengths(draft).into_iter().flat_map(|lengths| {
+        let is_run = draft.inputs().iter().all(|input| lines_run(draft, &lengths).contains(input));
+        let most = if is_run { u16::MAX } else { 0 };
+        (0..=most).map(move |value| [lengths.as_slice(), &[value]].concat())
+    })
+}
+
 /// Every schedule whose input values are among those given.
 pub fn schedules(draft: &Draft, input_values: &[u16]) -> Vec<Vec<u16>> {
     let mut schedules = block_lengths(draft);

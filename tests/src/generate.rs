@@ -75,6 +75,12 @@ pub const BUSY: Shape = Shape {
 /// As busy, with inputs.
 pub const BUSY_WITH_INPUTS: Shape = Shape { inputs: 40, switches: (2, 4), ..BUSY };
 
+/// So few runs that a solver can be asked for every one that violates.
+pub const TINY: Shape = Shape { threads: (2, 2), switches: (1, 3), lines: (1, 3), ..BUSY };
+
+/// As few, with inputs, so that each can have every value.
+pub const TINY_WITH_INPUTS: Shape = Shape { inputs: 40, switches: (1, 2), ..TINY };
+
 /// More inputs than a text has sources, and comparisons of them.
 pub const MANY_INPUTS: Shape = Shape { inputs: 30, globals: (1, 3), mutexes: (0, 2), lines: (3, 12), locals: 3, ..BUSY };
 
