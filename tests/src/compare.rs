@@ -14,7 +14,7 @@ use crate::random::Random;
 use crate::report::{Outcome, Tally};
 use crate::second;
 use crate::table::MOST_NUMBERS;
-use crate::vary::{assignments, damage_schedule, filled, schedule_or_zeros, some_room};
+use crate::vary::{assignments, damage_schedule, filled, schedule, some_room};
 
 /// A comparison: the library under test, the number of rounds, the count.
 pub type Comparison = fn(&dyn Calls, u64, &mut Tally) -> Outcome;
@@ -62,7 +62,7 @@ pub fn decodings(calls: &dyn Calls, count: u64, tally: &mut Tally) -> Outcome {
 pub fn replays(calls: &dyn Calls, count: u64, tally: &mut Tally) -> Outcome {
     rounds(5_000_000, count, |random, draft| {
         for _ in 0..6 {
-            let mut schedule = schedule_or_zeros(random, draft);
+            let mut schedule = schedule(random, draft);
             if random.chance(25) {
                 damage_schedule(random, draft, &mut schedule);
             }
@@ -224,7 +224,7 @@ fn every_length(calls: &dyn Calls, random: &mut Random, draft: &Draft, tally: &m
     for room in 0..=needed + 1 {
         same_decoding(calls, &case, &longest[..draft.variables()], room, tally)?;
     }
-    let longest = [schedule_or_zeros(random, draft), vec![0]].concat();
+    let longest = [schedule(random, draft), vec![0]].concat();
     for room in 0..=draft.items() + 1 {
         for length in 0..=longest.len() {
             same_replay(calls, &case, &longest[..length], room, tally)?;

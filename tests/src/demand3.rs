@@ -8,7 +8,7 @@ use crate::ask::{check, decode, reply};
 use crate::calls::{Calls, Checked, Replayed};
 use crate::determined::Determined;
 use crate::draft::Draft;
-use crate::enumerate::{schedules, with_each};
+use crate::enumerate::{runs_all_lines, schedules, with_each};
 use crate::fill::fill;
 use crate::generate::{accepted, Shape};
 use crate::random::Random;
@@ -50,10 +50,7 @@ fn compare_case(calls: &dyn Calls, draft: &Draft, input_values: &[u16], random: 
         let numbers = fill(draft, schedule);
         tally.holds(meeting.contains(&numbers), || format!("{schedule:?} filled"))?;
     }
-    if draft.inputs().is_empty() {
-        values_are_determined(calls, draft, &meeting, random, tally)?;
-    }
-    Ok(())
+    values_are_determined(calls, draft, &meeting, random, tally)
 }
 
 /// Replays every schedule and gives those that violate, in ascending order.
@@ -109,6 +106,7 @@ pub fn seen_alike(
     };
     tally.holds(agrees, || format!("{schedule:?}: {reply:?}, but {checked:?}"))?;
     tally.saw(match reply {
+        Replayed::Violated(_) if runs_all_lines(draft, schedule) => "violated by all lines",
         Replayed::Violated(_) => "violated",
         Replayed::Clean => "clean",
         Replayed::CutOff(_) => "cut off",
@@ -148,9 +146,9 @@ fn meeting_assignments(
     Ok(meeting)
 }
 
-/// Without inputs, changing any value or block value of an assignment that
-/// meets the table must make it fail: there is no second one with these block
-/// numbers.
+/// Changing the value of a line that was not run must make an assignment fail
+/// that meets the table; without inputs, so must changing any value or block
+/// value. Then there is no second one with these block numbers.
 fn values_are_determined(
     calls: &dyn Calls,
     draft: &Draft,
@@ -160,8 +158,13 @@ fn values_are_determined(
 ) -> Outcome {
     let block_numbers_end = 2 * draft.records.len();
     let is_value = |variable: &usize| variable % 2 == 1 || *variable >= block_numbers_end;
-    let values: Vec<usize> = (0..draft.variables()).filter(is_value).collect();
     for numbers in meeting {
+        let is_of_unrun = |variable: usize| variable < block_numbers_end && numbers[variable - 1] == draft.unrun_block();
+        let is_determined = |variable: &usize| draft.inputs().is_empty() || is_of_unrun(*variable);
+        let values: Vec<usize> = (0..draft.variables()).filter(is_value).filter(is_determined).collect();
+        if values.is_empty() {
+            continue;
+        }
         let variable = random.pick(&values);
         let mut changed = numbers.clone();
         changed[variable] ^= 1 << random.below(16);

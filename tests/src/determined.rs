@@ -1,9 +1,10 @@
 //! The one assignment that block numbers and input values leave open.
 //!
 //! With the block numbers fixed, each 4 gives the value of its line and each 6
-//! a block value, from what stands before them in running order. The rows are
-//! read as they are in the table, with the case's records beside them; nothing
-//! is taken from the encoder or the checker under test.
+//! a block value, from what stands before them in running order; to a line that
+//! was not run it gives the same whatever stands there. The rows are read as they
+//! are in the table, with the case's records beside them; nothing is taken from
+//! the encoder or the checker under test.
 
 use crate::draft::Draft;
 use crate::line::*;
@@ -19,13 +20,14 @@ pub struct Determined<'a> {
 }
 
 impl<'a> Determined<'a> {
-    /// `inputs` has a value for each record; only those of free inputs are
-    /// looked at.
+    /// `inputs` has a value for each record; only those of free inputs that are
+    /// run are looked at.
     pub fn assignment(draft: &'a Draft, table: &'a Table, blocks: &'a [u16], inputs: &'a [u16]) -> Result<Vec<u16>, String> {
         let numbers = vec![0; draft.variables()];
         let mut open = Determined { draft, table, blocks, inputs, numbers };
         for (record, &block) in blocks.iter().enumerate() {
             open.numbers[2 * record] = block;
+            open.numbers[2 * record + 1] = draft.records[record].unrun_value();
         }
         for block in 0..draft.blocks() {
             open.settle_lines(block)?;

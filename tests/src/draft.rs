@@ -108,6 +108,11 @@ impl Draft {
         usize::from(self.switches) + 1
     }
 
+    /// The block number of a line that was not run.
+    pub fn unrun_block(&self) -> u16 {
+        self.switches + 1
+    }
+
     pub fn variables(&self) -> usize {
         2 * self.records.len() + usize::from(self.switches) * self.items()
     }

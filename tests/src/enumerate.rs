@@ -2,8 +2,8 @@
 
 use crate::draft::Draft;
 
-/// Every vector of n + 1 block lengths that add up to each thread's lines, in
-/// ascending order.
+/// Every vector of n + 1 block lengths that add up to at most each thread's
+/// lines, in ascending order.
 pub fn block_lengths(draft: &Draft) -> Vec<Vec<u16>> {
     let left: Vec<u16> = draft.chains().iter().map(|chain| chain.len() as u16).collect();
     let mut all = Vec::new();
@@ -16,9 +16,7 @@ pub fn block_lengths(draft: &Draft) -> Vec<Vec<u16>> {
 fn extend(draft: &Draft, lengths: &mut Vec<u16>, left: &[u16], all: &mut Vec<Vec<u16>>) {
     let block = lengths.len();
     if block == draft.blocks() {
-        if left.iter().all(|&lines| lines == 0) {
-            all.push(lengths.clone());
-        }
+        all.push(lengths.clone());
         return;
     }
     let thread = block % usize::from(draft.threads);
@@ -29,6 +27,34 @@ fn extend(draft: &Draft, lengths: &mut Vec<u16>, left: &[u16], all: &mut Vec<Vec
         extend(draft, lengths, &left, all);
         lengths.pop();
     }
+}
+
+/// Whether the block lengths of a schedule that refusals 12 and 13 do not meet
+/// add up to all lines.
+pub fn runs_all_lines(draft: &Draft, schedule: &[u16]) -> bool {
+    let steps: u16 = schedule[..draft.blocks()].iter().sum();
+    usize::from(steps) == draft.records.len()
+}
+
+/// The lines that such a schedule runs if nothing cuts it off, by thread and
+/// chain.
+pub fn lines_run(draft: &Draft, schedule: &[u16]) -> Vec<u16> {
+    let mut lines = draft.chains();
+    for (thread, chain) in lines.iter_mut().enumerate() {
+        let own_blocks = schedule[..draft.blocks()].iter().skip(thread).step_by(usize::from(draft.threads));
+        chain.truncate(own_blocks.sum::<u16>().into());
+    }
+    lines.concat()
+}
+
+/// Every schedule of a case with one input, but for those with a value for the
+/// input where it is not run.
+pub fn schedules_with_all_values(draft: &Draft) -> impl Iterator<Item = Vec<u16>> + '_ {
+    block_lengths(draft).into_iter().flat_map(|lengths| {
+        let is_run = draft.inputs().iter().all(|input| lines_run(draft, &lengths).contains(input));
+        let most = if is_run { u16::MAX } else { 0 };
+        (0..=most).map(move |value| [lengths.as_slice(), &[value]].concat())
+    })
 }
 
 /// Every schedule whose input values are among those given.

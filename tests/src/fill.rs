@@ -2,7 +2,7 @@
 //! seen. This is neither the machine of the second implementation nor the
 //! meaning of its constraints: a line's value is what its target holds right
 //! after the line, and a block value is what the item holds when the block
-//! ends.
+//! ends. A line that is not run stays as it was written down beforehand.
 
 use crate::draft::Draft;
 use crate::line::*;
@@ -32,7 +32,7 @@ pub fn fill(draft: &Draft, schedule: &[u16]) -> Vec<u16> {
         left,
         locals: vec![[0; 16]; usize::from(draft.threads)],
         items: draft.items_at_start(),
-        assignment: vec![0; draft.variables()],
+        assignment: nothing_run(draft),
     };
     for (block, &length) in schedule[..draft.blocks()].iter().enumerate() {
         for _ in 0..length {
@@ -43,10 +43,18 @@ pub fn fill(draft: &Draft, schedule: &[u16]) -> Vec<u16> {
     run.assignment
 }
 
+/// No line was run, and no block has ended.
+fn nothing_run(draft: &Draft) -> Vec<u16> {
+    let lines = draft.records.iter().flat_map(|line| [draft.unrun_block(), line.unrun_value()]);
+    let mut assignment: Vec<u16> = lines.collect();
+    assignment.resize(draft.variables(), 0);
+    assignment
+}
+
 impl Watched<'_> {
     fn step(&mut self, block: usize) {
         let thread = block % usize::from(self.draft.threads);
-        let number = self.left[thread].pop().expect("the lengths add up");
+        let number = self.left[thread].pop().expect("the lengths are not more than the lines");
         let value = self.run_line(thread, number);
         let place = 2 * (usize::from(number) - 1);
         self.assignment[place] = block as u16;

@@ -62,10 +62,10 @@ pub const SMALL_WITH_INPUTS: Shape = Shape { inputs: 25, switches: (1, 4), ..SMA
 /// that much depends on the order of the blocks.
 pub const BUSY: Shape = Shape {
     threads: (2, 3),
-    switches: (2, 6),
+    switches: (2, 5),
     globals: (1, 2),
     mutexes: (0, 1),
-    lines: (2, 5),
+    lines: (2, 4),
     locals: 2,
     inputs: 0,
     cutting: 25,
@@ -73,13 +73,19 @@ pub const BUSY: Shape = Shape {
 };
 
 /// As busy, with inputs.
-pub const BUSY_WITH_INPUTS: Shape = Shape { inputs: 40, switches: (2, 4), lines: (2, 4), ..BUSY };
+pub const BUSY_WITH_INPUTS: Shape = Shape { inputs: 40, switches: (2, 4), ..BUSY };
+
+/// So few runs that a solver can be asked for every one that violates.
+pub const TINY: Shape = Shape { threads: (2, 2), switches: (1, 3), lines: (1, 3), ..BUSY };
+
+/// As few, with inputs, so that each can have every value.
+pub const TINY_WITH_INPUTS: Shape = Shape { inputs: 40, switches: (1, 2), ..TINY };
 
 /// More inputs than a text has sources, and comparisons of them.
 pub const MANY_INPUTS: Shape = Shape { inputs: 30, globals: (1, 3), mutexes: (0, 2), lines: (3, 12), locals: 3, ..BUSY };
 
 /// Four threads, most of them short.
-pub const FOUR_THREADS: Shape = Shape { threads: (4, 4), switches: (4, 8), lines: (0, 3), ..BUSY };
+pub const FOUR_THREADS: Shape = Shape { threads: (4, 4), switches: (4, 6), lines: (0, 3), ..BUSY };
 
 /// An accepted case with shuffled record numbers.
 pub fn accepted(random: &mut Random, shape: Shape) -> Draft {

@@ -53,6 +53,14 @@ impl Line {
         matches!(self.kind, COMPUTE | STORE | ASSERT | ASSUME)
     }
 
+    /// The value that stands for the line where it is not run.
+    pub fn unrun_value(&self) -> u16 {
+        match self.kind {
+            ASSERT | ASSUME => 1,
+            _ => 0,
+        }
+    }
+
     /// The local that the guard looks at.
     pub fn guard_local(&self) -> Option<usize> {
         (self.guard != 0).then(|| usize::from((self.guard - 1) % 16))

@@ -77,6 +77,31 @@ pub const GUARDED_COUNTER_VALUE_ROWS: [[u16; 6]; 16] = [
     [4, 13, 0, 11, 0, 0],
 ];
 
+/// Two threads that wait for each other three times, with fewer switches than
+/// that takes: thread 0 says in global 0 how far it is, thread 1 in global 1, and
+/// thread 1 puts something in global 2 that thread 0 should not see.
+pub fn handshake() -> Draft {
+    let say = |global: u16, number: u16| store(global, constant(number));
+    let wait = |local: u16, global: u16, number: u16| [load(local, global), assume([EQUAL, local, CONSTANT, number])];
+    let first = [
+        &[say(0, 1), load(0, 2), assert([EQUAL, 0, CONSTANT, 0])][..],
+        &wait(1, 1, 1),
+        &[say(0, 2)],
+        &wait(1, 1, 2),
+        &[say(0, 3)],
+        &wait(1, 1, 3),
+    ];
+    let second = [
+        &wait(0, 0, 1)[..],
+        &[say(2, 1), say(1, 1)],
+        &wait(0, 0, 2),
+        &[say(2, 2), say(1, 2)],
+        &wait(0, 0, 3),
+        &[say(2, 0), say(1, 3)],
+    ];
+    Draft::new(2, 4).with_globals(&[0, 0, 0]).with_thread(0, &first.concat()).with_thread(1, &second.concat())
+}
+
 /// Four threads of 64 lines, as many switches and items as there can be: six
 /// inputs with the highest record numbers, so that their names are long, and 250
 /// times the same line, guarded.

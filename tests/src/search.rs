@@ -6,26 +6,25 @@ use crate::table::{Row, Table};
 
 /// Every vector of block numbers, by record, that meets the 1s, 2s and 3s.
 ///
-/// Numbers a little over n are tried too: if a table forgot a limit, they
+/// Numbers a little over n + 1 are tried too: if a table forgot a limit, they
 /// would show up here. (Larger ones need not be tried, since a thread that may
-/// go past n may go to its first block past n.)
+/// go past n + 1 may go to the first number past it that its 3 allows.)
 pub fn block_numbers(draft: &Draft, table: &Table) -> Vec<Vec<u16>> {
     let order_rows: Vec<Row> = table.rows.iter().copied().filter(|row| matches!(row[0], 1..=3)).collect();
-    let largest = draft.switches + draft.threads;
     let mut found = Vec::new();
-    extend(draft.records.len(), largest, &order_rows, &mut Vec::new(), &mut found);
+    extend(draft, &order_rows, &mut Vec::new(), &mut found);
     found
 }
 
-fn extend(records: usize, largest: u16, rows: &[Row], blocks: &mut Vec<u16>, found: &mut Vec<Vec<u16>>) {
-    if blocks.len() == records {
+fn extend(draft: &Draft, rows: &[Row], blocks: &mut Vec<u16>, found: &mut Vec<Vec<u16>>) {
+    if blocks.len() == draft.records.len() {
         found.push(blocks.clone());
         return;
     }
-    for block in 0..=largest {
+    for block in 0..=draft.unrun_block() + draft.threads {
         blocks.push(block);
-        if rows.iter().all(|&row| may_hold(row, blocks)) {
-            extend(records, largest, rows, blocks, found);
+        if rows.iter().all(|&row| may_hold(row, blocks, draft.unrun_block())) {
+            extend(draft, rows, blocks, found);
         }
         blocks.pop();
     }
@@ -34,7 +33,7 @@ fn extend(records: usize, largest: u16, rows: &[Row], blocks: &mut Vec<u16>, fou
 /// Whether a row holds, as far as the newest record goes: a row whose records
 /// all came earlier was tried then, and one that looks at a later record has
 /// to wait.
-fn may_hold(row: Row, blocks: &[u16]) -> bool {
+fn may_hold(row: Row, blocks: &[u16], unrun_block: u16) -> bool {
     let [kind, line, other, thread, ..] = row;
     let latest = if kind == 1 { line.max(other) } else { line };
     if usize::from(latest) != blocks.len() {
@@ -43,7 +42,7 @@ fn may_hold(row: Row, blocks: &[u16]) -> bool {
     let block = |number: u16| blocks[usize::from(number) - 1];
     match kind {
         1 => block(line) <= block(other),
-        2 => block(line) <= other,
-        _ => block(line) % other == thread,
+        2 => block(line) <= other + 1,
+        _ => block(line) == unrun_block || block(line) % other == thread,
     }
 }

@@ -5,33 +5,40 @@ use crate::draft::Draft;
 use crate::fill::fill;
 use crate::random::Random;
 
-/// A random schedule that refusals 12 and 13 do not meet; none if a thread has
-/// lines and no block. Input values are often 0, since a false guard wants 0.
-pub fn schedule(random: &mut Random, draft: &Draft) -> Option<Vec<u16>> {
+/// A random schedule that refusals 12 and 13 do not meet. Half of them run all
+/// lines of the threads that have a block; in the others each thread may stop.
+/// Input values are often 0, since a false guard wants 0, and most often where
+/// the input is not run.
+pub fn schedule(random: &mut Random, draft: &Draft) -> Vec<u16> {
     let (threads, blocks) = (usize::from(draft.threads), draft.blocks());
     let mut schedule = vec![0; blocks];
+    let mut was_run = vec![false; draft.records.len()];
+    let may_stop = random.chance(50);
     for (thread, chain) in draft.chains().iter().enumerate() {
-        if !chain.is_empty() && thread >= blocks {
-            return None;
-        }
-        for _ in chain {
-            let turns = (blocks - thread).div_ceil(threads);
+        // None for a thread that has no block.
+        let turns = blocks.saturating_sub(thread).div_ceil(threads);
+        let steps = match turns {
+            0 => 0,
+            _ if may_stop => random.below(chain.len() + 1),
+            _ => chain.len(),
+        };
+        for &line in &chain[..steps] {
             schedule[thread + threads * random.below(turns)] += 1;
+            was_run[usize::from(line) - 1] = true;
         }
     }
-    let only_zeros = random.chance(40);
-    let inputs = draft.inputs().len();
-    schedule.extend((0..inputs).map(|_| if only_zeros { 0 } else { random.word() }));
-    Some(schedule)
+    let (only_zeros, zeros_left) = (random.chance(40), random.chance(75));
+    let input_value = |line: u16| match was_run[usize::from(line) - 1] {
+        true if only_zeros => 0,
+        false if only_zeros || zeros_left => 0,
+        _ => random.word(),
+    };
+    schedule.extend(draft.inputs().into_iter().map(input_value));
+    schedule
 }
 
-/// A random schedule of the right length, also where no sums can be right.
-pub fn schedule_or_zeros(random: &mut Random, draft: &Draft) -> Vec<u16> {
-    schedule(random, draft).unwrap_or(vec![0; draft.schedule_numbers()])
-}
-
-/// A schedule with another length, other sums, or sums that are right only
-/// modulo 65,536.
+/// A schedule with another length, other sums, or sums that are not more than
+/// the lines only modulo 65,536.
 pub fn damage_schedule(random: &mut Random, draft: &Draft, schedule: &mut Vec<u16>) {
     let (blocks, threads) = (draft.blocks(), usize::from(draft.threads));
     match random.below(4) {
@@ -47,12 +54,10 @@ pub fn damage_schedule(random: &mut Random, draft: &Draft, schedule: &mut Vec<u1
     }
 }
 
-/// The filled assignment of a random schedule, or zeros if there is none.
+/// The filled assignment of a random schedule.
 pub fn filled(random: &mut Random, draft: &Draft) -> Vec<u16> {
-    match schedule(random, draft) {
-        Some(schedule) => fill(draft, &schedule),
-        None => vec![0; draft.variables()],
-    }
+    let schedule = schedule(random, draft);
+    fill(draft, &schedule)
 }
 
 /// Assignments of all sorts for one case.
@@ -68,13 +73,18 @@ pub fn assignments(random: &mut Random, draft: &Draft) -> Vec<Vec<u16>> {
     all
 }
 
-/// The assignment with one or two numbers changed, mostly by little.
+/// The assignment with one or two numbers changed, mostly by little, or with a
+/// line left out.
 fn damaged_assignment(random: &mut Random, draft: &Draft, numbers: &[u16]) -> Vec<u16> {
     let mut numbers = numbers.to_vec();
     if numbers.is_empty() {
         return numbers;
     }
     let (switches, threads) = (draft.switches, draft.threads);
+    if !draft.records.is_empty() && random.chance(20) {
+        leave_out_a_line(random, draft, &mut numbers);
+        return numbers;
+    }
     for _ in 0..random.between(1, 2) {
         let place = random.below(numbers.len());
         numbers[place] = match random.below(6) {
@@ -87,6 +97,17 @@ fn damaged_assignment(random: &mut Random, draft: &Draft, numbers: &[u16]) -> Ve
         };
     }
     numbers
+}
+
+/// A line is marked as not run, whatever comes after it; its value is then mostly
+/// right.
+fn leave_out_a_line(random: &mut Random, draft: &Draft, numbers: &mut [u16]) {
+    let record = random.below(draft.records.len());
+    numbers[2 * record] = draft.unrun_block();
+    numbers[2 * record + 1] = match random.chance(80) {
+        true => draft.records[record].unrun_value(),
+        false => random.word(),
+    };
 }
 
 /// Room for a result: mostly enough, at times too little or some to spare.

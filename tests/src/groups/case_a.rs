@@ -4,7 +4,7 @@ use crate::ask::{check, decode, listing, replay};
 use crate::calls::{Calls, Checked, Refusal, Replayed, Verdict};
 use crate::determined::Determined;
 use crate::draft::Draft;
-use crate::enumerate::block_lengths;
+use crate::enumerate::{block_lengths, runs_all_lines};
 use crate::report::{Outcome, Report, Tally};
 use crate::samples::{case_a, CASE_A_LISTING};
 use crate::search::block_numbers;
@@ -37,15 +37,17 @@ pub fn run(calls: &dyn Calls, report: &mut Report) {
             tally.same(got, (reply, vec![global]), || format!("schedule {schedule:?}"))
         });
     }
-    report.check("P1 to P5 are all schedules", |tally| {
-        let all = block_lengths(&case_a());
+    report.check("P1 to P5 are all schedules that run all lines", |tally| {
+        let mut all = block_lengths(&case_a());
+        all.retain(|schedule| runs_all_lines(&case_a(), schedule));
         let listed = [[0, 1, 4], [1, 1, 3], [2, 1, 2], [3, 1, 1], [4, 1, 0]];
         tally.same(all, listed.map(Vec::from).to_vec(), || "all schedules".into())
     });
+    report.check("P1 and P2 alone violate", |tally| only_these_violate(calls, 2, &[&[0, 1, 4], &[2, 1, 2]], tally));
     report.check("P6", |tally| passes(calls, &P1_ASSIGNMENT, [2, 1, 2], tally));
     report.check("P7", |tally| passes(calls, &P2_ASSIGNMENT, [0, 1, 4], tally));
-    report.check("P8", |tally| no_complete_run(calls, tally));
-    report.check("P9", |tally| one_clean_run(calls, tally));
+    report.check("P8", |tally| only_these_violate(calls, 0, &[], tally));
+    report.check("P9", |tally| only_these_violate(calls, 1, &[], tally));
     report.check("P10", |tally| nothing_meets(calls, tally));
     report.check("a changed number fails", |tally| changed_number_fails(calls, tally));
 }
@@ -73,38 +75,38 @@ fn case_a_with_switches(switches: u16) -> Draft {
     Draft { switches, ..case_a() }
 }
 
-/// "n 0 has no complete run": thread 1 has a line and no block.
-fn no_complete_run(calls: &dyn Calls, tally: &mut Tally) -> Outcome {
-    let draft = case_a_with_switches(0);
-    for length in (0..=10).chain([65_535]) {
-        let (reply, _) = replay(calls, &draft, &[length]);
-        let refused = Replayed::from(Refusal { number: 13, place: 0 });
-        tally.same(reply, refused, || format!("schedule {length}"))?;
+/// "Case A keeps its two violating schedules; P8 and P9 become: every run is
+/// clean." Every schedule is tried, some that are refused, and everything that
+/// the 1s, 2s and 3s leave.
+fn only_these_violate(calls: &dyn Calls, switches: u16, violating: &[&[u16]], tally: &mut Tally) -> Outcome {
+    let draft = case_a_with_switches(switches);
+    let all = block_lengths(&draft);
+    for schedule in &all {
+        let wanted = match violating.contains(&schedule.as_slice()) {
+            true => Replayed::Violated(4),
+            false => Replayed::Clean,
+        };
+        tally.same(replay(calls, &draft, schedule).0, wanted, || format!("schedule {schedule:?}"))?;
     }
-    let table = table_of(calls, &draft.bytes())?;
-    tally.same(block_numbers(&draft, &table).len(), 0, || "block numbers".into())
-}
-
-/// "n 1 has one, and it is clean".
-fn one_clean_run(calls: &dyn Calls, tally: &mut Tally) -> Outcome {
-    let draft = case_a_with_switches(1);
-    for first in 0..=6 {
-        for second in 0..=6 {
-            let (reply, _) = replay(calls, &draft, &[first, second]);
-            let wanted = match (first, second) {
-                (4, 1) => Replayed::Clean,
-                _ => Replayed::Refused { number: 13, place: 0 },
-            };
-            tally.same(reply, wanted, || format!("schedule {first}, {second}"))?;
-        }
+    for first in [5, 6, 65_535] {
+        let longer = [&[first], vec![0; usize::from(switches)].as_slice()].concat();
+        let refused = Replayed::from(Refusal { number: 13, place: 0 });
+        tally.same(replay(calls, &draft, &longer).0, refused, || format!("schedule {longer:?}"))?;
     }
     let table = table_of(calls, &draft.bytes())?;
     let blocks = block_numbers(&draft, &table);
-    tally.same(blocks.clone(), vec![vec![0, 0, 0, 0, 1]], || "block numbers".into())?;
-    // No inputs, so the numbers that are left are determined; only the 7 fails.
-    let numbers = Determined::assignment(&draft, &table, &blocks[0], &[0; 5])?;
-    let last = Checked::Fails(table.rows.len() as u16);
-    tally.same(check(calls, &draft, &numbers), last, || "the checker".into())
+    tally.same(blocks.len(), all.len(), || "block numbers".into())?;
+    // No inputs, so the numbers that are left are determined; at most the 7 fails.
+    let mut decoded = Vec::new();
+    for blocks in blocks {
+        let numbers = Determined::assignment(&draft, &table, &blocks, &[0; 5])?;
+        match check(calls, &draft, &numbers) {
+            Checked::Meets => decoded.push(decode(calls, &draft, &numbers)?),
+            failed => tally.same(failed, Checked::Fails(table.rows.len() as u16), || format!("{numbers:?}"))?,
+        }
+    }
+    decoded.sort();
+    tally.same(decoded.iter().map(Vec::as_slice).collect::<Vec<_>>().as_slice(), violating, || "what meets the table".into())
 }
 
 /// "a case with R 0 and n 0 has one constraint, which nothing meets".
@@ -125,14 +127,16 @@ fn nothing_meets(calls: &dyn Calls, tally: &mut Tally) -> Outcome {
 /// Changing any one number of P6 by one makes some constraint fail; which one
 /// is first was worked out by hand.
 fn changed_number_fails(calls: &dyn Calls, tally: &mut Tally) -> Outcome {
-    let firsts = [1, 11, 3, 12, 5, 13, 7, 14, 9, 15, 16, 13];
+    // Block number 3 is that of a line that was not run: line 3 then stands after
+    // line 4, and line 4 has the value of one that was run.
+    let firsts = [1, 11, 3, 12, 6, 13, 14, 14, 9, 15, 16, 13];
     for (variable, first) in firsts.into_iter().enumerate() {
         let mut numbers = P1_ASSIGNMENT;
         numbers[variable] += 1;
         let got = check(calls, &case_a(), &numbers);
         tally.same(got, Checked::Fails(first), || format!("v{variable} one up"))?;
     }
-    // An even block number over n passes its 3 and fails the 2 of the last
+    // An even block number over n + 1 passes its 3 and fails the 2 of the last
     // line, however large it is; no value may be looked at before.
     for block in [4, 16, 40, 256, 65_534] {
         let mut numbers = P1_ASSIGNMENT;

@@ -43,9 +43,10 @@ pub fn run(calls: &dyn Calls, report: &mut Report) {
     };
     // Line 1 goes to block 2, after line 2.
     fails("a 1 fails first", shared(), with(&[(0, 2)]), 2);
-    // Line 3 goes past block 3.
-    fails("a 2 fails first", shared(), with(&[(4, 4)]), 6);
+    // Line 3 goes past block 3, and line 8 as little past it as it can.
+    fails("a 2 fails first", shared(), with(&[(4, 6)]), 6);
     fails("a 2 fails far out", shared(), with(&[(4, 65_534)]), 6);
+    fails("a 2 fails at n + 2", shared(), with(&[(14, 5)]), 16);
     // Line 4 of thread 1 goes to a block of thread 0.
     fails("a 3 fails first", shared(), with(&[(6, 2)]), 7);
     fails("a 4 fails first", shared(), with(&[(3, 5)]), 19);
@@ -60,8 +61,31 @@ pub fn run(calls: &dyn Calls, report: &mut Report) {
     // Thread 0 comes after thread 1, in block 2: the assert holds.
     let after = [2, 1, 2, 4, 2, 0, 1, 1, 1, 0, 1, 1, 1, 1, 1, 0, 0, 0, 0, 0, 4, 0];
     fails("the 7 fails first", shared(), after, 34);
-    report.check("all are met", |tally| {
-        let checked = check(calls, &shared(), &MEETS);
-        tally.same(checked, Checked::Meets, || shared().to_string())
-    });
+    // Line 7 was not run, but line 8 after it was.
+    fails("a line is run after one that was not", shared(), with(&[(12, 4), (13, 1)]), 14);
+    // Line 8 was not run; the mutex stays at 1 from block 1 on.
+    let last_left = with(&[(14, 4), (19, 1), (21, 1)]);
+    fails("an unlock that was not run is no 0 in a 6", shared(), with(&[(14, 4)]), 31);
+    let mut not_zero = last_left;
+    not_zero[15] = 1;
+    fails("an unlock that was not run has 0", shared(), not_zero, 27);
+    // Nor were lines 6 and 7, an assume and an assert; they have 1.
+    let tests_left = [(10, 4), (12, 4), (13, 1), (14, 4), (19, 1), (21, 1)];
+    let tests_left = |changes: &[(usize, u16)]| with(&[&tests_left[..], changes].concat());
+    fails("an assert that was not run is not broken", shared(), tests_left(&[]), 34);
+    fails("an assert that was not run has 1", shared(), tests_left(&[(13, 0)]), 26);
+    fails("an assume that was not run has 1", shared(), tests_left(&[(11, 0)]), 24);
+    // Thread 0 holds the mutex at the end, and thread 1 was not run: its lock
+    // and its assume demand nothing.
+    let held = [0, 1, 0, 4, 4, 0, 4, 0, 4, 0, 4, 1, 4, 1, 4, 0, 4, 1, 4, 1, 4, 1];
+    fails("the 5s of lines that were not run are met", shared(), held, 34);
+    let mut lock_is_1 = held;
+    lock_is_1[7] = 1;
+    fails("a lock that was not run has 0", shared(), lock_is_1, 21);
+    for (name, numbers) in [("all are met", MEETS), ("all are met, and the last line was not run", last_left)] {
+        report.check(name, |tally| {
+            let checked = check(calls, &shared(), &numbers);
+            tally.same(checked, Checked::Meets, || shared().to_string())
+        });
+    }
 }

@@ -35,6 +35,26 @@ pub fn run(calls: &dyn Calls, report: &mut Report) {
         let numbers = [1, 65_535, 2, 0, 2, 7, 0, 9, 0, 7];
         decodes(calls, &draft, &numbers, &[2, 1, 2, 7, 9, 0, 65_535], tally)
     });
+    report.check("lines that were not run are in no block", |tally| {
+        // Line 3 was not run: block 2, the last, has line 2 alone.
+        decodes(calls, &late_inputs(), &[0, 0, 2, 5, 3, 0, 1, 6], &[1, 1, 1, 5, 0, 6], tally)?;
+        // Nor was line 2, or line 4 of thread 1.
+        decodes(calls, &late_inputs(), &[2, 0, 3, 0, 3, 0, 1, 6], &[0, 1, 1, 0, 0, 6], tally)?;
+        decodes(calls, &late_inputs(), &[0, 0, 2, 5, 2, 4, 3, 0], &[1, 0, 2, 5, 4, 0], tally)?;
+        decodes(calls, &late_inputs(), &[0, 0, 3, 0, 3, 0, 3, 0], &[1, 0, 0, 0, 0, 0], tally)
+    });
+    report.check("an input that was not run has 0", |tally| {
+        // The 4s of lines 2, 3 and 4 are constraints 10, 11 and 12.
+        for (line, place) in [(2, 10), (3, 11), (4, 12)] {
+            let mut numbers = [0, 0, 3, 0, 3, 0, 3, 0];
+            numbers[2 * line - 1] = 1;
+            let mut schedule = marks(6);
+            let refused = Decoded::Refused { number: 15, place };
+            tally.same(calls.decode(&late_inputs().bytes(), &numbers, &mut schedule), refused, || format!("line {line}"))?;
+            tally.same(schedule, marks(6), || "the slice".into())?;
+        }
+        Ok(())
+    });
     report.check("blocks of four threads, two without lines", |tally| {
         let lines = [assert(constant(0)); 3];
         let draft = Draft::new(4, 9).with_thread(1, &lines).with_thread(3, &lines);
@@ -50,6 +70,12 @@ pub fn run(calls: &dyn Calls, report: &mut Report) {
 fn guarded_inputs() -> Draft {
     let lines = [input(0), input(1).guarded(1), input(0).guarded(18), assert(constant(0))];
     Draft::new(2, 2).with_thread(0, &lines).with_thread(1, &[input(3)])
+}
+
+/// Lines 1 to 3 in thread 0: an assert fails, then two locals are read. Line 4
+/// in thread 1 reads. There are no items.
+fn late_inputs() -> Draft {
+    Draft::new(2, 2).with_thread(0, &[assert(constant(0)), input(0), input(1)]).with_thread(1, &[input(0)])
 }
 
 /// Demands that the assignment meets the table, decodes to the schedule, and

@@ -48,6 +48,8 @@ pub fn run(calls: &dyn Calls, report: &mut Report) {
     report.check("the largest case", |tally| largest_case(calls, tally));
     report.check("15 switches are all used", |tally| all_switches_used(calls, tally));
     report.check("fewer blocks than threads", |tally| fewer_blocks(calls, tally));
+    report.check("lengths that add up to 63, 64 and 65", |tally| steps_and_lines(calls, tally));
+    report.check("block numbers 15, 16 and 17", |tally| last_block_numbers(calls, tally));
 }
 
 /// Demands that the draft meets the refusal in each call, or none for 0.
@@ -141,23 +143,66 @@ fn all_switches_used(calls: &dyn Calls, tally: &mut Tally) -> Outcome {
     tally.same(decoded, schedule.to_vec(), || "decoded".into())
 }
 
-/// With n + 1 < T some threads have no block: they may have no lines.
+/// With n + 1 < T some threads have no block: they run no line.
 fn fewer_blocks(calls: &dyn Calls, tally: &mut Tally) -> Outcome {
     let line = [assert(constant(0))];
     let lines_in = |thread: usize| Draft::new(4, 1).with_thread(thread, &line);
-    for (thread, complete) in [(0, 1), (1, 1), (2, 0), (3, 0)] {
+    for (thread, violating) in [(0, 1), (1, 1), (2, 0), (3, 0)] {
         let draft = lines_in(thread);
         let schedules = block_lengths(&draft);
-        tally.same(schedules.len(), complete, || format!("thread {thread}"))?;
+        tally.same(schedules.len(), violating + 1, || format!("thread {thread}"))?;
         for schedule in schedules {
             let reply = replay(calls, &draft, &schedule).0;
-            tally.same(reply, Replayed::Violated(1), || format!("thread {thread}"))?;
+            let wanted = if schedule == [0, 0] { Replayed::Clean } else { Replayed::Violated(1) };
+            tally.same(reply, wanted, || format!("thread {thread}"))?;
         }
-        for schedule in [[0, 0], [2, 0], [0, 2], [1, 1]] {
+        for schedule in [[2, 0], [0, 2], [1, 1]] {
             let reply = replay(calls, &draft, &schedule).0;
             let refused = Replayed::Refused { number: 13, place: 0 };
             tally.same(reply, refused, || format!("thread {thread}, {schedule:?}"))?;
         }
+    }
+    Ok(())
+}
+
+/// Four threads of 64 lines, each in one block: as many steps as lines, and one
+/// less, and one more.
+fn steps_and_lines(calls: &dyn Calls, tally: &mut Tally) -> Outcome {
+    let draft = full(&[store(0, [SUM, CONSTANT, 0, 9]); 64]);
+    for thread in 0..4 {
+        for steps in [0, 1, 63, 64, 65, 66, 65_535] {
+            let mut schedule = [0; 16];
+            schedule[thread + 4] = steps;
+            let (reply, items) = replay(calls, &draft, &schedule);
+            let about = || format!("{steps} steps of thread {thread}");
+            match steps {
+                0..=64 => {
+                    tally.same(reply, Replayed::Clean, about)?;
+                    tally.same(items[0], if steps == 0 { 1 } else { 9 }, about)?;
+                }
+                _ => tally.same(reply, Replayed::Refused { number: 13, place: 0 }, about)?,
+            }
+        }
+    }
+    Ok(())
+}
+
+/// With 15 switches a line of thread 1 may stand in block 15, or be left out by
+/// 16, but 17, which is thread 1's as well, is too much.
+fn last_block_numbers(calls: &dyn Calls, tally: &mut Tally) -> Outcome {
+    let draft = Draft::new(2, 15).with_thread(0, &[assert(constant(0))]).with_thread(1, &[compute(0, constant(7))]);
+    // The 2 of line 2 is the fourth constraint, its 4 the sixth.
+    for (block, value, wanted) in [
+        (15, 7, Checked::Meets),
+        (15, 0, Checked::Fails(6)),
+        (16, 0, Checked::Meets),
+        (16, 7, Checked::Fails(6)),
+        (17, 0, Checked::Fails(4)),
+        (17, 7, Checked::Fails(4)),
+        (18, 0, Checked::Fails(3)),
+    ] {
+        let checked = calls.check(&draft.bytes(), &[14, 0, block, value]);
+        tally.same(checked, wanted, || format!("value {value} in block {block}"))?;
     }
     Ok(())
 }

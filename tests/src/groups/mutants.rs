@@ -12,7 +12,7 @@ use crate::second::{Second, Wrong, RIGHT};
 /// Rounds for each comparison: few, since a mistake should be found soon.
 const ROUNDS: u64 = 150;
 
-const MISTAKES: [(Wrong, &[Comparison]); 28] = [
+const MISTAKES: [(Wrong, &[Comparison]); 42] = [
     (Wrong::StrayNextUnseen, &[verdicts]),
     (Wrong::DropsA6, &[tables, demand_3]),
     (Wrong::FivesLast, &[tables]),
@@ -28,6 +28,20 @@ const MISTAKES: [(Wrong, &[Comparison]); 28] = [
     (Wrong::LengthBeforeRoom, &[decodings, lengths]),
     (Wrong::WritesThoughRefused, &[replays, lengths]),
     (Wrong::ClearsTheTail, &[tables, decodings, replays, listings, lengths, texts]),
+    (Wrong::UnrunPastN, &[checks, texts]),
+    (Wrong::UnrunTooLate, &[checks, demand_3, texts]),
+    (Wrong::UnrunHasThread, &[checks, demand_3, texts]),
+    (Wrong::RunAfterUnrun, &[checks, texts]),
+    (Wrong::UnrunAssertBroken, &[checks, demand_3, texts]),
+    (Wrong::UnrunInLastBlock, &[checks, demand_3, texts]),
+    (Wrong::DemandOfUnrun, &[checks, demand_3, texts]),
+    (Wrong::UnrunInputFree, &[checks, decodings, demand_3_with_inputs, texts]),
+    (Wrong::UnrunCounted, &[decodings, demand_3]),
+    (Wrong::NoThreadStops, &[replays, demand_3]),
+    (Wrong::MoreThanLines, &[replays]),
+    (Wrong::StrayLeftFirst, &[replays]),
+    (Wrong::StrayLeftUnseen, &[replays, demand_3_with_inputs]),
+    (Wrong::StrayLeftByRecord, &[replays]),
     (Wrong::PlaceBeforeNumber, &[listings, lengths]),
     (Wrong::WritesThoughShort, &[listings, lengths, texts]),
     (Wrong::NoLastLineEnd, &[texts, truths]),

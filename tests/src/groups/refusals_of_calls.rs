@@ -19,9 +19,12 @@ pub fn run(calls: &dyn Calls, report: &mut Report) {
     report.check("10: listing", |tally| short_text(calls, tally));
     report.check("11: checking and decoding", |tally| wrong_assignment(calls, tally));
     report.check("12: replaying", |tally| wrong_schedule(calls, tally));
-    report.check("13: lengths do not add up", |tally| wrong_sums(calls, tally));
+    report.check("13: lengths add up to more", |tally| wrong_sums(calls, tally));
+    report.check("no 13: lengths add up to less", |tally| smaller_sums(calls, tally));
     report.check("14: an input with a false guard", |tally| false_inputs(calls, tally));
+    report.check("14: an input that was not run", |tally| inputs_left(calls, tally));
     report.check("14 and cut-off: the one met first", |tally| met_first(calls, tally));
+    report.check("14 of inputs that were not run comes last", |tally| looked_for_last(calls, tally));
     report.check("15: the first failed constraint", |tally| failed_decoding(calls, tally));
 }
 
@@ -64,7 +67,7 @@ fn short_schedule(calls: &dyn Calls, tally: &mut Tally) -> Outcome {
 /// Case A has one item. Too little room comes before whatever is wrong with
 /// the schedule, and before what the run would meet.
 fn short_items(calls: &dyn Calls, tally: &mut Tally) -> Outcome {
-    for schedule in [&[2, 1, 2][..], &[2, 1, 1], &[2, 1], &[], &[2, 1, 2, 0]] {
+    for schedule in [&[2, 1, 2][..], &[2, 1, 3], &[2, 1], &[], &[2, 1, 2, 0]] {
         let reply = calls.replay(&case_a().bytes(), schedule, &mut []);
         let refused = Replayed::Refused { number: 10, place: 0 };
         tally.same(reply, refused, || format!("schedule {schedule:?}"))?;
@@ -137,13 +140,14 @@ fn wrong_schedule(calls: &dyn Calls, tally: &mut Tally) -> Outcome {
 fn wrong_sums(calls: &dyn Calls, tally: &mut Tally) -> Outcome {
     let refused = Replayed::Refused { number: 13, place: 0 };
     for schedule in [
-        [0, 0, 0],
-        [2, 1, 1],
+        [5, 0, 0],
         [2, 1, 3],
-        [2, 0, 2],
+        [0, 2, 0],
         [2, 2, 2],
         [4, 1, 65_535],
-        // These two sums are 65,536 + 4.
+        [0, 65_535, 0],
+        // These sums are 65,536, and 65,536 + 4.
+        [1, 1, 65_535],
         [5, 1, 65_535],
         [65_535, 1, 5],
         [32_770, 1, 32_770],
@@ -152,14 +156,38 @@ fn wrong_sums(calls: &dyn Calls, tally: &mut Tally) -> Outcome {
         tally.same(reply, refused, || format!("schedule {schedule:?}"))?;
         tally.same(items, marks(1), || "the items".into())?;
     }
-    // The second number is right for thread 1, which has no line: 65,536 not.
+    // Thread 1 has no line: 65,536 is more.
     let draft = Draft::new(2, 3).with_thread(0, &[assert(constant(0))]);
-    for schedule in [[1, 32_768, 0, 32_768], [0, 0, 0, 0], [1, 1, 0, 0]] {
+    for schedule in [[1, 32_768, 0, 32_768], [1, 1, 0, 0], [0, 0, 0, 1]] {
         tally.same(reply(calls, &draft, &schedule), refused, || format!("{schedule:?}"))?;
     }
-    // An input with a false guard comes later.
+    // An input with a false guard, or one that is not run, comes later.
     let draft = false_input_case();
-    tally.same(reply(calls, &draft, &[1, 0, 1]), refused, || "before 14".into())
+    tally.same(reply(calls, &draft, &[3, 0, 1]), refused, || "before 14".into())?;
+    tally.same(reply(calls, &draft, &[0, 1, 1]), refused, || "before 14, not run".into())
+}
+
+/// "Block lengths may add up to less than a thread's lines": the schedules of
+/// case A that stop early, and the global at the end.
+fn smaller_sums(calls: &dyn Calls, tally: &mut Tally) -> Outcome {
+    for (schedule, global) in [
+        ([0, 0, 0], 0),
+        ([1, 0, 0], 0),
+        ([2, 0, 0], 1),
+        ([0, 1, 0], 5),
+        ([1, 1, 1], 1),
+        ([0, 1, 2], 6),
+        // One line before the assert of P1 and of P2.
+        ([2, 1, 1], 5),
+        ([0, 1, 3], 6),
+        // The assert holds, as thread 1 stops.
+        ([2, 0, 2], 1),
+        ([4, 0, 0], 1),
+    ] {
+        let wanted = (Replayed::Clean, vec![global]);
+        tally.same(replay(calls, &case_a(), &schedule), wanted, || format!("schedule {schedule:?}"))?;
+    }
+    Ok(())
 }
 
 /// Record 2 is an input whose guard is false, since local 4 has 0.
@@ -187,6 +215,84 @@ fn false_inputs(calls: &dyn Calls, tally: &mut Tally) -> Outcome {
     tally.same(reply(calls, &draft, &[1, 1, 1, 7, 0]), refused(2), || "later".into())?;
     let violated = Replayed::Violated(1);
     tally.same(reply(calls, &draft, &[1, 1, 1, 0, 0]), violated, || "both 0".into())
+}
+
+/// Thread 0 stores and reads, with record numbers 4 and 3; thread 1 reads twice,
+/// with 2 and 1. The guard is that of its first input, and local 5 is 0: guard 6
+/// is false, and guards 0 and 22 are true.
+fn late_inputs(guard: u16) -> Draft {
+    let second = [input(0).guarded(guard), input(1)];
+    let draft = Draft::new(2, 2).with_globals(&[3]).with_thread(0, &[store(0, constant(9)), input(0)]);
+    draft.with_thread(1, &second).renumbered(&[4, 3, 2, 1])
+}
+
+/// "An unrun input has value 0, otherwise 14 at the first such record by thread
+/// and chain", whatever its guard would be.
+fn inputs_left(calls: &dyn Calls, tally: &mut Tally) -> Outcome {
+    let refused = |place: u16| (Replayed::Refused { number: 14, place }, marks(1));
+    let clean = |global: u16| (Replayed::Clean, vec![global]);
+    for guard in [0, 6, 22] {
+        for (schedule, wanted) in [
+            ([0, 0, 0, 0, 0, 0], clean(3)),
+            ([1, 0, 0, 0, 0, 0], clean(9)),
+            ([1, 0, 0, 7, 0, 0], refused(3)),
+            ([1, 0, 0, 0, 7, 0], refused(2)),
+            ([1, 0, 0, 0, 0, 65_535], refused(1)),
+            // The first by thread, then by chain, and not by record.
+            ([0, 0, 0, 1, 1, 1], refused(3)),
+            ([1, 0, 0, 0, 1, 1], refused(2)),
+            ([1, 0, 1, 8, 1, 1], refused(2)),
+            ([2, 0, 0, 8, 0, 1], refused(1)),
+            // Thread 0 stops later than its last block.
+            ([0, 0, 1, 1, 0, 0], refused(3)),
+            ([1, 0, 1, 8, 0, 0], clean(9)),
+        ] {
+            let got = replay(calls, &late_inputs(guard), &schedule);
+            tally.same(got, wanted, || format!("guard {guard}, schedule {schedule:?}"))?;
+        }
+    }
+    // One input of thread 1 is run, the other not.
+    tally.same(replay(calls, &late_inputs(0), &[2, 1, 0, 8, 8, 0]), clean(9), || "run".into())?;
+    tally.same(replay(calls, &late_inputs(0), &[2, 1, 0, 8, 8, 8]), refused(1), || "the second".into())?;
+    // A zero assert before it does not matter, nor how many switches there are.
+    for switches in [0, 1, 15] {
+        let draft = Draft::new(2, switches).with_thread(0, &[assert(constant(0)), input(0)]);
+        let schedule = |value: u16| [&[1], vec![0; usize::from(switches)].as_slice(), &[value]].concat();
+        tally.same(reply(calls, &draft, &schedule(0)), Replayed::Violated(1), || format!("n {switches}"))?;
+        let refused = Replayed::Refused { number: 14, place: 2 };
+        tally.same(reply(calls, &draft, &schedule(1)), refused, || format!("n {switches}"))?;
+    }
+    // A thread without a block has an input.
+    let draft = Draft::new(3, 1).with_thread(2, &[input(0)]);
+    tally.same(reply(calls, &draft, &[0, 0, 0]), Replayed::Clean, || "no block".into())?;
+    let refused = Replayed::Refused { number: 14, place: 1 };
+    tally.same(reply(calls, &draft, &[0, 0, 4]), refused, || "no block".into())
+}
+
+/// "looked for after the last step": a cut-off comes first, and so does an input
+/// with a false guard that the run meets, though it stands in a later thread.
+fn looked_for_last(calls: &dyn Calls, tally: &mut Tally) -> Outcome {
+    let stray = Replayed::Refused { number: 14, place: 3 };
+    let on_the_way = Replayed::Refused { number: 14, place: 2 };
+    for (schedule, wanted) in [
+        ([1, 0, 0, 7, 7, 0], stray),
+        ([1, 1, 0, 7, 7, 0], on_the_way),
+        ([1, 1, 0, 7, 0, 0], stray),
+        ([0, 2, 0, 7, 7, 7], on_the_way),
+    ] {
+        tally.same(reply(calls, &late_inputs(6), &schedule), wanted, || format!("schedule {schedule:?}"))?;
+    }
+    for cut in [[assume(constant(0)), unlock(0)], [lock(1), lock(1)]] {
+        let draft = Draft::new(2, 1).with_globals(&[3]).with_mutexes(2);
+        let draft = draft.with_thread(0, &[store(0, constant(9)), input(0)]).with_thread(1, &cut);
+        let steps = if cut[0].kind == ASSUME { 1 } else { 2 };
+        let items = vec![9, 0, steps - 1];
+        let wanted = (Replayed::CutOff(2 + steps), items);
+        tally.same(replay(calls, &draft, &[1, steps, 7]), wanted, || format!("{cut:?}"))?;
+        let refused = (Replayed::Refused { number: 14, place: 2 }, marks(3));
+        tally.same(replay(calls, &draft, &[1, steps - 1, 7]), refused, || format!("not as far as {cut:?}"))?;
+    }
+    Ok(())
 }
 
 /// "Refusal 14 and a cut-off exclude each other: the one met first is given."

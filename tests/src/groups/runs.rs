@@ -1,11 +1,13 @@
 //! Runs worked out by hand: what each kind, op and guard does.
 
-use crate::ask::replay;
+use crate::ask::{replay, reply};
 use crate::calls::{Calls, Replayed};
 use crate::demand3::seen_alike;
 use crate::draft::Draft;
+use crate::enumerate::{block_lengths, runs_all_lines};
 use crate::line::*;
 use crate::report::{Outcome, Report, Tally};
+use crate::samples::handshake;
 use crate::table::table_of;
 
 pub fn run(calls: &dyn Calls, report: &mut Report) {
@@ -56,6 +58,31 @@ pub fn run(calls: &dyn Calls, report: &mut Report) {
         let lines = [assume(constant(0)), input(0).guarded(2)];
         runs(calls, &one_thread(&lines), &[2, 0, 9], Replayed::CutOff(1), &[6, 7, 0, 0], tally)
     });
+    report.check("a thread may stop", |tally| {
+        let lines = [store(0, constant(8)), store(1, constant(9)), assert(constant(0))];
+        runs(calls, &one_thread(&lines), &[0, 0], Replayed::Clean, &[6, 7, 0, 0], tally)?;
+        runs(calls, &one_thread(&lines), &[1, 0], Replayed::Clean, &[8, 7, 0, 0], tally)?;
+        runs(calls, &one_thread(&lines), &[2, 0], Replayed::Clean, &[8, 9, 0, 0], tally)?;
+        runs(calls, &one_thread(&lines), &[3, 0], Replayed::Violated(3), &[8, 9, 0, 0], tally)
+    });
+    report.check("a run that stops before what would cut it off violates", |tally| {
+        let lines = [assert(constant(0)), assume(constant(0)), store(0, constant(8))];
+        runs(calls, &one_thread(&lines), &[1, 0], Replayed::Violated(1), &[6, 7, 0, 0], tally)?;
+        runs(calls, &one_thread(&lines), &[2, 0], Replayed::CutOff(2), &[6, 7, 0, 0], tally)?;
+        let lines = [lock(0), assert(constant(0)), lock(0)];
+        runs(calls, &one_thread(&lines), &[2, 0], Replayed::Violated(2), &[6, 7, 1, 0], tally)?;
+        runs(calls, &one_thread(&lines), &[3, 0], Replayed::CutOff(3), &[6, 7, 1, 0], tally)
+    });
+    report.check("a thread that stops keeps its mutex", |tally| {
+        let draft = two_threads(&[lock(0), unlock(0)], &[lock(0), assert(constant(0))]);
+        runs(calls, &draft, &[1, 0, 0], Replayed::Clean, &[6, 7, 1, 0], tally)?;
+        runs(calls, &draft, &[1, 1, 0], Replayed::CutOff(3), &[6, 7, 1, 0], tally)?;
+        runs(calls, &draft, &[2, 2, 0], Replayed::Violated(4), &[6, 7, 1, 0], tally)?;
+        runs(calls, &draft, &[0, 2, 0], Replayed::Violated(4), &[6, 7, 1, 0], tally)
+    });
+    report.check("handshake: a fault at the third line", |tally| handshake_violates(calls, tally));
+    report.check("handshake: no run finishes within the bound", |tally| handshake_is_cut_off(calls, tally));
+    report.check("handshake: other bounds", |tally| handshake_with_other_bounds(calls, tally));
     report.check("block 0 is thread 0's, also without lines", |tally| {
         let draft = two_threads(&[], &[store(0, constant(1))]);
         runs(calls, &draft, &[0, 1, 0], Replayed::Clean, &[1, 7, 0, 0], tally)?;
@@ -178,6 +205,41 @@ fn passed_lines(calls: &dyn Calls, tally: &mut Tally) -> Outcome {
         runs(calls, &one_thread(&held), &schedule, Replayed::Clean, &items, tally)?;
     }
     Ok(())
+}
+
+/// The run that stops: the assert is reached in block 2, and is broken.
+fn handshake_violates(calls: &dyn Calls, tally: &mut Tally) -> Outcome {
+    runs(calls, &handshake(), &[1, 3, 2, 0, 0], Replayed::Violated(3), &[1, 0, 1], tally)?;
+    // One line less of either thread, and nothing is broken.
+    runs(calls, &handshake(), &[1, 3, 1, 0, 0], Replayed::Clean, &[1, 0, 1], tally)?;
+    runs(calls, &handshake(), &[1, 2, 2, 0, 0], Replayed::Clean, &[1, 0, 0], tally)
+}
+
+/// Every schedule that runs all lines is cut off.
+fn handshake_is_cut_off(calls: &dyn Calls, tally: &mut Tally) -> Outcome {
+    let mut all = block_lengths(&handshake());
+    all.retain(|schedule| runs_all_lines(&handshake(), schedule));
+    // 11 lines in three blocks, 12 lines in two.
+    tally.same(all.len(), 78 * 13, || "schedules".into())?;
+    for schedule in all {
+        let reply = reply(calls, &handshake(), &schedule);
+        tally.holds(matches!(reply, Replayed::CutOff(_)), || format!("{schedule:?}: {reply:?}"))?;
+    }
+    Ok(())
+}
+
+/// With two switches there is a run that violates, with one there is none; with
+/// six there is one that runs all lines.
+fn handshake_with_other_bounds(calls: &dyn Calls, tally: &mut Tally) -> Outcome {
+    let with_switches = |switches: u16| Draft { switches, ..handshake() };
+    runs(calls, &with_switches(2), &[1, 3, 2], Replayed::Violated(3), &[1, 0, 1], tally)?;
+    for schedule in block_lengths(&with_switches(1)) {
+        let reply = reply(calls, &with_switches(1), &schedule);
+        tally.holds(!matches!(reply, Replayed::Violated(_)), || format!("{schedule:?}: {reply:?}"))?;
+    }
+    let all_lines = [1, 4, 5, 4, 3, 4, 2];
+    tally.holds(runs_all_lines(&with_switches(6), &all_lines), || "all lines".into())?;
+    runs(calls, &with_switches(6), &all_lines, Replayed::Violated(3), &[3, 3, 0], tally)
 }
 
 /// Records are numbered against the chains, so that an order by record number

@@ -102,9 +102,7 @@ fn all_or_nothing<T: Copy + Debug + PartialEq + Not<Output = T>>(
 fn decoding(calls: &dyn Calls, draft: &Draft, random: &mut Random, tally: &mut Tally) -> Outcome {
     let case = draft.bytes();
     for _ in 0..20 {
-        let Some(schedule) = schedule(random, draft) else {
-            return Ok(());
-        };
+        let schedule = schedule(random, draft);
         let numbers = fill(draft, &schedule);
         let call = |slice: &mut [u16]| match calls.decode(&case, &numbers, slice) {
             Decoded::Schedule { numbers } => usize::from(numbers),
@@ -121,9 +119,7 @@ fn decoding(calls: &dyn Calls, draft: &Draft, random: &mut Random, tally: &mut T
 fn replaying(calls: &dyn Calls, draft: &Draft, random: &mut Random, tally: &mut Tally) -> Outcome {
     let case = draft.bytes();
     for _ in 0..20 {
-        let Some(schedule) = schedule(random, draft) else {
-            return Ok(());
-        };
+        let schedule = schedule(random, draft);
         let call = |slice: &mut [u16]| match calls.replay(&case, &schedule, slice) {
             Replayed::Refused { .. } => 0,
             _ => draft.items(),

@@ -9,11 +9,11 @@ use crate::calls::{Calls, Checked, Replayed};
 use crate::compare_text::text_of;
 use crate::demand3::small_case;
 use crate::draft::Draft;
-use crate::enumerate::{block_lengths, schedules, with_each};
-use crate::generate::{Shape, BUSY, BUSY_WITH_INPUTS, FOUR_THREADS, SMALL};
+use crate::enumerate::{block_lengths, runs_all_lines, schedules, schedules_with_all_values};
+use crate::generate::{Shape, BUSY, FOUR_THREADS, SMALL, TINY, TINY_WITH_INPUTS};
 use crate::random::Random;
 use crate::report::{Outcome, Report, Tally};
-use crate::samples::{case_a, guarded_counter, largest};
+use crate::samples::{case_a, guarded_counter, handshake, largest};
 use crate::solver::{other_than, Answer, Solver, ALL};
 
 /// Random cases for each solver: without inputs, and with one input each.
@@ -21,6 +21,8 @@ const CASES: u64 = 130;
 const WITH_AN_INPUT: usize = 10;
 /// At least so many of those without inputs must be sat, and so many unsat.
 const OF_EACH: u64 = 30;
+/// The most block lengths of a case with an input.
+const FEW: usize = 9;
 /// Cases all of whose models are asked for, one after the other.
 const ALL_MODELS: usize = 12;
 
@@ -54,10 +56,18 @@ fn text(calls: &dyn Calls, draft: &Draft) -> Result<String, String> {
     String::from_utf8(text_of(calls, &draft.bytes())?).map_err(|_| format!("no text: {draft}"))
 }
 
-/// Case A, also with one switch less than it needs, a larger case, and one
-/// without any line.
+/// Case A, also with one switch less than it needs, larger cases, one of which
+/// no run finishes, and one without any line.
 fn by_hand(calls: &dyn Calls, solver: Solver, tally: &mut Tally) -> Outcome {
-    for (draft, sat) in [(case_a(), true), (short(), false), (guarded_counter(), true), (Draft::new(2, 0), false)] {
+    let cases = [
+        (case_a(), true),
+        (short(), false),
+        (guarded_counter(), true),
+        (handshake(), true),
+        (Draft { switches: 1, ..handshake() }, false),
+        (Draft::new(2, 0), false),
+    ];
+    for (draft, sat) in cases {
         let is_sat = answers_like_replay(calls, solver, &draft, tally)?;
         tally.same(is_sat, sat, || format!("sat; case {draft}"))?;
     }
@@ -87,7 +97,7 @@ fn many(calls: &dyn Calls, solver: Solver, tally: &mut Tally) -> Outcome {
 
 /// Without inputs: sat exactly when some schedule violates.
 fn answers_like_replay(calls: &dyn Calls, solver: Solver, draft: &Draft, tally: &mut Tally) -> Result<bool, String> {
-    let violating = violating(calls, draft, schedules(draft, &[0]));
+    let violating = violating(calls, draft);
     let answer = solver.ask(&text(calls, draft)?, !violating.is_empty())?;
     let is_sat = matches!(answer, Answer::Sat(_));
     tally.same(is_sat, !violating.is_empty(), || format!("sat; case {draft}"))?;
@@ -98,9 +108,12 @@ fn answers_like_replay(calls: &dyn Calls, solver: Solver, draft: &Draft, tally: 
     Ok(is_sat)
 }
 
-fn violating(calls: &dyn Calls, draft: &Draft, all: Vec<Vec<u16>>) -> BTreeSet<Vec<u16>> {
-    let violates = |schedule: &Vec<u16>| matches!(reply(calls, draft, schedule), Replayed::Violated(_));
-    all.into_iter().filter(violates).collect()
+fn violates(calls: &dyn Calls, draft: &Draft, schedule: &[u16]) -> bool {
+    matches!(reply(calls, draft, schedule), Replayed::Violated(_))
+}
+
+fn violating(calls: &dyn Calls, draft: &Draft) -> BTreeSet<Vec<u16>> {
+    schedules(draft, &[0]).into_iter().filter(|schedule| violates(calls, draft, schedule)).collect()
 }
 
 /// A model meets the table, and its schedule violates.
@@ -126,42 +139,43 @@ fn fitting_cases(seeds: Range<u64>, shape: Shape, count: usize, fits: impl Fn(&D
 /// One input each, and few block lengths, so that unsat can be tested with all
 /// 65,536 values.
 fn with_an_input(calls: &dyn Calls, solver: Solver, tally: &mut Tally) -> Outcome {
-    let fits = |draft: &Draft| draft.inputs().len() == 1 && (1..=6).contains(&block_lengths(draft).len());
-    let all_values: Vec<u16> = (0..=u16::MAX).collect();
-    for draft in fitting_cases(10_000..20_000, BUSY_WITH_INPUTS, WITH_AN_INPUT, fits)? {
+    let fits = |draft: &Draft| draft.inputs().len() == 1 && block_lengths(draft).len() <= FEW;
+    for draft in fitting_cases(10_000..20_000, TINY_WITH_INPUTS, WITH_AN_INPUT, fits)? {
         match solver.ask(&text(calls, &draft)?, false)? {
             Answer::Sat(model) => {
                 model_violates(calls, &draft, &model, tally)?;
+                tally.saw("sat");
             }
             Answer::Unsat => {
-                let all = with_each(&block_lengths(&draft), &all_values);
-                tally.comparisons += all.len() as u64;
-                let violating = violating(calls, &draft, all);
-                tally.same(violating.len(), 0, || format!("unsat; case {draft}"))?;
+                tally.saw("unsat");
+                for schedule in schedules_with_all_values(&draft) {
+                    let violates = violates(calls, &draft, &schedule);
+                    tally.holds(!violates, || format!("unsat, but {schedule:?}; case {draft}"))?;
+                }
             }
         }
     }
-    Ok(())
+    tally.saw_often("unsat", 2)
 }
 
 /// Asks for one model after the other, each time leaving out those known. The
 /// schedules must be all that violate, each from one model.
 fn all_models(calls: &dyn Calls, solver: Solver, tally: &mut Tally) -> Outcome {
-    let violating_of = |draft: &Draft| violating(calls, draft, schedules(draft, &[0]));
-    let fits = |draft: &Draft| (2..=6).contains(&violating_of(draft).len());
-    for draft in fitting_cases(20_000..30_000, BUSY, ALL_MODELS, fits)? {
-        let wanted = violating_of(&draft);
+    let fits = |draft: &Draft| (2..=6).contains(&violating(calls, draft).len());
+    for draft in fitting_cases(20_000..30_000, TINY, ALL_MODELS, fits)? {
+        let wanted = violating(calls, &draft);
         let mut text = text(calls, &draft)?;
         let mut found = BTreeSet::new();
         while let Answer::Sat(model) = solver.ask(&text, found.len() < wanted.len())? {
             let schedule = model_violates(calls, &draft, &model, tally)?;
+            tally.saw(if runs_all_lines(&draft, &schedule) { "all lines" } else { "lines left" });
             tally.holds(found.insert(schedule), || format!("two models for {draft}"))?;
             tally.holds(found.len() <= wanted.len(), || format!("too many models of {draft}"))?;
             text = other_than(&text, &model)?;
         }
         tally.same(&found, &wanted, || format!("all models of {draft}"))?;
     }
-    Ok(())
+    ["all lines", "lines left"].iter().try_for_each(|what| tally.saw_often(what, 10))
 }
 
 /// What is left of a text without the assertion of this number, from 1; or with
@@ -182,10 +196,11 @@ fn with_assertion(text: &str, number: usize, formula: Option<&str>) -> String {
 
 /// Case A with one switch is unsat, since thread 0 has block 0 alone. Without
 /// one assertion it is sat where the assert's value depends on that: a line of
-/// thread 0 may then stand in block 2, where nothing says what is read, or the
+/// thread 0 may then stand in block 4, where nothing says what is read, or the
 /// assert's value or one that it comes from is open, or no assert is asked for.
-/// A 3 does not matter, as the 1s and the 2 leave block 1 at most, and that to
-/// line 4; nor do line 5 and the block value, which nobody reads.
+/// A 3 does not matter: line 4 must be run, so the 1s and the 2 leave block 1 at
+/// most, and that to line 4; nor do line 5 and the block value, which nobody
+/// reads.
 fn left_out(calls: &dyn Calls, solver: Solver, tally: &mut Tally) -> Outcome {
     let whole = text(calls, &short())?;
     let last = short().constraints();
@@ -200,24 +215,33 @@ fn left_out(calls: &dyn Calls, solver: Solver, tally: &mut Tally) -> Outcome {
 }
 
 /// Assertions of case A, each with a formula that makes the text unsat: blocks
-/// below 2 alone, thread 1 in a block of thread 0, a load of 1, a block value
-/// that is not what thread 1 stored, and no assert in the 7.
-const CHANGES: [(usize, &str); 5] = [
+/// below 2 alone, line 4 not run, thread 1 in a block of thread 0, a load of 1, a
+/// block value that is not what thread 1 stored, and no assert in the 7.
+const UNSAT_CHANGES: [(usize, &str); 6] = [
     (8, "(bvult v6 #x0002)"),
+    (8, "(= v6 #x0003)"),
     (9, "(= (bvurem v8 #x0002) #x0000)"),
     (13, "(= v5 #x0001)"),
     (17, "(= v11 v10)"),
     (18, "(or false false)"),
 ];
 
-/// Case A is sat, and is not with one formula changed.
+/// Assertions of case A with one switch, each with a formula that makes the text
+/// sat: line 4 may be run after line 3 was not, and is broken where it is not run.
+const SAT_CHANGES: [(usize, &str); 2] =
+    [(6, "(or (= v4 #x0002) (bvule v4 v6))"), (14, "(ite (= v6 #x0002) (= v7 #x0000) (= v7 #x0001))")];
+
+/// Case A is sat, and is not with one formula changed; with one switch it is
+/// unsat, and then is not.
 fn changed(calls: &dyn Calls, solver: Solver, tally: &mut Tally) -> Outcome {
-    let whole = text(calls, &case_a())?;
-    for (number, formula) in CHANGES {
+    let unsat = UNSAT_CHANGES.iter().map(|change| (case_a(), change, false));
+    let sat = SAT_CHANGES.iter().map(|change| (short(), change, true));
+    for (draft, &(number, formula), wanted) in unsat.chain(sat) {
+        let whole = text(calls, &draft)?;
         let text = with_assertion(&whole, number, Some(formula));
         tally.holds(text != whole, || format!("assertion {number} is as before"))?;
-        let is_sat = matches!(solver.ask(&text, false)?, Answer::Sat(_));
-        tally.same(is_sat, false, || format!("sat with {formula} as assertion {number}"))?;
+        let is_sat = matches!(solver.ask(&text, wanted)?, Answer::Sat(_));
+        tally.same(is_sat, wanted, || format!("sat with {formula} as assertion {number}"))?;
     }
     Ok(())
 }

@@ -39,9 +39,7 @@ fn compare(shape: Shape, cases: u64, tally: &mut Tally) -> Outcome {
     for seed in 80_000_000..80_000_000 + cases {
         let mut random = Random::from_seed(seed);
         let draft = accepted(&mut random, shape);
-        let Some(schedule) = schedule(&mut random, &draft) else {
-            continue;
-        };
+        let schedule = schedule(&mut random, &draft);
         fs::write(&file, draft.bytes()).map_err(|error| error.to_string())?;
         let way = Way::of(&draft, schedule, tally)?;
         let typed = way.typed(&mut random, tally);

@@ -241,9 +241,9 @@ fn refused_texts(calls: &dyn Calls, tally: &mut Tally) -> Outcome {
         ("(= v9 #x0005)", "(bvugt v9 #x0005)"),
         ("(= v9 #x0005)", "(= v9 true)"),
         ("(= v9 #x0005)", "v9"),
-        ("(assert (= v9", " (assert (= v9"),
-        ("(assert (= v9", "; a comment\n(assert (= v9"),
-        ("(assert (= v9", "\n(assert (= v9"),
+        ("(assert (bvule v8", " (assert (bvule v8"),
+        ("(assert (bvule v8", "; a comment\n(assert (bvule v8"),
+        ("(assert (bvule v8", "\n(assert (bvule v8"),
     ] {
         let changed = text.replacen(part, other, 1);
         tally.holds(changed != text && Script::read(changed.as_bytes()).is_err(), || format!("{other:?} for {part:?}"))?;

@@ -138,6 +138,21 @@ impl Case {
         (block + usize::from(skipped)) % self.threads
     }
 
+    /// "A line with block number n + 1 was not run".
+    pub fn unrun_block(&self) -> u16 {
+        self.switches as u16 + 1
+    }
+
+    /// The value of a line that was not run: "the value is 0, or 1 for assert
+    /// and assume".
+    pub fn unrun_value(&self, record: &Record) -> u16 {
+        match record.kind {
+            ASSERT if self.wrong == Wrong::UnrunAssertBroken => 0,
+            ASSERT | ASSUME => 1,
+            _ => 0,
+        }
+    }
+
     /// Items are numbered "globals first, then mutexes".
     pub fn item_name(&self, item: usize) -> Name {
         if item < self.globals {

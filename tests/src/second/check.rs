@@ -26,11 +26,15 @@ impl Assigned<'_> {
         let [kind, line, ..] = row;
         match kind {
             // "the block number does not fall"
+            1 if self.case.wrong == Wrong::RunAfterUnrun && !self.was_run(line) => true,
             1 => self.block(line) <= self.block(row[2]),
-            // "the block number is at most n"
-            2 => self.block(line) <= row[2],
-            // "the block number modulo T is the thread"
-            3 => self.block(line) % row[2] == row[3],
+            // "the block number is at most n"; "constraint 2 then allows n + 1"
+            2 if self.case.wrong == Wrong::UnrunTooLate => self.block(line) <= row[2],
+            2 => self.block(line) <= row[2] + 1,
+            // "the block number modulo T is the thread"; "constraint 3 accepts
+            // it", the block number of a line that was not run
+            3 if self.case.wrong == Wrong::UnrunHasThread => self.block(line) % row[2] == row[3],
+            3 => !self.was_run(line) || self.block(line) % row[2] == row[3],
             4 => self.value_is_kept(row),
             5 => self.demand_is_met(row),
             6 => self.block_value_is_kept(row),
@@ -44,18 +48,23 @@ impl Assigned<'_> {
         self.numbers[2 * (usize::from(line) - 1)]
     }
 
+    /// "A line with block number n + 1 was not run".
+    pub fn was_run(&self, line: u16) -> bool {
+        match self.case.wrong {
+            Wrong::UnrunPastN => self.block(line) < self.case.unrun_block(),
+            _ => self.block(line) != self.case.unrun_block(),
+        }
+    }
+
     /// "and 2(k − 1) + 1, its value".
     pub fn value(&self, line: u16) -> u16 {
         self.numbers[2 * (usize::from(line) - 1) + 1]
     }
 
-    /// "block i (0 ≤ i < n), item g at 2R + i × (G + M) + g". No other block is
-    /// asked for once the 1s and 2s are met; a mistaken order that asks all
-    /// the same gets 0.
+    /// "block i (0 ≤ i < n), item g at 2R + i × (G + M) + g".
     fn block_value(&self, block: usize, item: usize) -> u16 {
         let first = 2 * self.case.records.len();
-        let variable = first + block * self.case.items() + item;
-        self.numbers.get(variable).copied().unwrap_or(0)
+        self.numbers[first + block * self.case.items() + item]
     }
 
     /// The item's value when a block begins: "the block value of g at k's
@@ -87,8 +96,15 @@ impl Assigned<'_> {
         if copy != 0 && (any_block || self.block(copy) == self.block(line)) {
             self.value(copy)
         } else {
-            self.value_before(usize::from(self.block(line)), item)
+            self.value_before(self.block_of_reader(line), item)
         }
+    }
+
+    /// The block in which a line reads: at most n, by the 1s and 2s, for a line
+    /// that was run. A mistake that reads before these are met, or at a line that
+    /// was not run, takes block n.
+    fn block_of_reader(&self, line: u16) -> usize {
+        usize::from(self.block(line)).min(self.case.switches)
     }
 
     fn name_read(&self, name: Name, line: u16, copy: u16) -> u16 {
@@ -101,6 +117,10 @@ impl Assigned<'_> {
     fn value_is_kept(&self, row: Row) -> bool {
         let [_, line, guard_copy, ..] = row;
         let record = self.case.record(line);
+        if !self.was_run(line) && self.case.wrong != Wrong::UnrunInLastBlock {
+            let is_free = record.kind == INPUT && self.case.wrong == Wrong::UnrunInputFree;
+            return is_free || self.value(line) == self.case.unrun_value(record);
+        }
         let guarded_in = self.guard_is_true(record, guard_copy);
         if guarded_in && record.kind == INPUT {
             // "an input is free"
@@ -144,10 +164,13 @@ impl Assigned<'_> {
     }
 
     /// "an assume's value is 1 (both copies then 0); a lock whose guard is
-    /// true reads 0".
+    /// true reads 0"; of a line that was not run "constraint 5 is met".
     fn demand_is_met(&self, row: Row) -> bool {
         let [_, line, guard_copy, target_copy, ..] = row;
         let record = self.case.record(line);
+        if !self.was_run(line) && self.case.wrong != Wrong::DemandOfUnrun {
+            return true;
+        }
         if record.kind == ASSUME {
             return self.value(line) == 1;
         }

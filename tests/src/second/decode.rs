@@ -18,7 +18,9 @@ pub fn schedule(assigned: &Assigned, rows: &[Row]) -> Vec<u16> {
 fn block_length(assigned: &Assigned, block: usize) -> u16 {
     let case = assigned.case;
     let lines = case.chains[case.thread_of_block(block)].iter();
-    lines.filter(|&&line| usize::from(assigned.block(line)) == block).count() as u16
+    let counts_unrun = case.wrong == Wrong::UnrunCounted && block == case.switches;
+    let is_counted = |line: u16| usize::from(assigned.block(line)) == block || counts_unrun && !assigned.was_run(line);
+    lines.filter(|&&line| is_counted(line)).count() as u16
 }
 
 /// "a run input line with a true guard has its variable's value, any other
@@ -26,10 +28,11 @@ fn block_length(assigned: &Assigned, block: usize) -> u16 {
 fn input_value(assigned: &Assigned, rows: &[Row], line: u16) -> u16 {
     let record = assigned.case.record(line);
     let guarded_in = assigned.guard_is_true(record, guard_copy(rows, line));
-    if guarded_in || assigned.case.wrong == Wrong::FalseInputKept {
-        assigned.value(line)
-    } else {
-        0
+    match assigned.case.wrong {
+        Wrong::FalseInputKept => assigned.value(line),
+        Wrong::UnrunInputFree if !assigned.was_run(line) => assigned.value(line),
+        _ if assigned.was_run(line) && guarded_in => assigned.value(line),
+        _ => 0,
     }
 }
 

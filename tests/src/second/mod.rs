@@ -1,6 +1,6 @@
 //! The second implementation: accept, encode, check, decode, replay and
-//! listing, written from document 01 alone and kept as plain as can be; and the
-//! constraints as text, written from `docs/SMT-TEXT.md` as well.
+//! listing, written from documents 01 and 02 alone and kept as plain as can be;
+//! and the constraints as text, written from `docs/SMT-TEXT.md` as well.
 
 mod case;
 mod check;
@@ -133,10 +133,10 @@ impl Second {
         let case = read(bytes, self.wrong)?;
         room_for(case.items(), items)?;
         fits_blocks_and_inputs(&case, schedule)?;
-        block_lengths_add_up(&case, schedule)?;
+        block_lengths_fit(&case, schedule)?;
         let mut machine = Machine::new(&case, schedule);
         let stop = machine.run();
-        if let Some(Stop::FalseInput(place)) = stop {
+        if let Some(Stop::StrayInput(place)) = stop {
             if self.wrong == Wrong::WritesThoughRefused {
                 self.write(&machine.items(), items);
             }
@@ -226,9 +226,9 @@ fn fits_blocks_and_inputs(case: &Case, schedule: &[u16]) -> Result<(), Refusal> 
     Ok(())
 }
 
-/// "13. The block lengths of some thread do not add up to its lines." The sum
-/// is a number as on paper: it does not wrap at 65,536.
-fn block_lengths_add_up(case: &Case, schedule: &[u16]) -> Result<(), Refusal> {
+/// "Block lengths may add up to less than a thread's lines, so refusal 13 is
+/// only for more." The sum is a number as on paper: it does not wrap at 65,536.
+fn block_lengths_fit(case: &Case, schedule: &[u16]) -> Result<(), Refusal> {
     let mut sums = vec![0u32; case.threads];
     for block in 0..=case.switches {
         sums[case.thread_of_block(block)] += u32::from(schedule[block]);
@@ -236,8 +236,13 @@ fn block_lengths_add_up(case: &Case, schedule: &[u16]) -> Result<(), Refusal> {
     if case.wrong == Wrong::LengthsWrap {
         sums.iter_mut().for_each(|sum| *sum %= 65_536);
     }
-    let lines = case.chains.iter().map(|chain| chain.len() as u32);
-    if !lines.eq(sums) {
+    let fits = |lines: u32, sum: u32| match case.wrong {
+        Wrong::NoThreadStops => sum == lines,
+        Wrong::MoreThanLines => true,
+        _ => sum <= lines,
+    };
+    let mut threads = case.chains.iter().zip(sums);
+    if !threads.all(|(chain, sum)| fits(chain.len() as u32, sum)) {
         return Err(refusal(13));
     }
     Ok(())

@@ -4,13 +4,14 @@
 use super::case::{Case, Record, ASSERT, ASSUME, COMPUTE, INPUT, LOAD, LOCK, STORE, UNLOCK};
 use super::wrong::Wrong;
 
-/// What ends a run before its last step.
+/// What a run ends with, where it does not end well.
 #[derive(Clone, Copy)]
 pub enum Stop {
     /// "an assume that is zero or a lock whose mutex is not 0 ends the run"
     CutOff(u16),
-    /// "an input's schedule value must be 0 (else refusal 14)"
-    FalseInput(u16),
+    /// "an input's schedule value must be 0 (else refusal 14)", of one with a
+    /// false guard and of one that was not run
+    StrayInput(u16),
 }
 
 /// "It holds for each thread its next line, at first the thread's first
@@ -48,6 +49,12 @@ impl<'a> Machine<'a> {
     /// "For i from 0 to n it steps the thread of block i as often as the
     /// length of block i says".
     pub fn run(&mut self) -> Option<Stop> {
+        if self.case.wrong == Wrong::StrayLeftFirst {
+            let stray = self.first_stray(self.lines_left_by_lengths());
+            if stray.is_some() {
+                return stray;
+            }
+        }
         for block in 0..=self.case.switches {
             for _ in 0..self.schedule[block] {
                 let stop = self.step(self.case.thread_of_block(block));
@@ -56,7 +63,41 @@ impl<'a> Machine<'a> {
                 }
             }
         }
-        None
+        // "An unrun input has value 0, otherwise 14 [...], looked for after the
+        // last step."
+        self.first_stray(self.lines_left())
+    }
+
+    /// "at the first such record by thread and chain"
+    fn first_stray(&self, mut left: Vec<u16>) -> Option<Stop> {
+        match self.case.wrong {
+            Wrong::StrayLeftUnseen => left.clear(),
+            Wrong::StrayLeftByRecord => left.sort(),
+            _ => {}
+        }
+        left.into_iter().find(|&line| self.is_stray(line)).map(Stop::StrayInput)
+    }
+
+    /// The lines that the threads have left, by thread and chain.
+    fn lines_left(&self) -> Vec<u16> {
+        let mut left = Vec::new();
+        for thread in &self.threads {
+            let mut line = thread.next_line;
+            while line != 0 {
+                left.push(line);
+                line = self.case.record(line).next;
+            }
+        }
+        left
+    }
+
+    /// The lines that a run to its end would leave.
+    fn lines_left_by_lengths(&self) -> Vec<u16> {
+        let mut left = self.case.chains.clone();
+        for block in 0..=self.case.switches {
+            left[self.case.thread_of_block(block)].drain(..usize::from(self.schedule[block]));
+        }
+        left.concat()
     }
 
     /// The items' values, "globals first, then mutexes".
@@ -74,7 +115,7 @@ impl<'a> Machine<'a> {
         }
         let record = case.record(line);
         let stop =
-            if self.guard_is_true(thread, record) { self.run_line(thread, line, record) } else { self.pass_line(line, record) };
+            if self.guard_is_true(thread, record) { self.run_line(thread, line, record) } else { self.pass_line(line) };
         if stop.is_none() {
             // "After any other step the record that follows becomes the next
             // line."
@@ -90,9 +131,13 @@ impl<'a> Machine<'a> {
 
     /// "Guard false: no local, global or mutex changes, and an input's
     /// schedule value must be 0".
-    fn pass_line(&self, line: u16, record: &Record) -> Option<Stop> {
-        let refused = record.kind == INPUT && self.input_value(line) != 0;
-        refused.then_some(Stop::FalseInput(line))
+    fn pass_line(&self, line: u16) -> Option<Stop> {
+        self.is_stray(line).then_some(Stop::StrayInput(line))
+    }
+
+    /// Whether the line is an input with a value other than 0.
+    fn is_stray(&self, line: u16) -> bool {
+        self.case.record(line).kind == INPUT && self.input_value(line) != 0
     }
 
     /// "Guard true: compute, store, load, lock and unlock do what Kinds says,

@@ -75,6 +75,15 @@ impl<'a> Speller<'a> {
         format!("v{}", 2 * (usize::from(line) - 1))
     }
 
+    /// "not run of k: `(= B #xU)`, where `B` is block of k and `#xU` the constant
+    /// n + 1"
+    fn not_run(&self, line: u16) -> String {
+        match self.case.wrong {
+            Wrong::UnrunPastN => format!("(bvule {} {})", constant(self.case.unrun_block()), self.block(line)),
+            _ => equal(&self.block(line), &constant(self.case.unrun_block())),
+        }
+    }
+
     /// "value of k: variable 2(k − 1) + 1"
     fn value(&self, line: u16) -> String {
         format!("v{}", 2 * (usize::from(line) - 1) + 1)
@@ -124,7 +133,7 @@ impl<'a> Speller<'a> {
         let reader = self.block(line);
         let in_block = |block: usize| (equal(&reader, &constant(block as u16)), self.is(x, &self.before(item, block)));
         let mut cases: Vec<(String, String)> = self.own_blocks(line).into_iter().map(in_block).collect();
-        // The other blocks are excluded by the 1s, 2s and 3s, but the page has the case.
+        // No line that was run comes to it, by the 1s, 2s and 3s, but the page has the case.
         let innermost = match (self.case.wrong, cases.pop()) {
             (Wrong::LastBlockElse, Some((_, formula))) => formula,
             (_, last) => {
@@ -167,9 +176,11 @@ impl<'a> Speller<'a> {
     fn formula(&self, row: Row) -> String {
         let [kind, line, ..] = row;
         match kind {
-            1 => format!("(bvule {} {})", self.block(line), self.block(row[2])),
-            2 => format!("(bvule {} {})", self.block(line), constant(row[2])),
-            3 => equal(&format!("(bvurem {} {})", self.block(line), constant(row[2])), &constant(row[3])),
+            1 => self.order_formula(row),
+            2 if self.case.wrong == Wrong::UnrunTooLate => format!("(bvule {} {})", self.block(line), constant(row[2])),
+            // "block of k and the constant n + 1"
+            2 => format!("(bvule {} {})", self.block(line), constant(row[2] + 1)),
+            3 => self.thread_formula(row),
             4 => self.value_formula(row),
             5 => self.demand_formula(row),
             6 => self.block_value_formula(row),
@@ -177,8 +188,43 @@ impl<'a> Speller<'a> {
         }
     }
 
-    /// "For guard 0 it is `IN`, else `(ite G IN OUT)`".
+    /// "1, line k, next line l: `(bvule B C)`, block of k and block of l".
+    fn order_formula(&self, row: Row) -> String {
+        let [_, line, next, ..] = row;
+        let order = format!("(bvule {} {})", self.block(line), self.block(next));
+        match self.case.wrong {
+            Wrong::RunAfterUnrun => format!("(or {} {order})", self.not_run(line)),
+            _ => order,
+        }
+    }
+
+    /// "3, line k, T, t: `(or U M)`, with `U` for not run of k and `M` for
+    /// `(= (bvurem B #xT) #xt)`".
+    fn thread_formula(&self, row: Row) -> String {
+        let [_, line, threads, thread, ..] = row;
+        let remainder = format!("(bvurem {} {})", self.block(line), constant(threads));
+        let own = equal(&remainder, &constant(thread));
+        match self.case.wrong {
+            Wrong::UnrunHasThread => own,
+            _ => format!("(or {} {own})", self.not_run(line)),
+        }
+    }
+
+    /// "`(ite U (= V #x0000) F)`, for assert and assume `(ite U (= V #x0001) F)`,
+    /// with `U` for not run of k and `V` for value of k."
     fn value_formula(&self, row: Row) -> String {
+        let [_, line, ..] = row;
+        let record = self.case.record(line);
+        let is_unrun_value = equal(&self.value(line), &constant(self.case.unrun_value(record)));
+        match self.case.wrong {
+            Wrong::UnrunInLastBlock => self.value_of_run(row),
+            Wrong::UnrunInputFree if record.kind == INPUT => if_else(&self.not_run(line), "true", &self.value_of_run(row)),
+            _ => if_else(&self.not_run(line), &is_unrun_value, &self.value_of_run(row)),
+        }
+    }
+
+    /// "For guard 0 `F` is `IN`, else `(ite G IN OUT)`".
+    fn value_of_run(&self, row: Row) -> String {
         let [_, line, guard_copy, ..] = row;
         let record = self.case.record(line);
         match self.guard(record, guard_copy) {
@@ -241,9 +287,20 @@ impl<'a> Speller<'a> {
         nested("and", facts, formula)
     }
 
-    /// "5, line k, guard copy, target copy: for an assume `(= V #x0001)`. For
-    /// a lock: with F for '`#x0000` is the mutex as line k reads it'".
+    /// "5, line k, guard copy, target copy: `(or U F)`, with `U` for not run of
+    /// k."
     fn demand_formula(&self, row: Row) -> String {
+        let [_, line, ..] = row;
+        match self.case.wrong {
+            Wrong::DemandOfUnrun => self.demand_of_run(row),
+            _ => format!("(or {} {})", self.not_run(line), self.demand_of_run(row)),
+        }
+    }
+
+    /// "For an assume `F` is `(= V #x0001)`. For a lock: with `D` for '`#x0000`
+    /// is the mutex as line k reads it with the target copy', for guard 0 `F` is
+    /// `D`, else `(=> G D)`".
+    fn demand_of_run(&self, row: Row) -> String {
         let [_, line, guard_copy, target_copy, ..] = row;
         let record = self.case.record(line);
         if record.kind == ASSUME {

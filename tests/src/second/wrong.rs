@@ -42,6 +42,34 @@ pub enum Wrong {
     /// A listing that is one byte too long for its slice is refused, and still
     /// written as far as it goes.
     WritesThoughShort,
+    /// A line is taken as not run by any block number over n.
+    UnrunPastN,
+    /// A 2 allows n at most.
+    UnrunTooLate,
+    /// A 3 asks a line that was not run for its thread.
+    UnrunHasThread,
+    /// A line may be run after one that was not.
+    RunAfterUnrun,
+    /// An assert that was not run has value 0.
+    UnrunAssertBroken,
+    /// A line that was not run has the value that it would have in block n.
+    UnrunInLastBlock,
+    /// A 5 is asked of a line that was not run, as of one in block n.
+    DemandOfUnrun,
+    /// An input that was not run is free, and the decoder hands its variable on.
+    UnrunInputFree,
+    /// The decoder counts lines that were not run into block n.
+    UnrunCounted,
+    /// Block lengths must add up to a thread's lines.
+    NoThreadStops,
+    /// Block lengths may add up to more than a thread's lines.
+    MoreThanLines,
+    /// Inputs that are not run are looked at before the run.
+    StrayLeftFirst,
+    /// Inputs that are not run may have any value.
+    StrayLeftUnseen,
+    /// Of such inputs the one with the lowest record number is named.
+    StrayLeftByRecord,
     /// Columns of a source are counted in bytes.
     ColumnsInBytes,
     /// A local that has a new name is still called by its plain one.
