@@ -138,7 +138,7 @@ texts() {
     smt_is 'of its source, too' "$scratch/page" cases/case-a.source
     run bash -c "$menduvo smt - <cases/case-a.case"
     result 'of a case on standard input' cmp -s "$scratch/out" "$scratch/page"
-    says 'a text to a file' 0 'a.smt2: 18 constraints over 12 variables, in 1221 bytes' "$menduvo" smt cases/case-a.case -o "$file"
+    says 'a text to a file' 0 'a.smt2: 18 constraints over 12 variables, in 1486 bytes' "$menduvo" smt cases/case-a.case -o "$file"
     result 'the file has the text, and nothing else' cmp -s "$file" "$scratch/page"
     says 'a text replaces no file' 3 'a.smt2 is there already; --force replaces it' "$menduvo" smt cases/lock-order.case -o "$file"
     result 'the text is still there' cmp -s "$file" "$scratch/page"
@@ -149,7 +149,7 @@ texts() {
     says 'a text replaces no input' 3 'input.case is an input' "$menduvo" smt "$scratch/input.case" -o "$scratch/input.case" --force
     damaged 1 3 && "$menduvo" smt "$scratch/damaged.case" >"$scratch/three.smt2"
     smt_is 'a text with another n' "$scratch/three.smt2" cases/case-a.case --switches 3
-    says 'it has that n' 0 '(bvule v8 #x0003)' "$menduvo" smt cases/case-a.case --switches 3
+    says 'it has that n' 0 '(bvule v8 #x0004)' "$menduvo" smt cases/case-a.case --switches 3
     says 'nothing to force' 3 '--force needs -o' "$menduvo" smt cases/case-a.case --force
     says 'a file without a name' 3 '-o FILE is missing' "$menduvo" smt cases/case-a.case -o ''
     says 'one text at a time' 3 "'cases/lock-order.case' is too much" "$menduvo" smt cases/case-a.case cases/lock-order.case
