@@ -53,7 +53,7 @@ values() {
     same replay-values-twelve 0 "$menduvo" replay "$scratch/items.case" <(echo 2 0) --values
     same replay-values-none 0 "$menduvo" replay "$scratch/vain.case" <(echo 2 2) --values
     local name
-    for name in case-a interlock interlock-broken lock-order lost-update; do
+    for name in case-a handshake interlock interlock-broken lock-order lost-update; do
         "$menduvo" replay --values "cases/$name.case" "cases/$name.schedule" | sed '/^ *items: /d' >"$scratch/without"
         run "$menduvo" replay "cases/$name.case" "cases/$name.schedule"
         result "$name: without the items it is the same run" cmp -s "$scratch/without" "$scratch/out"
