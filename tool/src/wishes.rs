@@ -10,28 +10,25 @@ pub fn blocks_up_to(case: &Case, last: u16) -> String {
     format!("(and true{})", lines.collect::<String>())
 }
 
-/// The wish that at most so many blocks have lines. A line that is run begins a block with lines where it is its thread's first, or
-/// in another block than the line before it.
+/// The wish that at most so many blocks have lines.
 pub fn blocks_with_lines_at_most(case: &Case, most: u16) -> String {
-    let first = case.chains.iter().filter_map(|chain| chain.first()).map(|&record| was_run(case, record));
-    let others = case.chains.iter().flat_map(|chain| chain.windows(2));
-    let others = others.map(|pair| format!("(and {} (not (= {} {})))", was_run(case, pair[1]), block(pair[0]), block(pair[1])));
-    at_most(first.chain(others), most)
+    let has_lines = |number: usize| {
+        let lines = case.chains[case.thread_of_block(number)].iter();
+        let lines = lines.map(|&record| format!(" (= {} {})", block(record), constant(number as u16)));
+        format!("(or false{})", lines.collect::<String>())
+    };
+    at_most((0..=case.switches).map(has_lines), most)
 }
 
 /// The wish that at most so many lines are run.
 pub fn lines_at_most(case: &Case, most: u16) -> String {
-    at_most(case.chains.iter().flatten().map(|&record| was_run(case, record)), most)
+    at_most(case.chains.iter().flatten().map(|&record| format!("(not {})", unrun(case, record))), most)
 }
 
 /// That at most so many of these conditions hold.
 fn at_most(conditions: impl Iterator<Item = String>, most: u16) -> String {
     let sum = conditions.fold(constant(0), |sum, one| format!("(bvadd {sum} (ite {one} #x0001 #x0000))"));
     format!("(bvule {sum} {})", constant(most))
-}
-
-fn was_run(case: &Case, record: u16) -> String {
-    format!("(not {})", unrun(case, record))
 }
 
 fn unrun(case: &Case, record: u16) -> String {
