@@ -74,21 +74,21 @@ typedef struct {
  * menduvo_refusal_text uses it. It is a list of macros so that a program may make of it what it needs (a switch, a table), and
  * so that the texts are in no program that does not use them.
  */
-#define MENDUVO_REFUSALS(X)                                                                                     \
-    X(1, "the case is not 32 + 16R bytes with R from 0 to 256")                                                 \
-    X(2, "T, the number of threads, is outside 2 to 4")                                                         \
-    X(3, "n, the number of switches, is over 15")                                                               \
-    X(4, "G, the number of globals, is over 8, or M, the number of mutexes, is over 4")                         \
-    X(5, "a header field of an absent thread or global is not 0")                                               \
-    X(6, "a first or next number is over R, or a record is reached twice")                                      \
-    X(7, "a record is in no chain")                                                                             \
-    X(8, "a thread has over 64 lines")                                                                          \
-    X(9, "a record breaks the rules of its fields (the place is the lowest such record)")                       \
-    X(10, "an output slice is shorter than what would be written")                                              \
-    X(11, "the assignment does not have exactly 2R + n x (G + M) numbers")                                      \
-    X(12, "the schedule does not have exactly n + 1 numbers and one for each input line")                       \
-    X(13, "the block lengths of some thread do not add up to its lines")                                        \
-    X(14, "the run meets an input line with a false guard and a value other than 0 (the place is that record)") \
+#define MENDUVO_REFUSALS(X)                                                                                    \
+    X(1, "the case is not 32 + 16R bytes with R from 0 to 256")                                                \
+    X(2, "T, the number of threads, is outside 2 to 4")                                                        \
+    X(3, "n, the number of switches, is over 15")                                                              \
+    X(4, "G, the number of globals, is over 8, or M, the number of mutexes, is over 4")                        \
+    X(5, "a header field of an absent thread or global is not 0")                                              \
+    X(6, "a first or next number is over R, or a record is reached twice")                                     \
+    X(7, "a record is in no chain")                                                                            \
+    X(8, "a thread has over 64 lines")                                                                         \
+    X(9, "a record breaks the rules of its fields (the place is the lowest such record)")                      \
+    X(10, "an output slice is shorter than what would be written")                                             \
+    X(11, "the assignment does not have exactly 2R + n x (G + M) numbers")                                     \
+    X(12, "the schedule does not have exactly n + 1 numbers and one for each input line")                      \
+    X(13, "the block lengths of some thread add up to more than its lines")                                    \
+    X(14, "an input line with a false guard, or not run, has a value other than 0 (the place is that record)") \
     X(15, "the assignment fails (the place is the first failed constraint, from 1)")
 
 /* What a refusal's number means, as text that ends in 0. It needs no library. Of a number that is none it says so. */
@@ -125,7 +125,7 @@ MenduvoNumbers menduvo_check(const uint8_t *case_, size_t case_len, const uint16
 
 /*
  * Writes the schedule that the assignment stands for: n + 1 block lengths, then a value for each input line, by thread and
- * then by chain. The assignment must meet every constraint.
+ * then by chain. A line with block number n + 1 was not run, and counts in no block. The assignment must meet every constraint.
  *   1  the schedule is written; first: how many numbers it has
  * Refusals 1 to 11 and 15.
  */
@@ -134,9 +134,10 @@ MenduvoNumbers menduvo_decode(const uint8_t *case_, size_t case_len, const uint1
 
 /*
  * Runs the schedule, and writes the items' values at the end of the run, or where it is cut off, with the failed line not run:
- * G + M numbers, globals first, then mutexes.
- *   1  violated: the run is complete and legal and breaks an assertion; first: the record of the first that is broken
- *   2  clean: the run is complete and legal and breaks none
+ * G + M numbers, globals first, then mutexes. A thread whose block lengths add up to less than its lines stops there; an input line
+ * that is not run has value 0.
+ *   1  violated: the run is legal and breaks an assertion; first: the record of the first that is broken
+ *   2  clean: the run is legal and breaks none
  *   3  cut off, whether or not an assertion was broken before; first: the record whose assume or lock failed
  * Refusals 1 to 10 and 12 to 14.
  */

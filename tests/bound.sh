@@ -90,12 +90,12 @@ switches() {
     says 'picture' 0 'interlock-broken-n2' "$menduvo" picture "$broken" "$scratch/short.schedule" --switches 2 -o -
     local solver
     for solver in z3 cvc5; do
-        says "$solver, n = 2" 0 'cases/interlock-broken.case with n = 2: 63 constraints over 42 variables' \
-            "$menduvo" solve "$broken" --switches 2 --solver "$solver"
+        says "$solver, n = 1" 0 'cases/interlock-broken.case with n = 1: 60 constraints over 39 variables' \
+            "$menduvo" solve "$broken" --switches 1 --solver "$solver"
         says "$solver, n = 4" 1 'with n = 4: 69 constraints' "$menduvo" solve "$broken" --switches 4 --solver "$solver"
     done
     says 'several' 1 $'every case with n = 2\ncase ' "$menduvo" solve "$broken" cases/case-a.case --switches 2
-    says 'a folder' 1 '5 cases: 2 violated, 3 unsat, 0 vacuous' "$menduvo" solve cases --switches 2
+    says 'a folder' 0 '6 cases: 0 violated, 5 unsat, 1 vacuous' "$menduvo" solve cases --switches 1
     objects 1 solve "$broken" --switches 2
     result 'the object has the n' test "$(last switches)" = 2
 }
@@ -103,11 +103,11 @@ switches() {
 # The answers at several n stand beside each other.
 kept() {
     local folder=$scratch/kept
-    says 'kept at n = 2' 0 'says unsat' "$menduvo" solve "$broken" --switches 2 --keep "$folder"
+    says 'kept at n = 1' 0 'says unsat' "$menduvo" solve "$broken" --switches 1 --keep "$folder"
     says 'kept at n = 3 beside it' 1 'violated' "$menduvo" solve "$broken" --switches 3 --keep "$folder"
-    result 'both are there' test -s "$folder/interlock-broken-n2.answer" -a -s "$folder/interlock-broken-n3.schedule"
-    says 'at n = 2 again' 3 'interlock-broken-n2.smt2 is there already' "$menduvo" solve "$broken" --switches 2 --keep "$folder"
-    says 'resumed at n = 2' 0 'filed in kept already, by z3: unsat' "$menduvo" solve "$broken" --switches 2 --resume "$folder"
+    result 'both are there' test -s "$folder/interlock-broken-n1.answer" -a -s "$folder/interlock-broken-n3.schedule"
+    says 'at n = 1 again' 3 'interlock-broken-n1.smt2 is there already' "$menduvo" solve "$broken" --switches 1 --keep "$folder"
+    says 'resumed at n = 1' 0 'filed in kept already, by z3: unsat' "$menduvo" solve "$broken" --switches 1 --resume "$folder"
     says 'resumed at n = 3' 1 'filed in kept already, by z3: violated' "$menduvo" solve "$broken" --switches 3 --resume "$folder"
     says 'its own n is another name' 1 'violated' "$menduvo" solve "$broken" --resume "$folder"
     result 'it is there' test -s "$folder/interlock-broken.answer"
@@ -120,27 +120,28 @@ least() {
         while read -r name words; do
             says "$solver, $name" "${words%% *}" "${words#* }" "$menduvo" solve "cases/$name.case" --least --switches 6 --solver "$solver"
         done <<'CASES'
-case-a 1 first at n = 2; unsat at 0, 1 (0: nothing was checked)
-interlock-broken 1 first at n = 3; unsat at 0, 1, 2 (0: nothing was checked)
-interlock 0 unsat at 0 to 6 (0: nothing was checked): no violation up to n = 6
-lock-order 0 unsat at 0 to 6 (0: nothing was checked): no violation up to n = 6
+case-a 1 first at n = 2; unsat at 0, 1
+handshake 1 first at n = 2; unsat at 0, 1
+interlock-broken 1 first at n = 2; unsat at 0, 1
+interlock 0 unsat at 0 to 6: no violation up to n = 6
+lock-order 0 unsat at 0 to 6: no violation up to n = 6
 lost-update 1 first at n = 2; unsat at 0, 1 (0, 1: nothing was checked)
 CASES
     done
-    says 'up to the largest' 0 'unsat at 0 to 15 (0: nothing was checked): no violation up to the largest n' \
+    says 'up to the largest' 0 'unsat at 0 to 15: no violation up to the largest n' \
         "$menduvo" solve cases/interlock.case --least
     result 'each n has its line' test "$(grep -cE '^[0-9]+ +(unsat|vacuous) ' "$scratch/out")" = 16
     run "$menduvo" solve "$broken" --least --solver z3
-    sed -n '/^with n = 3:$/,/^first at /p' "$scratch/out" | sed '1d;$d' >"$scratch/shown"
-    run "$menduvo" solve "$broken" --switches 3 --solver z3
+    sed -n '/^with n = 2:$/,/^first at /p' "$scratch/out" | sed '1d;$d' >"$scratch/shown"
+    run "$menduvo" solve "$broken" --switches 2 --solver z3
     result 'the run is the one of solve' cmp -s "$scratch/shown" <(sed 1d "$scratch/out")
-    says 'the n of the file is no matter' 1 'first at n = 3' "$menduvo" solve "$scratch/bound.case" --least
+    says 'the n of the file is no matter' 1 'first at n = 2' "$menduvo" solve "$scratch/bound.case" --least
     run bash -c "'$menduvo' solve - --least <$broken"
-    shows 'a case on standard input' '[ "$status" = 1 ] && [[ $out = *"first at n = 3; unsat at 0, 1, 2"* ]]'
+    shows 'a case on standard input' '[ "$status" = 1 ] && [[ $out = *"first at n = 2; unsat at 0, 1"* ]]'
     says 'a bound over the largest' 3 '--least looks up to n = 15, the largest of a case, and not to 16' \
         "$menduvo" solve "$broken" --least --switches 16
-    says 'a folder' 1 '5 cases: 3 violated, 2 unsat, 0 vacuous' "$menduvo" solve cases --least --switches 4 --jobs 2
-    shows 'a line of it' '[[ $out = *"interlock-broken.source  violated    66 over 45"*"first at n = 3; unsat at 0, 1, 2 (0: nothing was checked); record 8"* ]]'
+    says 'a folder' 1 '6 cases: 4 violated, 2 unsat, 0 vacuous' "$menduvo" solve cases --least --switches 4 --jobs 2
+    shows 'a line of it' '[[ $out = *"lost-update.source       violated    42 over 28"*"first at n = 2; unsat at 0, 1 (0, 1: nothing was checked); record 9"* ]]'
     damaged 0 5
     says 'a refused case' 2 'refusal 2' "$menduvo" solve "$scratch/damaged.case" --least
     # L0 = 1; G1 = L0: no assert.
@@ -150,47 +151,79 @@ CASES
     says 'a strict one goes by the largest n' 0 'unsat at 0 to 4' "$menduvo" solve cases/interlock.case --least --switches 4 --strict
 }
 
-# An n without an answer is told, and nothing is called the first behind it. The text has n as the bound of thread 0's last
+# asked_to_finish CASE N LAST..: the text of the case with this n, and of these variables, the block numbers of last lines, that they
+# are at most n, so that no thread stops.
+asked_to_finish() {
+    local last
+    "$menduvo" smt "$1" --switches "$2" | sed '$d'
+    for last in "${@:3}"; do printf '(assert (bvule v%d #x%04x))\n' "$last" "$2"; done
+    echo '(check-sat)'
+}
+
+# Of the handshake no run finishes within its bound, and its fault is found. The last lines are records 11 and 23.
+finishing() {
+    local solver
+    sed 's/assert moved == 0/assert 0/' cases/handshake.source >"$scratch/finishes.source"
+    result 'its third line is the assert' eval '[ "$(grep -c "assert 0" "$scratch/finishes.source")" = 1 ]'
+    for solver in z3 cvc5; do
+        "$menduvo" smt cases/handshake.case >"$scratch/text.smt2"
+        run "$solver" "$scratch/text.smt2"
+        result "$solver, handshake" test "$out" = sat
+        asked_to_finish cases/handshake.case 4 20 44 >"$scratch/finish.smt2"
+        result 'each last line is asked about' test "$(grep -cxE '\(assert \(bvule v(20|44) #x0004\)\)' "$scratch/finish.smt2")" = 2
+        run "$solver" "$scratch/finish.smt2"
+        result "$solver, no run that finishes breaks it" test "$out" = unsat
+        # Every run that passes the third line violates where that is an assert of 0.
+        asked_to_finish "$scratch/finishes.source" 4 20 44 >"$scratch/finish.smt2"
+        run "$solver" "$scratch/finish.smt2"
+        result "$solver, no run finishes" test "$out" = unsat
+        asked_to_finish cases/handshake.case 6 20 44 >"$scratch/finish.smt2"
+        run "$solver" "$scratch/finish.smt2"
+        result "$solver, with 6 switches one does" test "$out" = sat
+    done
+}
+
+# An n without an answer is told, and nothing is called the first behind it. The text has n + 1 as the bound of thread 0's last
 # line, record 9.
 open() {
-    local words='a violation at n = 4; unsat at 0, 1, 2 (0: nothing was checked); not known at 3'
+    local words='a violation at n = 3; unsat at 0, 1; not known at 2'
     asked_z3 '(bvule v16 #x0003)' 'exec sleep 60'
-    says 'no time at n = 3' 1 "$words (timeout)" "$menduvo" solve "$broken" --least --timeout 3
-    shows 'the message has the n' '[[ $out = *"menduvo: at n = 3: cases/interlock-broken.case: timeout"* && $out != *"first at"* ]]'
+    says 'no time at n = 2' 1 "$words (timeout)" "$menduvo" solve "$broken" --least --timeout 3
+    shows 'the message has the n' '[[ $out = *"menduvo: at n = 2: cases/interlock-broken.case: timeout"* && $out != *"first at"* ]]'
     asked_z3 '(bvule v16 #x0003)' 'echo unknown'
-    says 'z3 gives up at n = 3' 1 "$words (unknown)" "$menduvo" solve "$broken" --least
-    objects 6 solve "$broken" --least
-    shows 'the object' '[ "$(last first), $(last violated), $(last notKnown 0 switches), $(last notKnown 0 answer)" = "null, 4, 3, unknown" ]'
+    says 'z3 gives up at n = 2' 1 "$words (unknown)" "$menduvo" solve "$broken" --least
+    objects 5 solve "$broken" --least
+    shows 'the object' '[ "$(last first), $(last violated), $(last notKnown 0 switches), $(last notKnown 0 answer)" = "null, 3, 2, unknown" ]'
     asked_z3 '(bvule v16 #x0003)' 'echo sat; echo "((v0 #x0001))"'
-    says 'a wrong model at n = 3' 1 "$words (failed)" "$menduvo" solve "$broken" --least
-    says 'a wrong model, up to n = 3' 3 'no violation found; unsat at 0, 1, 2 (0: nothing was checked); not known at 3 (failed)' \
-        "$menduvo" solve "$broken" --least --switches 3
-    says 'a wrong model, among several' 3 'no violation found; unsat at 0, 1, 2 (0: nothing was checked); not known at 3 (failed)' \
-        "$menduvo" solve "$broken" cases/interlock.case --least --switches 3
+    says 'a wrong model at n = 2' 1 "$words (failed)" "$menduvo" solve "$broken" --least
+    says 'a wrong model, up to n = 2' 3 'no violation found; unsat at 0, 1; not known at 2 (failed)' \
+        "$menduvo" solve "$broken" --least --switches 2
+    says 'a wrong model, among several' 3 'no violation found; unsat at 0, 1; not known at 2 (failed)' \
+        "$menduvo" solve "$broken" cases/interlock.case --least --switches 2
     fake z3 'cat >/dev/null; echo unknown'
     says 'nothing is known' 3 'no violation found; not known at 0 (unknown), 1 (unknown)' "$menduvo" solve "$broken" --least --switches 1
     fake z3 'cat >/dev/null; echo unsat'
     says 'a solver that always denies' 0 'no violation up to n = 4' "$menduvo" solve "$broken" --least --switches 4
     rm "$scratch/fakes/z3"
     fake cvc5 'cat >/dev/null; echo unsat'
-    says 'a solver that denies the run of another' 3 'a violation at n = 3, which a solver denies; unsat at 0, 1, 2' \
+    says 'a solver that denies the run of another' 3 'a violation at n = 2, which a solver denies; unsat at 0, 1' \
         "$menduvo" solve "$broken" --least --solver both
-    objects 5 solve "$broken" --least --solver both
-    shows 'it is not called the first' '[ "$status, $(last first), $(last violated)" = "3, null, 3" ]'
+    objects 4 solve "$broken" --least --solver both
+    shows 'it is not called the first' '[ "$status, $(last first), $(last violated)" = "3, null, 2" ]'
     rm "$scratch/fakes/cvc5"
     fake z3 "echo asked >>'$scratch/asked'; exec $z3 \"\$@\""
     local folder=$scratch/steps
-    says 'kept' 1 'first at n = 3' "$menduvo" solve "$broken" --least --keep "$folder"
+    says 'kept' 1 'first at n = 2' "$menduvo" solve "$broken" --least --keep "$folder"
     result 'each n is kept' test "$(cd "$folder" && echo *.answer)" = \
-        'interlock-broken-n0.answer interlock-broken-n1.answer interlock-broken-n2.answer interlock-broken-n3.answer'
+        'interlock-broken-n0.answer interlock-broken-n1.answer interlock-broken-n2.answer'
     : >"$scratch/asked"
-    says 'resumed' 1 'first at n = 3; unsat at 0, 1, 2' "$menduvo" solve "$broken" --least --resume "$folder"
+    says 'resumed' 1 'first at n = 2; unsat at 0, 1' "$menduvo" solve "$broken" --least --resume "$folder"
     result 'no solver is asked' test ! -s "$scratch/asked"
     rm "$folder"/*-n1.*
-    says 'resumed where one is missing' 1 'first at n = 3; unsat at 0, 1, 2' "$menduvo" solve "$broken" --least --resume "$folder"
+    says 'resumed where one is missing' 1 'first at n = 2; unsat at 0, 1' "$menduvo" solve "$broken" --least --resume "$folder"
     : >"$scratch/asked"
-    rm "$folder"/*-n[013].*
-    says 'something is in the way' 3 'interlock-broken-n2.smt2 is there already' "$menduvo" solve "$broken" --least --keep "$folder"
+    rm "$folder"/*-n[02].*
+    says 'something is in the way' 3 'interlock-broken-n1.smt2 is there already' "$menduvo" solve "$broken" --least --keep "$folder"
     result 'no solver was asked before that' test ! -s "$scratch/asked"
     rm "$scratch/fakes/z3"
     bare
@@ -207,18 +240,19 @@ asserts() {
     local solver
     for solver in z3 cvc5; do
         run "$menduvo" solve "$scratch/four.case" --each --solver "$solver"
-        sed -i 's/  [0-9]\.[0-9][0-9]  /  -.--  /' "$scratch/out"
+        # Which lines run behind the assert is up to the solver.
+        sed -i 's/  [0-9]\.[0-9][0-9]  /  -.--  /; s/schedule [1-4] 0/schedule - 0/' "$scratch/out"
         matches solve-each 1
-        says "$solver, one is unsat at n = 3" 1 '2 asserts: 1 violated, 1 unsat' "$menduvo" solve "$broken" --each --solver "$solver"
-        says "$solver, each by its first n" 1 'first at n = 4; unsat at 0 to 3 (0: nothing was checked); e.g. schedule' \
+        says "$solver, one is unsat at n = 2" 1 '2 asserts: 1 violated, 1 unsat' "$menduvo" solve "$broken" --each --switches 2 --solver "$solver"
+        says "$solver, each by its first n" 1 'first at n = 3; unsat at 0, 1, 2 (0: nothing was checked); e.g. schedule' \
             "$menduvo" solve "$broken" --each --least --switches 5 --solver "$solver"
         says "$solver, one alone" 1 'record 2, which was asked about, is broken too, after record 1' \
             "$menduvo" solve "$scratch/four.case" --assert 2 --solver "$solver"
         shows 'the run is that of the case' '[[ $out = *"record   1  assert 0"*"BROKEN"*"record   2  assert 0"*"violated: record 1 "* ]]'
-        says "$solver, one alone that is unsat" 0 'no complete legal run breaks the assertion of record 17 within n = 3' \
-            "$menduvo" solve "$broken" --assert 17 --solver "$solver"
-        says "$solver, one alone with more switches" 1 'violated: record 17' "$menduvo" solve "$broken" --assert 17 --switches 4 --solver "$solver"
-        says "$solver, one alone by its first n" 1 'first at n = 4; unsat at 0 to 3' "$menduvo" solve "$broken" --assert 17 --least --solver "$solver"
+        says "$solver, one alone that is unsat" 0 'no legal run breaks the assertion of record 17 within n = 2' \
+            "$menduvo" solve "$broken" --assert 17 --switches 2 --solver "$solver"
+        says "$solver, one alone with more switches" 1 'violated: record 17' "$menduvo" solve "$broken" --assert 17 --solver "$solver"
+        says "$solver, one alone by its first n" 1 'first at n = 3; unsat at 0, 1, 2' "$menduvo" solve "$broken" --assert 17 --least --solver "$solver"
     done
     says 'one that is never reached' 0 'VACUOUS: this unsat says nothing' "$menduvo" solve "$scratch/four.case" --assert 3
     says 'which is no success where it is strict' 1 'VACUOUS' "$menduvo" solve "$scratch/four.case" --assert 3 --strict
@@ -241,7 +275,7 @@ asserts() {
     objects 1 solve "$scratch/damaged.case" --each
     objects 5 solve "$scratch/four.case" --each
     shows 'the answers' '[ "$status, $(for i in 0 1 2 3; do last answers $i answer; done | tr "\n" " ")" = "1, violated violated vacuous unsat " ]'
-    objects 11 solve "$broken" --each --least --switches 3
+    objects 10 solve "$broken" --each --least --switches 3
     objects 1 solve "$broken" --assert 8
     result 'the object names the assert' test "$(last assert), $(last answer)" = '8, violated'
     # The question about record 17 alone has record 8 made 1.
@@ -264,7 +298,7 @@ short() {
         2 1 0 0 0 16 0 5  3 4 2 0 0 0 0 0  4 4 0 2 0 0 0 0  5 1 0 3 6 2 16 1000  0 5 0 0 0 3 0 0 >"$scratch/skipped.case"
     for solver in z3 cvc5; do
         folder=$scratch/short-$solver
-        says "$solver, n = 15" 1 'short: 3 of 15 switches used, 4 blocks with lines' \
+        says "$solver, n = 15" 1 'short: 2 of 15 switches used, 3 blocks with lines, 12 of 18 lines run' \
             "$menduvo" solve "$broken" --switches 15 --short --solver "$solver" --keep "$folder"
         shows 'whose word it is' '[[ $out = *"that none is shorter is the word of $solver"* ]]'
         says 'its assignment meets the constraints' 0 'meets all 102 constraints with n = 15' \
@@ -272,23 +306,27 @@ short() {
         says 'its schedule violates' 1 'violated' "$menduvo" replay "$broken" "$folder/interlock-broken-n15.schedule" --switches 15
         run "$menduvo" smt "$broken" --switches 15
         result 'no wish is kept with the constraints' cmp -s "$scratch/out" "$folder/interlock-broken-n15.smt2"
-        says "$solver, inputs" 1 'short: 0 of 3 switches used, 1 block with lines, inputs 1234 0' \
+        says "$solver, inputs" 1 'short: 0 of 3 switches used, 1 block with lines, 4 of 4 lines run, inputs 1234 0' \
             "$menduvo" solve "$scratch/inputs.case" --short --solver "$solver"
-        says "$solver, an input with a guard" 1 'short: 0 of 2 switches used, 1 block with lines, inputs 1 0' \
+        says "$solver, an input with a guard" 1 'short: 0 of 2 switches used, 1 block with lines, 3 of 3 lines run, inputs 1 0' \
             "$menduvo" solve "$scratch/guarded.case" --short --solver "$solver"
-        says "$solver, an input that is skipped" 1 'short: 0 of 2 switches used, 1 block with lines, inputs 0 1000' \
+        says "$solver, an input that is skipped" 1 'short: 0 of 2 switches used, 1 block with lines, 5 of 5 lines run, inputs 0 1000' \
             "$menduvo" solve "$scratch/skipped.case" --short --solver "$solver"
-        says "$solver, lost-update" 1 'short: 2 of 2 switches used, 3 blocks with lines, input 0' \
+        says "$solver, lost-update" 1 'short: 2 of 2 switches used, 3 blocks with lines, 12 of 12 lines run, input 0' \
             "$menduvo" solve cases/lost-update.case --short --solver "$solver"
-        says "$solver, one assert" 1 'short: 4 of 9 switches used' "$menduvo" solve "$broken" --assert 17 --switches 9 --short --solver "$solver"
-        says "$solver, with the smallest n" 1 'short: 3 of 3 switches used' "$menduvo" solve "$broken" --least --short --solver "$solver"
+        says "$solver, one assert" 1 'short: 3 of 9 switches used, 3 blocks with lines, 12 of 18 lines run' \
+            "$menduvo" solve "$broken" --assert 17 --switches 9 --short --solver "$solver"
+        says "$solver, lines that are not needed are not run" 1 $'decoded: schedule 1 3 2 0 0\n' \
+            "$menduvo" solve cases/handshake.case --short --solver "$solver"
+        shows 'and are counted' '[[ $out = *"short: 2 of 4 switches used, 3 blocks with lines, 6 of 23 lines run"* ]]'
+        says "$solver, with the smallest n" 1 'short: 2 of 2 switches used' "$menduvo" solve "$broken" --least --short --solver "$solver"
     done
-    says 'of several' 1 'is broken; 2 of 2 switches used, 3 blocks with lines, input 0' "$menduvo" solve cases --short
-    says 'of each' 1 '; 4 of 9 switches used, 4 blocks with lines' "$menduvo" solve "$broken" --each --switches 9 --short
+    says 'of several' 1 'is broken; 2 of 2 switches used, 3 blocks with lines, 12 of 12 lines run, input 0' "$menduvo" solve cases --short
+    says 'of each' 1 '; 3 of 9 switches used, 3 blocks with lines, 12 of 18 lines run' "$menduvo" solve "$broken" --each --switches 9 --short
     says 'of an unsat' 0 'z3 says unsat' "$menduvo" solve cases/interlock.case --short
     says 'resumed' 3 '--short and --resume exclude each other' "$menduvo" solve "$broken" --short --resume "$scratch/no"
     objects 1 solve "$scratch/inputs.case" --short
-    shows 'the object' '[ "$(last short switches) $(last short blocks) $(last short inputs 0) $(last short inputs 1) $(last short shortest)" = "0 1 1234 0 true" ]'
+    shows 'the object' '[ "$(last short switches) $(last short blocks) $(last short lines) $(last short inputs 0) $(last short inputs 1) $(last short shortest)" = "0 1 4 1234 0 true" ]'
     # Five times: L0 = input; L1 = L0 < 40000; assume L1 == 0. Then assert 0.
     local input lines=()
     for input in 1 4 7 10 13; do
@@ -336,6 +374,7 @@ result 'the command is built' test "$status" = 0
 switches
 kept
 least
+finishing
 open
 asserts
 short

@@ -84,13 +84,22 @@ reading() {
     same replay-interlock 0 "$menduvo" replay cases/interlock.case cases/interlock.schedule
     same replay-interlock-broken 1 "$menduvo" replay cases/interlock-broken.case cases/interlock-broken.schedule
     same replay-lock-order 0 "$menduvo" replay cases/lock-order.case cases/lock-order.schedule
-    for name in case-a lost-update interlock-broken; do
+    same replay-handshake 1 "$menduvo" replay cases/handshake.case cases/handshake.schedule
+    for name in case-a lost-update interlock-broken handshake; do
+        says "$name's assignment meets" 0 'meets: the assignment meets all' "$menduvo" check "cases/$name.case" "cases/$name.assignment"
         run "$menduvo" decode "cases/$name.case" "cases/$name.assignment"
         result "$name's assignment decodes to its schedule" cmp -s "$scratch/out" <(sed 1d "cases/$name.schedule")
     done
-    # A broken assertion before a cut-off is no violation: assert 0, then assume 0.
+    # A broken assertion before a cut-off is no violation, but the run that stops there violates: assert 0, then assume 0.
     fields 2 0 0 0 1 0 0 0 0 0 0 0 0 0 0 0 2 5 0 0 0 16 0 0 0 6 0 0 0 16 0 0 >"$scratch/vain.case"
     same replay-in-vain 0 "$menduvo" replay "$scratch/vain.case" <(echo 2)
+    same replay-stops 1 "$menduvo" replay "$scratch/vain.case" <(echo 1)
+    echo 0 0 1 1 >"$scratch/stops"
+    says 'a line that was not run meets its constraints' 0 'meets all 8 constraints' "$menduvo" check "$scratch/vain.case" "$scratch/stops"
+    run "$menduvo" decode "$scratch/vain.case" "$scratch/stops"
+    result 'it counts in no block' test "$status, $out" = '0, 1'
+    # A run of no line at all.
+    same replay-nothing 0 "$menduvo" replay cases/case-a.case <(echo 0 0 0)
     # No record, no switch: one constraint, over no variable.
     fields 2 0 0 0 0 0 0 0 0 0 0 0 0 0 0 0 >"$scratch/empty.case"
     same check-empty 1 "$menduvo" check "$scratch/empty.case" /dev/null
@@ -102,6 +111,7 @@ reading() {
         <(sed -nE 's/^ *[0-9]+: ([0-9 ]*[0-9])  .*/\1/p' tests/command/list-words-kinds.expected)
     same picture-case-a 0 "$menduvo" picture cases/case-a.case cases/case-a.schedule -o -
     same picture-lock-order 0 "$menduvo" picture cases/lock-order.case cases/lock-order.schedule -o -
+    same picture-handshake 0 "$menduvo" picture cases/handshake.case cases/handshake.schedule -o -
     says 'picture to a file' 0 'violated' "$menduvo" picture cases/case-a.case cases/case-a.schedule -o "$scratch/a.svg"
     result 'the file has the picture' cmp -s "$scratch/a.svg" tests/command/picture-case-a.expected
     says 'a picture replaces no file' 3 'a.svg is there already; --force replaces it' \
@@ -138,7 +148,7 @@ texts() {
     smt_is 'of its source, too' "$scratch/page" cases/case-a.source
     run bash -c "$menduvo smt - <cases/case-a.case"
     result 'of a case on standard input' cmp -s "$scratch/out" "$scratch/page"
-    says 'a text to a file' 0 'a.smt2: 18 constraints over 12 variables, in 1221 bytes' "$menduvo" smt cases/case-a.case -o "$file"
+    says 'a text to a file' 0 'a.smt2: 18 constraints over 12 variables, in 1486 bytes' "$menduvo" smt cases/case-a.case -o "$file"
     result 'the file has the text, and nothing else' cmp -s "$file" "$scratch/page"
     says 'a text replaces no file' 3 'a.smt2 is there already; --force replaces it' "$menduvo" smt cases/lock-order.case -o "$file"
     result 'the text is still there' cmp -s "$file" "$scratch/page"
@@ -149,7 +159,7 @@ texts() {
     says 'a text replaces no input' 3 'input.case is an input' "$menduvo" smt "$scratch/input.case" -o "$scratch/input.case" --force
     damaged 1 3 && "$menduvo" smt "$scratch/damaged.case" >"$scratch/three.smt2"
     smt_is 'a text with another n' "$scratch/three.smt2" cases/case-a.case --switches 3
-    says 'it has that n' 0 '(bvule v8 #x0003)' "$menduvo" smt cases/case-a.case --switches 3
+    says 'it has that n' 0 '(bvule v8 #x0004)' "$menduvo" smt cases/case-a.case --switches 3
     says 'nothing to force' 3 '--force needs -o' "$menduvo" smt cases/case-a.case --force
     says 'a file without a name' 3 '-o FILE is missing' "$menduvo" smt cases/case-a.case -o ''
     says 'one text at a time' 3 "'cases/lock-order.case' is too much" "$menduvo" smt cases/case-a.case cases/lock-order.case
@@ -221,10 +231,17 @@ refusals() {
     same refusal-8 2 "$menduvo" show "$scratch/damaged.case"
     echo 0 0 0 >"$scratch/short" && same refusal-11 2 "$menduvo" check cases/case-a.case "$scratch/short"
     echo 2 1 >"$scratch/short" && same refusal-12 2 "$menduvo" replay cases/case-a.case "$scratch/short"
-    echo 2 2 1 >"$scratch/wrong" && same refusal-13 2 "$menduvo" replay cases/case-a.case "$scratch/wrong"
+    echo 4 2 1 >"$scratch/wrong" && same refusal-13 2 "$menduvo" replay cases/case-a.case "$scratch/wrong"
     # An input line with guard 'L0 is not zero', which is false.
     fields 2 0 0 0 1 0 0 0 0 0 0 0 0 0 0 0 0 4 1 3 0 0 0 0 >"$scratch/input.case"
     echo 1 7 >"$scratch/stray" && same refusal-14 2 "$menduvo" replay "$scratch/input.case" "$scratch/stray"
+    echo 0 7 >"$scratch/stray" && same refusal-14-not-run 2 "$menduvo" replay "$scratch/input.case" "$scratch/stray"
+    # L0 = input in each thread, and then an assume 0 in thread 0: what cuts the run off comes before an input that was not run.
+    fields 2 1 0 0 1 3 0 0 0 0 0 0 0 0 0 0 2 4 0 0 0 0 0 0 0 6 0 0 0 16 0 0 0 4 0 0 0 0 0 0 >"$scratch/inputs.case"
+    says 'an input behind a cut-off' 0 'cut off: record 2' "$menduvo" replay "$scratch/inputs.case" <(echo 2 0 5 7)
+    says 'an input that was not run' 2 'refusal 14, place 3' "$menduvo" replay "$scratch/inputs.case" <(echo 1 0 5 7)
+    says 'the first by thread and chain' 2 'refusal 14, place 1' "$menduvo" replay "$scratch/inputs.case" <(echo 0 0 5 7)
+    says 'without values it is taken' 0 'clean: ' "$menduvo" replay "$scratch/inputs.case" <(echo 0 1 0 7)
     echo 0 0 0 2 2 5 2 0 1 5 1 5 >"$scratch/fails" && same refusal-15 1 "$menduvo" decode cases/case-a.case "$scratch/fails"
     same check-fails 1 "$menduvo" check cases/case-a.case "$scratch/fails"
     says 'a picture of a refused schedule' 2 'refusal 13' \

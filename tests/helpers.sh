@@ -15,7 +15,7 @@ model+=' (v6 #x0002) (v7 #x0000) (v8 #x0001) (v9 #x0005) (v10 #x0001) (v11 #x000
 
 # An assertion that only the text of case A has: record 5 stores 5.
 # shellcheck disable=SC2034 # the tests read it
-of_case_a='(assert (= v9 #x0005))'
+of_case_a='(assert (ite (= v8 #x0003) (= v9 #x0000) (= v9 #x0005)))'
 
 # run COMMAND..: as in counting.sh, with the PATH that the command sees. The output stays in a file too, without the scratch
 # folder's name.

@@ -97,12 +97,27 @@ needs() {
 rows_of_case_a() {
     local case=cases/case-a.case
     needs 'a 3' $case '1 0 0 1 2 5 2 0 1 5 1 5' \
-        'needed: a block number that is 0 modulo 2; found: block number 1, which is 1 modulo 2'
+        'needed: a block number that is 0 modulo 2, or 3 for a line that was not run; found: block number 1, which is 1 modulo 2'
     needs 'a 3, the largest number' $case '0 0 0 1 2 5 2 0 65534 5 1 5' \
-        'needed: a block number that is 1 modulo 2; found: block number 65534, which is 0 modulo 2'
+        'needed: a block number that is 1 modulo 2, or 3 for a line that was not run; found: block number 65534, which is 0 modulo 2'
     needs 'a 1' $case '2 0 0 1 2 5 2 0 1 5 1 5' \
         'needed: record 2 in block 2 or later, as record 1 is in block 2; found: block number 0'
-    needs 'a 2' $case '0 0 0 1 2 5 65534 0 1 5 1 5' 'needed: block number 0 to 2; found: block number 65534'
+    needs 'a 2' $case '0 0 0 1 2 5 65534 0 1 5 1 5' \
+        'needed: block number 0 to 2, or 3 for a line that was not run; found: block number 65534'
+    needs 'a 2, past what says not run' $case '0 0 0 1 2 5 4 1 1 5 1 5' \
+        'needed: block number 0 to 2, or 3 for a line that was not run; found: block number 4'
+    needs 'a 1 after a line that was not run' $case '3 0 0 1 2 5 2 0 1 5 1 5' \
+        'needed: record 2 not run, as record 1 was not (block number 3); found: block number 0'
+    needs 'a 4, a load that was not run' $case '0 0 0 1 3 5 3 1 1 5 1 5' \
+        'needed: value 0 (a line that was not run has 0); found: 5'
+    needs 'a 4, a store that was not run' $case '0 0 0 1 2 1 2 1 3 5 1 1' \
+        'needed: value 0 (a line that was not run has 0); found: 5'
+    needs 'a 4, an assert that was not run' $case '0 0 0 1 2 5 3 0 1 5 1 5' \
+        'needed: value 1 (an assert that was not run has 1); found: 0'
+    needs 'a 6, and its copy was not run' $case '0 0 3 0 3 0 3 1 1 5 1 5' \
+        'needed: value 0 (G0 = 0 at the start, and no line in block 0 has target G0); found: 1'
+    needs 'a 7, and the assert was not run' $case '0 0 0 1 2 5 3 1 1 5 1 5' \
+        'needed: an assert with value 0; found: value 1 of record 4'
     needs 'a 4, a load at the start' $case '0 7 0 1 2 5 2 0 1 5 1 5' 'needed: value 0 (G0 = 0 at the start); found: 7'
     needs 'a 4, a store' $case '0 0 0 2 2 5 2 0 1 5 1 5' 'needed: value 1 (L0 + 1 with L0 = 0 by record 1); found: 2'
     needs 'a 4, a load in the same block' $case '0 0 0 1 0 5 2 0 1 5 1 5' \
@@ -160,6 +175,14 @@ rows_of_guards() {
         'needed: value 1 (L0 - 3 is 65534 with L0 = 1 by record 1, which is not 0); found: 2'
     needs 'a 5, a lock' "$case" '0 1 0 0 0 4 0 1 0 1 0 1 2 0 2 1 1 1 1 0 1 0 4 1 4 1' \
         'needed: M0 = 0; found: M0 = 1 at the end of block 0'
+    needs 'a 5, a lock that was not run' "$case" '0 1 0 0 0 4 0 1 0 1 0 1 2 0 2 1 3 0 3 0 3 0 4 1 4 1' \
+        'needed: an assert with value 0; found: value 1 of records 5 and 8'
+    needs 'a 5, an assume that was not run' "$case" '0 2 0 1 0 4 0 1 0 1 3 1 3 0 3 1 3 0 3 0 3 0 4 1 4 1' \
+        'needed: an assert with value 0; found: value 1 of records 5 and 8'
+    needs 'a 4, an assume that was not run' "$case" '0 2 0 1 0 4 0 1 0 1 3 0 3 0 3 1 3 0 3 0 3 0 4 1 4 1' \
+        'needed: value 1 (an assume that was not run has 1); found: 0'
+    needs 'a 4, an input that was not run' "$case" '0 1 0 0 0 4 0 1 0 1 0 1 0 0 0 1 1 1 1 0 3 9 4 0 4 1' \
+        'needed: value 0 (a line that was not run has 0); found: 9'
     needs 'a 5, a lock with a guard' "$case" '2 1 2 0 2 4 2 1 2 1 2 1 2 0 2 1 1 1 1 0 1 0 4 0 4 1' \
         "needed: M0 = 0 ($yes); found: M0 = 1 at the end of block 1"
     needs 'a load, guard false' "$case" '0 1 0 0 0 4 0 1 0 1 0 1 0 0 0 1 1 1 1 4 1 0 4 0 4 1' \
@@ -195,7 +218,7 @@ checked() {
 # The assignments that ship, with one number changed: what is needed is said, and is not what is found.
 changed_numbers() {
     local name place value wrong=0 fails=0 numbers all kind first second needed found
-    for name in case-a lost-update interlock-broken; do
+    for name in case-a lost-update interlock-broken handshake; do
         read -r -d '' -a all < <(sed 1d "cases/$name.assignment")
         for place in "${!all[@]}"; do
             for value in 0 1 $((all[place] + 1)) 65535; do

@@ -130,7 +130,7 @@ short_runs() {
     result 'empty blocks at the end are not drawn' eval '[[ $out = *">block 3<"* && $out != *">block 4<"* ]]'
     result 'they are told' eval '[[ $out = *">blocks 4 to 7 run no line<"* ]]'
     result 'an empty block before is drawn' eval '[[ $out = *">no line<"*">block 1<"* ]]'
-    for name in case-a interlock interlock-broken lock-order lost-update; do
+    for name in case-a handshake interlock interlock-broken lock-order lost-update; do
         run "$menduvo" picture "cases/$name.case" "cases/$name.schedule" -o -
         result "$name stays in lanes" eval '[[ $out = *">at its end<"* && $out != *">page "* ]]'
         run "$menduvo" replay "cases/$name.case" "cases/$name.schedule"
@@ -145,7 +145,10 @@ short_runs() {
         result "$name: the items at the end" test "$(tail -n 1 "$scratch/drawn")" = "$(tail -n 1 "$scratch/ends")"
         result "$name: it fits on a page" test "$(size "$scratch/$name.svg")" = yes
     done
-    says 'blocks after a cut-off' 0 '>blocks 2 and 3 are not run<' \
+    says 'lines that were not run' 0 '>not run: 8 lines of thread 0, from record 4 (thread 0, line 4: L1 = G1) on<' \
+        "$menduvo" picture cases/handshake.case cases/handshake.schedule -o -
+    result 'of each thread' eval '[[ $out = *">not run: 9 lines of thread 1, from record 15 (thread 1, line 4: G1 = 1) on<"* ]]'
+    says 'lines and blocks after a cut-off' 0 '>blocks 2 and 3 are not run<' \
         "$menduvo" picture cases/lock-order.case cases/lock-order.schedule -o -
     result 'a cut-off is in the legend' eval '[[ $out = *">cut off: the run ends here<"* && $out != *">skipped: its guard"* ]]'
     # Assert 0, then assume 0.
@@ -225,12 +228,16 @@ files() {
     result 'no other is left' test ! -e "$scratch/files/c-1.svg"
 }
 
+# Loads of G0, and then assert 0: no run that violates is short.
 filing() {
-    says 'a long run is filed' 1 'violated: record 19' "$menduvo" file "$scratch/medium.case" "$scratch/filed" --solver z3
+    local line records=()
+    for line in {1..63}; do records+=($((line + 1)) 3 0 1 0 0 0 0); done
+    fields 2 0 1 0 1 0 0 0 0 0 0 0 0 0 0 0 "${records[@]}" 0 5 0 0 0 16 0 0 >"$scratch/slow.case"
+    says 'a long run is filed' 1 'violated: record 64' "$menduvo" file "$scratch/slow.case" "$scratch/filed" --solver z3
     result 'its first page is filed' grep -q 'picture-1.svg$' "$scratch/filed/MANIFEST"
     result 'its second page is filed' test -s "$scratch/filed/picture-2.svg"
     says 'the pages are made again' 0 'picture-2.svg     same' "$menduvo" verify "$scratch/filed"
-    sed -i 's/thread 1/thread 2/' "$scratch/filed/picture-2.svg"
+    sed -i 's/thread 0/thread 1/' "$scratch/filed/picture-2.svg"
     says 'a changed page is told' 1 'picture-2.svg' "$menduvo" verify "$scratch/filed"
 }
 

@@ -84,6 +84,7 @@ replays() {
     is 'replay, violated' 3 schedule
     is 'replay, violated' G0 items 0 name
     result 'the items are those of the text' grep -q "^end: G0 = $(get items 0 value)\$" "$scratch/text"
+    is 'replay, violated' 0 notRun
     is 'replay, violated' 5 steps
     result 'the steps are those of the text' test "$(grep -c ' record ' "$scratch/text")" = 6
     local field step=
@@ -101,6 +102,10 @@ replays() {
     is 'replay, clean' null record
     object 'replay, cut off' 0 'cut off' replay cases/lock-order.case cases/lock-order.schedule
     result 'the record is the one of the text' grep -q "^cut off: record $(get record) " "$scratch/text"
+    object 'replay, stopped' 1 violated replay cases/handshake.case cases/handshake.schedule
+    is 'replay, stopped' 6 steps
+    is 'replay, stopped' 17 notRun
+    result 'the lines that were not run' test "$(get notRun 0), $(get notRun 7), $(get notRun 8), $(get notRun 16)" = '4, 11, 15, 23'
     object 'replay of a model' 1 violated replay cases/case-a.case tests/command/z3.model
     is 'replay of a model' 3 schedule
     sed 's/#x0001/#x0002/' tests/command/z3.model >"$scratch/wrong.model"
@@ -315,13 +320,13 @@ solves() {
 real() {
     local order again
     called solve cases --solver z3
-    result 'z3, all cases' eval '[ "$status" = 1 ] && has_all 6'
+    result 'z3, all cases' eval '[ "$status" = 1 ] && has_all 7'
     order=$(sed -n 's/.*"answers"://p' "$scratch/objects")
     called solve cases --solver z3 --jobs 2
     again=$(sed -n 's/.*"answers"://p' "$scratch/objects")
-    result 'z3, two at a time' eval '[ "$status" = 1 ] && has_all 6 && [ "$again" = "$order" ]'
+    result 'z3, two at a time' eval '[ "$status" = 1 ] && has_all 7 && [ "$again" = "$order" ]'
     result 'the answers' test "$(grep -o '"answer":"[a-z]*"' <<<"$order" | cut -d '"' -f 4 | tr '\n' ' ')" = \
-        'violated violated unsat unsat violated '
+        'violated violated violated unsat unsat violated '
 }
 
 # A filed folder: the same, changed, with a case that is refused, not there; and a solver that is asked again.
@@ -457,14 +462,14 @@ parallel_jobs() {
     fake ssh 'echo "$1" >>"${0%/fakes/*}/machines"; shift; [ "$1" != -- ] || shift; exec bash -c "$*"'
 
     recipe 'one machine' 'On one machine'
-    result 'one machine: the status counts what is not 0' test "$status" = 3
+    result 'one machine: the status counts what is not 0' test "$status" = 4
     result 'one machine: nothing is said but the version' test "$out" = "$("$menduvo" --version)"
     jobs_are_done 'one machine'
     result 'one machine: the job log names two jobs at a time' eval 'block "On one machine" | grep -q -- "--jobs 2 "'
 
     recipe 'what came of it' 'What came of it'
     result 'what came of it' test "$(sed -E 's/^ +//' <<<"$out")" = \
-        $'2 "answer":"unsat"\n3 "answer":"violated"\n2 0\n3 1'
+        $'2 "answer":"unsat"\n4 "answer":"violated"\n2 0\n4 1'
 
     # Two answers are lost, and one case has not been solved at all.
     rm "$place"/out/{case-a,interlock,lock-order}.*
@@ -472,7 +477,7 @@ parallel_jobs() {
     jobs_are_done 'going on'
     cp "$place/out.jsonl" "$scratch/objects"
     result 'going on: what has an answer is not asked again' test "$(get resumed | sort | uniq -c | tr -s ' \n' ' ')" = \
-        ' 3 false 2 true '
+        ' 3 false 3 true '
 
     rm -r "$place/out" "$place/out.jsonl" "$place/out.joblog"
     recipe 'several machines' 'On several machines'
@@ -487,8 +492,8 @@ jobs_are_done() {
     local place=$scratch/place file
     cp "$place/out.jsonl" "$scratch/objects"
     cat "$scratch/objects" >>"$scratch/all"
-    result "$1: five objects" has_all 5
-    result "$1: of five cases" test "$(get case | sort)" = "$(printf '%s\n' cases/*.case | sort)"
+    result "$1: six objects" has_all 6
+    result "$1: of six cases" test "$(get case | sort)" = "$(printf '%s\n' cases/*.case | sort)"
     paste -d ' ' <(get status) <(get case) | sort >"$scratch/told"
     tail -n +2 "$place/out.joblog" | awk -F '\t' '{ sub(/.* /, "", $9); print $7, $9 }' | sort >"$scratch/logged"
     result "$1: the job log has their statuses" cmp -s "$scratch/told" "$scratch/logged"

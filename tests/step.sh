@@ -53,7 +53,7 @@ values() {
     same replay-values-twelve 0 "$menduvo" replay "$scratch/items.case" <(echo 2 0) --values
     same replay-values-none 0 "$menduvo" replay "$scratch/vain.case" <(echo 2 2) --values
     local name
-    for name in case-a interlock interlock-broken lock-order lost-update; do
+    for name in case-a handshake interlock interlock-broken lock-order lost-update; do
         "$menduvo" replay --values "cases/$name.case" "cases/$name.schedule" | sed '/^ *items: /d' >"$scratch/without"
         run "$menduvo" replay "cases/$name.case" "cases/$name.schedule"
         result "$name: without the items it is the same run" cmp -s "$scratch/without" "$scratch/out"
@@ -98,9 +98,13 @@ giving() {
     replays 'inputs, undone' "$scratch/inputs.case"
     result 'what was undone is not in it' grep -qx '4 2 0 0 5 2 0' "$scratch/printed.schedule"
     steps inputs-wrong 3 "$scratch/inputs.case" 0 65536
-    steps inputs-ended 3 "$scratch/inputs.case" 'rest 0' 1
-    steps inputs-quit 3 "$scratch/inputs.case" 0 quit 7
-    steps inputs-so-far 3 "$scratch/inputs.case" 0 7 0 9 schedule
+    steps inputs-ended 0 "$scratch/inputs.case" 'rest 0' 1
+    replays 'ended at an input' "$scratch/inputs.case"
+    steps inputs-quit 0 "$scratch/inputs.case" 0 quit 7
+    replays 'quit at an input' "$scratch/inputs.case"
+    steps inputs-so-far 0 "$scratch/inputs.case" 0 7 0 9 schedule
+    replays 'inputs so far' "$scratch/inputs.case"
+    result 'an input that was not run has value 0' grep -qx '2 0 0 0 7 9 0' "$scratch/printed.schedule"
 }
 
 cutting() {
@@ -115,11 +119,25 @@ cutting() {
     steps cut-off-switch 3 cases/lock-order.case 0 1 1 switch
     steps in-vain 0 "$scratch/vain.case" 'rest 0'
     replays 'in vain' "$scratch/vain.case"
-    # The last line of all fails: none is left for other blocks.
+    # The last line of all fails: none is left.
     steps cut-off-at-the-end 0 "$scratch/last.case" 'rest 1' schedule
     replays 'cut off at the end' "$scratch/last.case"
-    # Block 3 is the last, so thread 0 has no place for its other lines.
-    steps cut-off-without-schedule 3 cases/lock-order.case 0 switch switch 1 1
+    # Block 3 is the last, so thread 0 has no block for its other lines.
+    steps cut-off-in-the-last-block 0 cases/lock-order.case 0 switch switch 1 1
+    replays 'cut off in the last block' cases/lock-order.case
+}
+
+# A run may end anywhere: each thread stops where it is.
+stopping() {
+    steps stops 0 cases/case-a.case 0 0 1 0
+    replays stops cases/case-a.case
+    result 'its blocks have the lines that ran' grep -qx '2 1 1' "$scratch/printed.schedule"
+    steps stops-broken 1 "$scratch/vain.case" 0
+    replays 'stops before it is cut off' "$scratch/vain.case"
+    says 'no input' 0 $'schedule:\n0 0 0\n' "$menduvo" step cases/case-a.case
+    # Thread 3 has no block, and is left where it is.
+    steps stops-without-block 0 "$scratch/four.case" 2
+    replays 'stops without a block' "$scratch/four.case"
 }
 
 refusing() {
@@ -128,8 +146,6 @@ refusing() {
     steps thread-without-block 3 "$scratch/four.case" 'rest 0' 1 2 3
     steps too-late 3 cases/case-a.case switch 0 1
     steps too-many-switches 3 cases/case-a.case switch switch switch
-    steps unfinished 3 cases/case-a.case 0 0 1 0
-    steps broken-unfinished 3 "$scratch/vain.case" 0
     local text long
     long=$(printf 'x%.0s' {1..9000})
     for text in step 0x rest 'rest x' 'rest 0 1' '0 1' -1 65536 99999999999999999999 Quit $'\x1b[2J' $'\xff' "$long"; do
@@ -138,7 +154,6 @@ refusing() {
         result "the command '${text:0:20}'" eval '[ "$status" = 3 ] && [[ $out = *"line 2: "* ]] && [[ $out != *$'"'\\x1b'"'* ]]'
         result 'it goes no further' test "$(grep -c ' record   2  G0 = L0 + 1  G0 = 1' "$scratch/out")" = 0
     done
-    says 'no input' 3 'no schedule yet' "$menduvo" step cases/case-a.case
     says 'a line without an end' 3 'is not a command' bash -c "'$menduvo' step cases/case-a.case </dev/zero"
     says 'a folder as input' 3 'standard input: ' bash -c "'$menduvo' step cases/case-a.case </"
     says 'a last line without its end' 1 'violated' bash -c "printf '0\n0\n1\nrest 0' | '$menduvo' step cases/case-a.case"
@@ -171,11 +186,11 @@ writing() {
     result 'the case is still there' cmp -s cases/case-a.case "$scratch/own.case"
     says 'a file named -' 3 "-o needs a file's name" bash -c "$step -"
     typed 0 0
-    says 'no schedule, no file' 3 'b.schedule is not written' bash -c "$step '$scratch/b.schedule'"
-    result 'there is no file' test ! -e "$scratch/b.schedule"
+    says 'a run that stops, to a file' 0 'the schedule is in b.schedule' bash -c "$step '$scratch/b.schedule'"
+    result 'the file has the lines that ran' grep -qx '2 0 0' "$scratch/b.schedule"
     typed 0 nonsense
-    says 'a wrong command, no file' 3 'is not a command' bash -c "$step '$scratch/b.schedule'"
-    result 'there is no file' test ! -e "$scratch/b.schedule"
+    says 'a wrong command, no file' 3 'is not a command' bash -c "$step '$scratch/c.schedule'"
+    result 'there is no file' test ! -e "$scratch/c.schedule"
 }
 
 outputs() {
@@ -223,6 +238,7 @@ picking
 undoing
 giving
 cutting
+stopping
 refusing
 writing
 outputs

@@ -40,7 +40,7 @@ static int read_number(const char *word, uint16_t *number) {
 static int tell(MenduvoNumbers run) {
     switch (run.answer) {
     case 1: printf("violated: the first assertion that the run breaks is record %u\n", run.first); return 1;
-    case 2: printf("clean: the run is complete and legal and breaks no assertion\n"); return 0;
+    case 2: printf("clean: the run is legal and breaks no assertion\n"); return 0;
     default: printf("cut off: the assume or lock of record %u failed\n", run.first); return 0;
     }
 }

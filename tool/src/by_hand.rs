@@ -1,9 +1,9 @@
 //! A run by hand: each next line is of the thread that is picked. It goes from block to block as a schedule does, round robin,
-//! and gives the schedule at its end. What it shows is the display's own walk; what it comes to is the library's word.
+//! and has a schedule wherever it stops. What it shows is the display's own walk; what it comes to is the library's word.
 
 use crate::case::{Case, Kind, Record};
-use crate::walk::{is_cut_off, Machine, Step, Walk};
-use crate::words::{count, enumeration, record_in_words};
+use crate::walk::{is_cut_off, Event, Machine, Step, Walk};
+use crate::words::{count, enumeration};
 
 #[derive(Clone)]
 pub struct ByHand<'a> {
@@ -78,39 +78,21 @@ impl<'a> ByHand<'a> {
         Ok(())
     }
 
-    /// The schedule of a run that is over. Where it is cut off the lines that never run stand in the next blocks of their
-    /// threads: a schedule has a place for every line. There is none where such a thread has no block left.
-    pub fn schedule(&self) -> Option<Vec<u16>> {
-        let mut numbers = self.lengths.clone();
-        for thread in self.unfinished() {
-            let block = self.turn(thread).filter(|_| is_cut_off(&self.steps))?;
-            numbers[block] += self.machine.left(thread).len() as u16;
-        }
-        Some([numbers, self.machine.inputs.clone()].concat())
+    /// The schedule of the run so far: every thread stops where it is.
+    pub fn schedule(&self) -> Vec<u16> {
+        [self.lengths.clone(), self.machine.inputs.clone()].concat()
     }
 
-    /// The threads that have lines left, in the order in which they can run on; those that have no block left come last.
-    pub fn unfinished(&self) -> Vec<usize> {
-        let mut threads: Vec<usize> = (0..self.case.threads).filter(|&thread| !self.machine.left(thread).is_empty()).collect();
-        threads.sort_by_key(|&thread| self.turn(thread).unwrap_or(usize::MAX));
-        threads
+    /// Whether no line can run any more, in whatever block.
+    pub fn is_over(&self) -> bool {
+        is_cut_off(&self.steps) || (0..self.case.threads).all(|thread| self.machine.left(thread).is_empty())
     }
 
-    /// The lines that are left, in lines, and how they can run.
-    pub fn left_in_words(&self) -> Vec<String> {
-        let threads = self.unfinished();
-        let words = threads.iter().filter_map(|&thread| {
-            let left = self.machine.left(thread);
-            let lines = count(left.len(), "line", "lines");
-            let block = if self.turn(thread).is_none() { "; it has no block left" } else { "" };
-            Some(format!("thread {thread} has {lines} left, from {} on{block}", record_in_words(self.case, *left.first()?)))
-        });
-        let mut words: Vec<String> = words.collect();
-        if !is_cut_off(&self.steps) && threads.iter().all(|&thread| self.turn(thread).is_some()) {
-            let commands: Vec<String> = threads.iter().map(|thread| format!("'rest {thread}'")).collect();
-            words.push(format!("to run them: {}", commands.join(", then ")));
-        }
-        words
+    /// Whether the thread's next line can run, and does not cut the run off. No input's value has a say in it.
+    pub fn goes_on(&self, thread: usize) -> bool {
+        let block = self.next(thread).map(|(_, block)| block);
+        let step = block.ok().and_then(|block| self.machine.clone().step(block));
+        step.is_some_and(|step| !matches!(step.event, Event::CutOff(_)))
     }
 
     /// The steps so far as a walk, to be compared with the library.

@@ -195,6 +195,11 @@ impl Case {
         2 * self.records.len() + block * self.items() + item
     }
 
+    /// The block number of a line that was not run: n + 1.
+    pub fn unrun(&self) -> u16 {
+        self.switches as u16 + 1
+    }
+
     pub fn thread_of_block(&self, block: usize) -> usize {
         block % self.threads
     }

@@ -118,8 +118,8 @@ pub fn blocks(run: &Run) -> usize {
     run.steps.last().map_or(0, |step| step.block + 1)
 }
 
-/// What is said after the verdict: of a broken assertion that is no violation, of the blocks that are not drawn, and which case
-/// it is, so that a printed page can be matched to it.
+/// What is said after the verdict: of a broken assertion that is no violation, of the lines that were not run and of the blocks
+/// that are not drawn, and which case it is, so that a printed page can be matched to it.
 pub fn notes(case: &Case, run: &Run, width: u32) -> Vec<String> {
     let (first, last) = (blocks(run), case.switches);
     let what = match (run.ended_before(last), first == last) {
@@ -130,7 +130,7 @@ pub fn notes(case: &Case, run: &Run, width: u32) -> Vec<String> {
     };
     let left_out = (first <= last).then(|| format!("{} {what}", range_in_words("block", first, last)));
     let of_case = format!("n = {last}; the case has SHA-256 {}", sha256::hex(&case.bytes));
-    let all = run.broken_in_vain().into_iter().chain(left_out).chain([of_case]);
+    let all = run.broken_in_vain().into_iter().chain(run.not_run_in_words(case)).chain(left_out).chain([of_case]);
     all.flat_map(|words| SMALL.lines(&words, width)).collect()
 }
 

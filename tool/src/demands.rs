@@ -32,9 +32,11 @@ fn head(loaded: &Loaded) -> String {
     };
     format!(
         "{} over {}\n({LEGEND})\nRecord k has the variables v(2k - 2), its block number, and v(2k - 1), its value.\n\
+         A line with block number {}, which is n + 1, was not run.\n\
          {block_values}A block begins with the items as they are at the end of the block before, and block 0 with: {}.\n",
         count(table.rows.len(), "constraint", "constraints"),
         count(table.variables, "variable", "variables"),
+        case.unrun(),
         items_in_words(case, &case.items_at_start()),
     )
 }
@@ -55,12 +57,13 @@ pub fn in_words(case: &Case, table: &Table, row: Row) -> String {
 
 fn value(case: &Case, record: &Record, row: Row) -> String {
     let given = term(case, record, Term::if_true(record, row));
+    let unrun = term(case, record, Term::if_unrun(record));
     let Some(guard) = guard(case, record, row[2]) else {
-        return format!(" is {given}");
+        return format!(" is {given}; where it was not run, {unrun}");
     };
     let kept = Term::if_false(case, record, row);
     let verb = if matches!(kept, Term::Fixed(..)) { "is" } else { "stays" };
-    format!(": if {guard}, it is {given}; if not, it {verb} {}", term(case, record, kept))
+    format!(": if {guard}, it is {given}; if not, it {verb} {}; where it was not run, {unrun}", term(case, record, kept))
 }
 
 fn free(case: &Case, record: &Record, guard_copy: u16, copy: u16) -> String {

@@ -1,6 +1,7 @@
 //! What may help to mend a refused input. Only the library decides that it is refused, and why; this looks for the place.
 
 use crate::case::{Case, Kind, Record, CONSTANT};
+use crate::walk::walk;
 use crate::words::{count, enumeration, record_in_words};
 use menduvo::Refusal;
 
@@ -175,7 +176,9 @@ pub fn of_schedule(case: &Case, schedule: &[u16], refusal: Refusal) -> Vec<Strin
             let place = inputs.iter().position(|&input| input == refusal.place);
             let value = place.map(|place| schedule[case.switches + 1 + place]);
             let value = value.map(|value| format!(" is given {value}")).unwrap_or_default();
-            vec![format!("{}{value}", record_in_words(case, refusal.place))]
+            let was_run = walk(case, schedule).steps.iter().any(|step| step.record == refusal.place);
+            let why = if was_run { "its guard is false" } else { "it was not run" };
+            vec![format!("{}{value}, but {why}", record_in_words(case, refusal.place))]
         }
         _ => Vec::new(),
     }
@@ -187,11 +190,10 @@ fn sums(case: &Case, schedule: &[u16]) -> Vec<String> {
         let sum: usize = blocks.iter().map(|&block| usize::from(schedule[block])).sum();
         (thread, chain.len(), blocks, sum)
     });
-    let wrong = sums.filter(|(_, lines, _, sum)| lines != sum);
+    let wrong = sums.filter(|(_, lines, _, sum)| lines < sum);
     let words = wrong.map(|(thread, lines, blocks, sum)| {
         let lines = count(lines, "line", "lines");
         let blocks = match blocks.as_slice() {
-            [] => "it has no block".to_string(),
             [block] => format!("its block {block} has length {sum}"),
             _ => format!("the lengths of its blocks {} add up to {sum}", enumeration(&blocks)),
         };

@@ -66,7 +66,7 @@ impl Folder {
         );
         folder.replies(CONSTRAINTS, "reply", &solved.asked);
         folder.run(loaded, &solved.verdict);
-        let about = "for each assert, whether a complete legal run within the bound reaches it";
+        let about = "for each assert, whether a legal run within the bound reaches it";
         folder.add("reached.txt", about, told::asserts(loaded, &solved.reach));
         for (question, number) in solved.reach.questions.iter().zip(1..) {
             let (name, reply) = (format!("reached-{number}.smt2"), format!("reached-{number}-reply"));

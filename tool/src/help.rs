@@ -123,7 +123,9 @@ pub const PAGES: &[Page] = &[
             Choice { name: "--values", value: "", does: "print all items after each line; what changed says what it was" },
             JSON,
         ],
-        more: "A solver's model in the place of the schedule is decoded first.\n\
+        more: "A thread's block lengths may add up to less than its lines: it then stops, and the lines that are left are not\n\
+               run. An input line among them has value 0.\n\
+               A solver's model in the place of the schedule is decoded first.\n\
                Exit status 1 where the run breaks an assertion; 0 where it is clean or cut off.\n",
     },
     Page {
@@ -147,8 +149,9 @@ pub const PAGES: &[Page] = &[
                Block 0 is thread 0's, block 1 thread 1's, and so on, round robin; from one to the next is a switch. A line\n\
                runs in the open block where that is its thread's, or else in its thread's next one. An input line asks for\n\
                its value, which is the next line that is read.\n\
-               At the end the schedule is printed, and replayed by the proved library. There is one only where every line\n\
-               ran, or the run is cut off. Over a pipe a command that cannot be done is the end; at a terminal it is not.\n\
+               At the end the schedule is printed, and replayed by the proved library: a run may end anywhere, and each\n\
+               thread then stops where it is. Over a pipe a command that cannot be done is the end, without a schedule; at a\n\
+               terminal it is not.\n\
                Exit status 1 where the run breaks an assertion; 0 where it is clean or cut off; 3 without a schedule.\n",
     },
     Page {
@@ -172,7 +175,7 @@ pub const PAGES: &[Page] = &[
                 name: "--short",
                 value: "",
                 does: "ask on for a run worth showing: the fewest switches that are used, then\nthe fewest blocks with lines, \
-                       then the first input as small as it can\nbe, then the next",
+                       then the fewest lines, then the first input as\nsmall as it can be, then the next",
             },
             SOLVER,
             SOLVER_COMMAND,
@@ -199,8 +202,9 @@ pub const PAGES: &[Page] = &[
             JSON,
         ],
         more: "The solver gets the text that 'smt' prints. Its assignment is checked, decoded and replayed by the\n\
-               proved library; the run is printed as by 'replay'. For each assert it is told whether a complete legal run\n\
-               within the bound reaches it with a true guard: of one that is never reached, nothing was checked.\n\
+               proved library; the run is printed as by 'replay'. A thread may stop after any of its lines. For each assert\n\
+               it is told whether a legal run within the bound reaches it with a true guard: of one that is never reached,\n\
+               nothing was checked.\n\
                DIR: every file in it that ends in .source, and each that ends in .case and has no source of the same name.\n\
                Of several cases each one's line is printed when it is known,\n\
                and at the end how many have each answer:\n\
@@ -235,7 +239,8 @@ pub const PAGES: &[Page] = &[
         more: "A run of at most 40 lines is drawn on one page where it fits: threads are lanes, blocks are columns, lines\n\
                are cells. Any other is drawn downwards: threads are columns, and three or more lines after one another that\n\
                touch no shared item are folded into one cell, unless they break, end the run or are inputs. Under each block\n\
-               stand the items' values at its end. Empty blocks at the end are left out. Pages fit A4, and cut no cell.\n\
+               stand the items' values at its end. Empty blocks at the end and lines that are not run are left out, and named\n\
+               below the run. Pages fit A4, and cut no cell.\n\
                A solver's model in the place of the schedule is decoded first.\n\
                Exit status 0 where the picture is written, whatever the run comes to.\n",
     },

@@ -10,7 +10,7 @@ pub fn text(loaded: &Loaded, solved: &Solved) -> String {
     let means = match &solved.verdict {
         Verdict::Violated(found) => format!(
             "{answer}\
-             It means: this run is complete and legal, stays within the bound, and breaks the assertion:\n\
+             It means: this run is legal, stays within the bound, and breaks the assertion:\n\
              {}.\n\
              The proved library checked the assignment, decoded it and replayed the schedule, so this does not rest\n\
              on the solver. Anyone can follow run.txt by hand.\n\
@@ -22,8 +22,8 @@ pub fn text(loaded: &Loaded, solved: &Solved) -> String {
         Verdict::Disagree(why, Some(_)) => format!(
             "{answer}\
              The solvers disagree: {why}.\n\
-             It means: the run above is complete and legal, stays within the bound, and breaks an assertion. A solver is\n\
-             wrong about this case, and its other answers are worth nothing until it is known why.\n\
+             It means: the run above is legal, stays within the bound, and breaks an assertion. A solver is wrong about\n\
+             this case, and its other answers are worth nothing until it is known why.\n\
              It does not mean: that no other assertion breaks; that the case says what the controller does.\n"
         ),
         Verdict::Unknown(why) | Verdict::Timeout(why) | Verdict::Disagree(why, None) | Verdict::Failed(why) => format!(

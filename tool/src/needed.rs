@@ -46,24 +46,28 @@ struct Rows<'a> {
 impl Rows<'_> {
     fn order_row(&self, [_, line, next, ..]: Row) -> Seen {
         let (before, after) = (self.reads.block(line), self.reads.block(next));
-        Seen {
-            holds: before <= after,
-            needed: format!("record {next} in block {before} or later, as record {line} is in block {before}"),
-            found: format!("block number {after}"),
-        }
+        let needed = match self.reads.was_run(line) {
+            true => format!("record {next} in block {before} or later, as record {line} is in block {before}"),
+            false => format!("record {next} not run, as record {line} was not (block number {before})"),
+        };
+        Seen { holds: before <= after, needed, found: self.reads.block_in_words(next) }
     }
 
     fn last_row(&self, [_, line, most, ..]: Row) -> Seen {
-        let block = self.reads.block(line);
-        Seen { holds: block <= most, needed: format!("block number 0 to {most}"), found: format!("block number {block}") }
+        let (block, unrun) = (self.reads.block(line), self.case.unrun());
+        Seen {
+            holds: block <= unrun,
+            needed: format!("block number 0 to {most}, or {unrun} for a line that was not run"),
+            found: format!("block number {block}"),
+        }
     }
 
     fn thread_row(&self, [_, line, threads, thread, ..]: Row) -> Option<Seen> {
-        let block = self.reads.block(line);
+        let (block, unrun) = (self.reads.block(line), self.case.unrun());
         let rest = block.checked_rem(threads)?;
         Some(Seen {
-            holds: rest == thread,
-            needed: format!("a block number that is {thread} modulo {threads}"),
+            holds: !self.reads.was_run(line) || rest == thread,
+            needed: format!("a block number that is {thread} modulo {threads}, or {unrun} for a line that was not run"),
             found: format!("block number {block}, which is {rest} modulo {threads}"),
         })
     }
@@ -81,6 +85,10 @@ impl Rows<'_> {
     fn demand_row(&self, row: Row) -> Option<Seen> {
         let [_, line, guard_copy, target_copy, ..] = row;
         let record = self.reads.record(line)?;
+        if !self.reads.was_run(line) {
+            let needed = "nothing, as the line was not run".to_string();
+            return Some(Seen { holds: true, needed, found: self.reads.block_in_words(line) });
+        }
         if record.kind == Kind::Assume {
             let found = self.reads.value(line);
             let why = self.table.value_row(line).and_then(|row| self.line_value(record, row));
@@ -136,6 +144,9 @@ impl Rows<'_> {
 
     /// The value that a line must have; none where it is free.
     fn line_value(&self, record: &Record, row: Row) -> Option<Read> {
+        if !self.reads.was_run(record.number) {
+            return self.reads.term(record, Term::if_unrun(record));
+        }
         let (guard, why) = self.reads.guard(record, row[2]);
         let term = match guard {
             true => Term::if_true(record, row),

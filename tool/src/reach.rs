@@ -1,20 +1,21 @@
-//! Which asserts an answer is about. Where no complete legal run within the bound reaches an assert with a true guard, unsat says
-//! nothing of it.
+//! Which asserts an answer is about. Where no legal run within the bound reaches an assert with a true guard, unsat says nothing of
+//! it.
 //!
 //! The case with some asserts' expressions made 0, and every other assert's made 1, is a case as any other. By the theorem its
-//! constraints are met exactly where a complete legal run reaches one of those asserts with a true guard: asserts change nothing
-//! that another line reads. So a solver is asked about that case, and the library checks, decodes and replays its answer. Simple
-//! schedules are tried first, by the library's replay of that case alone.
+//! constraints are met exactly where a legal run reaches one of those asserts with a true guard: asserts change nothing that another
+//! line reads. So a solver is asked about that case, and the library checks, decodes and replays its answer. Simple schedules are
+//! tried first, by the library's replay of that case alone.
 
 use crate::alone::with_constants;
+use crate::by_hand::ByHand;
 use crate::calls::{Ending, Loaded};
-use crate::case::{Case, Kind};
+use crate::case::Case;
 use crate::failure::Failure;
 use crate::solve::{verdict, Ask, Verdict};
 use crate::solver::Asked;
 use crate::words::{count, enumeration};
 
-/// Whether some complete legal run within the bound reaches an assert with a true guard.
+/// Whether some legal run within the bound reaches an assert with a true guard.
 #[derive(Clone, Debug, PartialEq, Eq)]
 pub enum Reached {
     /// It does, with this schedule.
@@ -49,30 +50,38 @@ fn changed(case: &Case, zeros: &[u16]) -> Vec<u8> {
     with_constants(case, |record| Some(u16::from(!zeros.contains(&record))))
 }
 
-/// Why no run is complete, or there is nothing to reach, where no solver is needed to see it.
-fn plainly_nothing(case: &Case) -> Option<String> {
-    if !case.records.iter().any(|record| record.kind == Kind::Assert) {
-        return Some("the case has no assert".to_string());
+/// Whether no run gets to a record, as its thread has no block.
+pub fn has_no_block(case: &Case, record: u16) -> bool {
+    case.blocks_of(case.record(record).thread).is_empty()
+}
+
+/// Why there is nothing to reach, where no solver is needed to see it.
+fn plainly_nothing(loaded: &Loaded) -> Option<String> {
+    let (case, asserts) = (&loaded.case, loaded.asserts());
+    if !asserts.iter().all(|&record| has_no_block(case, record)) {
+        return None;
     }
-    let idle = (0..case.threads).filter(|&thread| !case.chains[thread].is_empty() && case.blocks_of(thread).is_empty());
-    let idle: Vec<String> = idle.map(|thread| thread.to_string()).collect();
-    let (threads, have) = if idle.len() == 1 { ("thread", "has") } else { ("threads", "have") };
-    let lines = format!("{threads} {} {have} lines and no block within n = {}", enumeration(&idle), case.switches);
-    (!idle.is_empty()).then(|| format!("{lines}, so no run is complete"))
+    Some(match asserts.as_slice() {
+        [] => "the case has no assert".to_string(),
+        [one] => format!("thread {} has the assert, and no block within n = {}", case.record(*one).thread, case.switches),
+        _ => format!("no thread with an assert has a block within n = {}", case.switches),
+    })
 }
 
 /// The same, as it is said where a solver was not asked.
-pub fn plainly_nothing_in_words(case: &Case) -> Option<String> {
-    plainly_nothing(case).map(|why| format!("nothing is checked here, whatever a solver says: {why}"))
+pub fn plainly_nothing_in_words(loaded: &Loaded) -> Option<String> {
+    plainly_nothing(loaded).map(|why| format!("nothing is checked here, whatever a solver says: {why}"))
 }
 
 impl Reach {
     pub fn of(loaded: &Loaded, asking: &dyn Ask) -> Result<Reach, Failure> {
         let case = &loaded.case;
-        let plain = plainly_nothing(case);
-        let first = if plain.is_some() { Reached::Never } else { Reached::NotKnown(String::new()) };
-        let asserts = loaded.asserts().into_iter().map(|record| (record, first.clone())).collect();
-        let mut reach = Reach { asserts, plain, questions: Vec::new(), disagreement: None };
+        let first = |record| match has_no_block(case, record) {
+            true => Reached::Never,
+            false => Reached::NotKnown(String::new()),
+        };
+        let asserts = loaded.asserts().into_iter().map(|record| (record, first(record))).collect();
+        let mut reach = Reach { asserts, plain: plainly_nothing(loaded), questions: Vec::new(), disagreement: None };
         if reach.plain.is_none() {
             for schedule in simple_schedules(case) {
                 reach.note_run(loaded, &schedule)?;
@@ -88,7 +97,7 @@ impl Reach {
         open.map(|(record, _)| *record).collect()
     }
 
-    /// Notes the asserts that the run of this schedule reaches, if it is complete and legal. The library's word is proved, and
+    /// Notes the asserts that the run of this schedule reaches, if it is legal. The library's word is proved, and
     /// stands above a solver's.
     pub fn note_run(&mut self, loaded: &Loaded, schedule: &[u16]) -> Result<(), Failure> {
         let others = self.asserts.iter_mut().filter(|(_, reached)| !matches!(reached, Reached::Yes(_)));
@@ -179,8 +188,8 @@ impl Reach {
     }
 }
 
-/// Whether the run of this schedule is complete and legal and reaches one of these asserts with a true guard: whether it violates
-/// where they are made 0, and the others 1.
+/// Whether the run of this schedule is legal and reaches one of these asserts with a true guard: whether it violates where they are
+/// made 0, and the others 1.
 fn breaks(loaded: &Loaded, records: &[u16], schedule: &[u16]) -> Result<bool, Failure> {
     let changed = loaded.changed(changed(&loaded.case, records))?;
     match changed.replay("a schedule", schedule) {
@@ -190,28 +199,22 @@ fn breaks(loaded: &Loaded, records: &[u16], schedule: &[u16]) -> Result<bool, Fa
     }
 }
 
-/// Schedules in which each thread runs all its lines in one block, for each order of threads, with every input 0, and 1.
+/// Schedules in which threads take turns in some order, each as far as it can go, and with every input 0, or 1.
 fn simple_schedules(case: &Case) -> Vec<Vec<u16>> {
     let threads: Vec<usize> = (0..case.threads).filter(|&thread| !case.chains[thread].is_empty()).collect();
-    let inputs = case.inputs().len();
-    let values: &[u16] = if inputs == 0 { &[0] } else { &[0, 1] };
-    let mut schedules = Vec::new();
-    for order in orders(&threads) {
-        let mut lengths = vec![0; case.switches + 1];
-        let mut block = 0;
-        let fits = order.iter().all(|&thread| {
-            let next = (block..=case.switches).find(|&block| case.thread_of_block(block) == thread);
-            next.is_some_and(|next| {
-                lengths[next] = case.chains[thread].len() as u16;
-                block = next + 1;
-                true
-            })
-        });
-        if fits {
-            schedules.extend(values.iter().map(|&value| [lengths.clone(), vec![value; inputs]].concat()));
+    let values: &[u16] = if case.inputs().is_empty() { &[0] } else { &[0, 1] };
+    let orders = orders(&threads);
+    orders.iter().flat_map(|order| values.iter().map(|&value| in_turns(case, order, value))).collect()
+}
+
+fn in_turns(case: &Case, order: &[usize], value: u16) -> Vec<u16> {
+    let mut run = ByHand::new(case);
+    while order.iter().any(|&thread| run.goes_on(thread)) {
+        for &thread in order {
+            while run.goes_on(thread) && run.run(thread, value).is_ok() {}
         }
     }
-    schedules
+    run.schedule()
 }
 
 fn orders(threads: &[usize]) -> Vec<Vec<usize>> {

@@ -107,6 +107,19 @@ impl<'a> Reads<'a> {
         self.number(2 * usize::from(record.saturating_sub(1)))
     }
 
+    pub fn was_run(&self, record: u16) -> bool {
+        self.block(record) != self.case.unrun()
+    }
+
+    /// The block number of a record, and that it says not run where it does.
+    pub fn block_in_words(&self, record: u16) -> String {
+        let block = self.block(record);
+        match self.was_run(record) {
+            true => format!("block number {block}"),
+            false => format!("block number {block}: not run"),
+        }
+    }
+
     pub fn value(&self, record: u16) -> u16 {
         self.number(2 * usize::from(record.saturating_sub(1)) + 1)
     }

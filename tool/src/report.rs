@@ -54,6 +54,7 @@ pub fn replayed(loaded: &Loaded, schedule: &[u16], run: &Run, values: bool) -> J
         ("schedule", list(schedule.iter().copied())),
         ("record", record.into()),
         ("items", items(case, &run.items)),
+        ("notRun", list(run.not_run(case).concat())),
         ("steps", list(run.steps.iter().map(|step| self::step(case, step, values)))),
     ];
     object("replay", loaded, run.status(), answer, own)

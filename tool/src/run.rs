@@ -40,7 +40,7 @@ pub fn confirmed(loaded: &Loaded, name: &str, schedule: &[u16], walk: impl FnOnc
 pub fn verdict(case: &Case, ending: Ending) -> String {
     match ending {
         Ending::Violated(_) => format!("violated: {}", broken(case, ending)),
-        Ending::Clean => "clean: every line ran, and no assertion is broken".to_string(),
+        Ending::Clean => "clean: nothing cuts the run off, and no assertion is broken".to_string(),
         Ending::CutOff(record) => format!("cut off: {} failed, so the run ends there", record_in_words(case, record)),
     }
 }
@@ -63,8 +63,29 @@ impl Run {
 
     /// What is to be said of an assertion that is broken in a run that is cut off later.
     pub fn broken_in_vain(&self) -> Option<String> {
-        let record = first_broken(&self.steps).filter(|_| matches!(self.ending, Ending::CutOff(_)))?;
-        Some(format!("record {record} is broken too, but a run that is cut off is not legal: no violation"))
+        let Ending::CutOff(failed) = self.ending else { return None };
+        let broken = first_broken(&self.steps)?;
+        Some(format!(
+            "record {broken} is broken too, but a run that is cut off is not legal; one that stops before record {failed} \
+             violates"
+        ))
+    }
+
+    /// The records of the lines that each thread does not get to, by chain.
+    pub fn not_run<'a>(&self, case: &'a Case) -> Vec<&'a [u16]> {
+        let of = |thread| self.steps.iter().filter(|step| case.thread_of_block(step.block) == thread).count();
+        case.chains.iter().enumerate().map(|(thread, chain)| &chain[of(thread)..]).collect()
+    }
+
+    /// The same in lines; nothing of a thread that gets to its end.
+    pub fn not_run_in_words(&self, case: &Case) -> Vec<String> {
+        let left = self.not_run(case).into_iter().enumerate();
+        let words = left.filter_map(|(thread, left)| {
+            let (lines, first) = (count(left.len(), "line", "lines"), record_in_words(case, *left.first()?));
+            let on = if left.len() > 1 { ("from ", " on") } else { ("", "") };
+            Some(format!("not run: {lines} of thread {thread}, {}{first}{}", on.0, on.1))
+        });
+        words.collect()
     }
 
     pub fn text(&self, case: &Case, schedule: &[u16]) -> String {
@@ -107,7 +128,8 @@ impl Run {
             Ending::Clean => None,
         };
         let place = place.map(|line| format!("that is line {line} of the source"));
-        let lines = std::iter::once(verdict(case, self.ending)).chain(place).chain(self.broken_in_vain());
+        let lines = self.not_run_in_words(case).into_iter().chain([verdict(case, self.ending)]);
+        let lines = lines.chain(place).chain(self.broken_in_vain());
         lines.map(|line| line + "\n").collect()
     }
 

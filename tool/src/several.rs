@@ -108,7 +108,7 @@ fn plain_in_words(operand: &Source) -> String {
     let cases = expanded(std::slice::from_ref(operand)).unwrap_or_default();
     let words = cases.iter().filter_map(|case| {
         let loaded = Loaded::from(case).ok()?;
-        Some(format!("\n  {}: {}", loaded.name, plainly_nothing_in_words(&loaded.case)?))
+        Some(format!("\n  {}: {}", loaded.name, plainly_nothing_in_words(&loaded)?))
     });
     words.collect()
 }

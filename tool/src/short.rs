@@ -1,7 +1,7 @@
 //! `solve --short`: a run worth showing. Solvers are asked for runs that use fewer switches, then for such with fewer blocks that
-//! have lines, then for smaller inputs, the first one first. A question is the case's own with wishes beside the constraints: what
-//! is found is checked, decoded and replayed by the library as ever, and measured, so a wish decides nothing. That there is no
-//! shorter run is the solvers' word.
+//! have lines, then with fewer lines, then for smaller inputs, the first one first. A question is the case's own with wishes beside
+//! the constraints: what is found is checked, decoded and replayed by the library as ever, and measured, so a wish decides nothing.
+//! That there is no shorter run is the solvers' word.
 
 use crate::calls::Loaded;
 use crate::case::Case;
@@ -11,22 +11,24 @@ use crate::solve::{verdict, Ask, Found, Verdict};
 use crate::wishes;
 use crate::words::{count, enumeration};
 
-/// The most questions that are asked for a shorter run: a few for switches and blocks, and at most about 20 for an input.
+/// The most questions that are asked for a shorter run: a few for switches, blocks and lines, and at most about 20 for an input.
 const MOST_QUESTIONS: usize = 64;
 
 /// How many times larger than what is too small the next number may be that is asked about.
 const STRIDE: u16 = 16;
 
-/// How long a run is: the switches that are used, which is the number of the last block with lines; the blocks with lines; and then
-/// each input's value. The first number counts most.
+/// How long a run is: the switches that are used, which is the number of the last block with lines; the blocks with lines; the lines;
+/// and then each input's value. The first number counts most.
 type Length = Vec<u16>;
 
 /// The place of the switches in a length.
 const SWITCHES: usize = 0;
 /// The place of the blocks with lines.
 const BLOCKS: usize = 1;
+/// The place of the lines.
+const LINES: usize = 2;
 /// The place of the first input.
-const INPUTS: usize = 2;
+const INPUTS: usize = 3;
 
 /// How short a run was made.
 #[derive(Clone, Debug)]
@@ -73,17 +75,19 @@ fn length(case: &Case, schedule: &[u16]) -> Length {
     let (lengths, inputs) = schedule.split_at(case.switches + 1);
     let used = lengths.iter().rposition(|&length| length != 0).unwrap_or(0);
     let blocks = lengths.iter().filter(|&&length| length != 0).count();
-    [&[used as u16, blocks as u16], inputs].concat()
+    [&[used as u16, blocks as u16, lengths.iter().sum()], inputs].concat()
 }
 
-/// What a number of a length is at least, in every complete run: each thread with lines has a block of its own.
-fn least(case: &Case, place: usize) -> u16 {
-    let busy = |chain: &Vec<u16>| !chain.is_empty();
-    match place {
-        SWITCHES => case.chains.iter().rposition(busy).unwrap_or(0) as u16,
-        BLOCKS => case.chains.iter().filter(|chain| busy(chain)).count() as u16,
-        _ => 0,
-    }
+/// What a number of a length is at least, in every run that violates: it runs one of the asserts, and all lines before it.
+fn least(loaded: &Loaded, place: usize) -> u16 {
+    let asserts = loaded.asserts().into_iter().filter_map(|record| loaded.case.position(record));
+    let least = match place {
+        SWITCHES => asserts.map(|(thread, _)| thread).min(),
+        BLOCKS => Some(1),
+        LINES => asserts.map(|(_, line)| line).min(),
+        _ => None,
+    };
+    least.unwrap_or(0) as u16
 }
 
 /// The wish that a number of a length is at most this.
@@ -91,6 +95,7 @@ fn wish(loaded: &Loaded, place: usize, most: u16) -> String {
     match place {
         SWITCHES => wishes::blocks_up_to(&loaded.case, most),
         BLOCKS => wishes::blocks_with_lines_at_most(&loaded.case, most),
+        LINES => wishes::lines_at_most(&loaded.case, most),
         input => wishes::input_at_most(loaded, loaded.case.inputs()[input - INPUTS], most),
     }
 }
@@ -102,7 +107,7 @@ impl Search<'_> {
 
     /// Makes one number of the length as small as it can be, where those before it stay so. The failure says why it may be smaller.
     fn make_least(&mut self, place: usize) -> Result<(), String> {
-        let mut low = least(&self.loaded.case, place);
+        let mut low = least(self.loaded, place);
         loop {
             let high = self.length()[place];
             if low >= high {
@@ -143,9 +148,9 @@ impl Search<'_> {
 }
 
 impl Short {
-    /// `3 of 7 switches used, 4 blocks with lines, inputs 0 1`.
+    /// `3 of 7 switches used, 4 blocks with lines, 9 of 20 lines run, inputs 0 1`.
     pub fn words(&self, case: &Case) -> String {
-        words(&self.length, case.switches)
+        words(&self.length, case)
     }
 
     /// What was gained, and whose word it is that no run is shorter.
@@ -158,7 +163,7 @@ impl Short {
         };
         let before = match self.before == self.length {
             true => "as it was found".to_string(),
-            false => format!("as it was found first: {}", words(&self.before, case.switches)),
+            false => format!("as it was found first: {}", words(&self.before, case)),
         };
         format!("short: {}\n  {before}\n  {questions}; {rests}\n", self.words(case))
     }
@@ -167,6 +172,7 @@ impl Short {
         Json::Object(vec![
             ("switches", self.length[SWITCHES].into()),
             ("blocks", self.length[BLOCKS].into()),
+            ("lines", self.length[LINES].into()),
             ("inputs", list(self.length[INPUTS..].iter().copied())),
             ("questions", self.questions.into()),
             ("shortest", self.stopped.is_none().into()),
@@ -174,13 +180,14 @@ impl Short {
     }
 }
 
-fn words(length: &Length, switches: usize) -> String {
+fn words(length: &Length, case: &Case) -> String {
     let blocks = count(usize::from(length[BLOCKS]), "block with lines", "blocks with lines");
-    let bound = count(switches, "switch", "switches");
+    let bound = count(case.switches, "switch", "switches");
+    let lines = count(case.records.len(), "line", "lines");
     let inputs = match &length[INPUTS..] {
         [] => String::new(),
         [input] => format!(", input {input}"),
         inputs => format!(", inputs {}", inputs.iter().map(u16::to_string).collect::<Vec<_>>().join(" ")),
     };
-    format!("{} of {bound} used, {blocks}{inputs}", length[SWITCHES])
+    format!("{} of {bound} used, {blocks}, {} of {lines} run{inputs}", length[SWITCHES], length[LINES])
 }

@@ -187,13 +187,12 @@ impl Talk<'_> {
 
     /// Says where the run stands: each thread's next line, or what the run comes to.
     fn say_where(&mut self) -> Result<(), Failure> {
-        let text = match self.run.schedule() {
-            Some(schedule) => format!(
-                "{}'undo' goes back, 'quit' gives the schedule\n",
-                self.replayed(&schedule)?.conclusion(&self.loaded.case)
-            ),
-            None if is_cut_off(&self.run.steps) => "the run is cut off; 'undo' goes back\n".to_string(),
-            None => self.next_lines(),
+        let text = match self.run.is_over() {
+            true => {
+                let conclusion = self.replayed()?.conclusion(&self.loaded.case);
+                format!("{conclusion}'undo' goes back, 'quit' gives the schedule\n")
+            }
+            false => self.next_lines(),
         };
         self.output.say(&text)
     }
@@ -218,6 +217,9 @@ impl Talk<'_> {
             text.push_str(format!("   thread {thread}  {line}").trim_end());
             text.push('\n');
         }
+        if let Some(record) = first_broken(&self.run.steps) {
+            text.push_str(&format!("record {record} is broken: a run that stops here violates\n"));
+        }
         text
     }
 
@@ -225,51 +227,29 @@ impl Talk<'_> {
     fn notes(&self, thread: usize, record: &Record) -> String {
         let guard = record.guard_local().map(|_| format!("guard {}", self.run.machine.guard_is_true(record)));
         let turn = match self.run.turn(thread) {
-            None => Some("no block left, so no schedule will come of it".to_string()),
+            None => Some("no block left, so it is not run".to_string()),
             Some(block) if block == self.run.block => None,
             Some(block) => Some(format!("in block {block}, after {}", count(block - self.run.block, "switch", "switches"))),
         };
         [guard, turn].into_iter().flatten().collect::<Vec<_>>().join("; ")
     }
 
-    /// The library's word on a schedule of this run.
-    fn replayed(&self, schedule: &[u16]) -> Result<Run, Failure> {
-        run::confirmed(self.loaded, "the schedule", schedule, || self.run.walk())
+    /// The library's word on the run so far.
+    fn replayed(&self) -> Result<Run, Failure> {
+        run::confirmed(self.loaded, "the schedule", &self.run.schedule(), || self.run.walk())
     }
 
-    /// The schedule and what it comes to; or that there is none yet, with its block lengths so far and the lines that are left.
+    /// The schedule, and what it comes to.
     fn schedule(&self) -> Result<String, Failure> {
-        let case = &self.loaded.case;
-        let Some(schedule) = self.run.schedule() else {
-            let left = self.run.left_in_words().iter().map(|words| format!("   {words}\n")).collect::<String>();
-            let broken = first_broken(&self.run.steps).map(|record| {
-                format!("{} is broken, but only a run of all lines can violate\n", record_in_words(case, record))
-            });
-            let values = match self.run.machine.inputs.as_slice() {
-                [] => String::new(),
-                values => format!("   input values so far, 0 where none was taken: {}", numbers_in_lines(values)),
-            };
-            let lengths = numbers_in_lines(&self.run.lengths);
-            let broken = broken.unwrap_or_default();
-            return Ok(format!("no schedule yet\n   block lengths so far: {lengths}{values}{left}{broken}"));
-        };
-        let run = self.replayed(&schedule)?;
-        let more = match self.run.unfinished().is_empty() {
-            true => "",
-            false => "lines that the run does not get to are counted in the next blocks of their threads\n",
-        };
-        Ok(format!("schedule:\n{}{}{more}", numbers_in_lines(&schedule), run.conclusion(case)))
+        let conclusion = self.replayed()?.conclusion(&self.loaded.case);
+        Ok(format!("schedule:\n{}{conclusion}", numbers_in_lines(&self.run.schedule())))
     }
 
     /// Prints the schedule, and writes it to the file.
     fn end(&mut self, stepping: &Stepping) -> Result<Status, Failure> {
-        let (text, file) = (self.schedule()?, stepping.file.as_deref());
-        let Some(schedule) = self.run.schedule() else {
-            self.output.say(&text)?;
-            file.map_or(Ok(()), |file| self.output.say(&format!("{} is not written\n", shown(file))))?;
-            return Err(Failure::Told(Failure::STATUS_OTHER));
-        };
-        let text_of_file = filed::schedule(self.loaded, &schedule);
+        let text = self.schedule()?;
+        let text_of_file = filed::schedule(self.loaded, &self.run.schedule());
+        let file = stepping.file.as_deref();
         let written = file
             .map(|file| keep::write_output(file, text_of_file.as_bytes(), stepping.force, &[&stepping.case]).map(|()| file));
         // A schedule that could not be written is printed all the same.
@@ -277,7 +257,7 @@ impl Talk<'_> {
         if let Some(file) = written.transpose()? {
             self.output.say(&format!("the schedule is in {}\n", shown(file)))?;
         }
-        Ok(self.replayed(&schedule)?.status())
+        Ok(self.replayed()?.status())
     }
 }
 

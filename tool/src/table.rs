@@ -42,12 +42,12 @@ pub fn in_words(case: &Case, row: Row) -> String {
     let record = |number: u16| record_in_words(case, number);
     match kind {
         1 => format!("the block number does not fall from {} to {}", record(first), record(second)),
-        2 => format!("the block number of {} is at most n, which is {second}", record(first)),
-        3 => format!("the block number of {} modulo {second} is its thread, {third}", record(first)),
+        2 => format!("the block number of {} is at most n, which is {second}, where it was run", record(first)),
+        3 => format!("the block number of {} modulo {second} is its thread, {third}, where it was run", record(first)),
         4 => format!("the value of {}", record(first)),
         5 => match case.record(first).kind {
-            Kind::Assume => format!("the assume of {} holds", record(first)),
-            _ => format!("the mutex is free for {}", record(first)),
+            Kind::Assume => format!("the assume of {} holds where it was run", record(first)),
+            _ => format!("the mutex is free for {} where it was run", record(first)),
         },
         6 => {
             let item = item_name(case, usize::from(first));

@@ -55,6 +55,15 @@ impl Term {
         }
     }
 
+    /// The value of a line that was not run.
+    pub fn if_unrun(record: &Record) -> Term {
+        match record.kind {
+            Kind::Assert => Term::Fixed(1, "an assert that was not run has 1"),
+            Kind::Assume => Term::Fixed(1, "an assume that was not run has 1"),
+            _ => Term::Fixed(0, "a line that was not run has 0"),
+        }
+    }
+
     /// The mutex that is the line's target.
     pub fn mutex(case: &Case, record: &Record, copy: u16) -> Term {
         Term::Item { item: case.globals + usize::from(record.target), copy }

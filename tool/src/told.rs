@@ -5,7 +5,7 @@ use crate::failure::{Failure, Status};
 use crate::input::Source;
 use crate::name::shown;
 use crate::output::Output;
-use crate::reach::{plainly_nothing_in_words, Reach, Reached};
+use crate::reach::{has_no_block, plainly_nothing_in_words, Reach, Reached};
 use crate::solve::{Found, Solved, Verdict, Wanted};
 use crate::summary::Summary;
 use crate::words::{all, count, enumeration, numbers_in_lines, record_in_words, these};
@@ -18,7 +18,7 @@ pub fn one(source: &Source, wanted: &Wanted, output: &mut Output) -> Result<Stat
         keep.prepare(source)?;
     }
     output.say(&question(source, &loaded))?;
-    if let Some(words) = plainly_nothing_in_words(&loaded.case) {
+    if let Some(words) = plainly_nothing_in_words(&loaded) {
         output.say(&format!("{words}\n"))?;
     }
     let asking = wanted.settings.asking(false)?;
@@ -130,13 +130,13 @@ fn unsat(loaded: &Loaded, solvers: &[&str]) -> String {
     };
     format!(
         "{names} {say} unsat: nothing meets {constraints}.\n\
-         It means: no complete legal run breaks {assertion} within n = {switches} {bound}, in round robin: block i\n\
-         (0 to {switches}) belongs to thread i modulo {threads}, and a thread that runs no line still uses its turn. A run is\n\
-         complete and legal when every thread ran all its lines, every assume held and every lock was free.\n\
+         It means: no legal run breaks {assertion} within n = {switches} {bound}, in round robin: block i (0 to {switches})\n\
+         belongs to thread i modulo {threads}, and a thread that runs no line still uses its turn. A run is legal when\n\
+         every assume held and every lock was free; a thread may stop after any of its lines.\n\
          It does not mean: that {other} with more switches or in another order of threads; that\n\
-         threads cannot wait for each other for ever: a run that comes to a taken lock or a failed assume does not\n\
-         count, also where an assertion broke before; that anything was checked of an assert that no such run\n\
-         reaches; that the case says what the controller does.\n\
+         threads get to their ends, or cannot wait for each other for ever: a run that comes to a taken lock or a\n\
+         failed assume does not count, only one that stops before it; that anything was checked of an assert that\n\
+         no legal run reaches; that the case says what the controller does.\n\
          What the constraints say is proved. That nothing meets them is {word} word, and is not checked here.\n"
     )
 }
@@ -148,6 +148,9 @@ pub fn asserts(loaded: &Loaded, reach: &Reach) -> String {
     for (record, reached) in &reach.asserts {
         let words = match reached {
             Reached::Yes(schedule) => format!("reached, e.g. schedule {}", numbers_in_lines(schedule).replace('\n', " ")),
+            Reached::Never if has_no_block(&loaded.case, *record) => {
+                format!("NEVER REACHED: its thread has no block within n = {n}, and nothing was checked of it")
+            }
             Reached::Never => format!("NEVER REACHED within n = {n}: nothing was checked of it"),
             Reached::NotKnown(why) => {
                 format!("not known whether it is reached: {}", why.lines().next().unwrap_or_default())
@@ -155,7 +158,8 @@ pub fn asserts(loaded: &Loaded, reach: &Reach) -> String {
         };
         text.push_str(&format!("  {}: {}\n", record_in_words(&loaded.case, *record), words.trim_end()));
     }
-    if reach.plain.is_none() && reach.asserts.iter().any(|(_, reached)| *reached == Reached::Never) {
+    let by_solvers = |(record, reached): &(u16, Reached)| *reached == Reached::Never && !has_no_block(&loaded.case, *record);
+    if reach.asserts.iter().any(by_solvers) {
         let names =
             reach.questions.last().map_or(Vec::new(), |last| last.asked.iter().map(|one| one.solver.as_str()).collect());
         text.push_str(&format!(
@@ -175,8 +179,8 @@ pub fn warning(solved: &Solved) -> String {
         (Verdict::Unsat, Some(_)) if solved.reach.is_vacuous() => {
             let why = match (&solved.reach.plain, solved.reach.asserts.len()) {
                 (Some(plain), _) => plain.clone(),
-                (None, 1) => "no complete legal run within the bound reaches the assert with a true guard".to_string(),
-                (None, _) => "no complete legal run within the bound reaches an assert with a true guard".to_string(),
+                (None, 1) => "no legal run within the bound reaches the assert with a true guard".to_string(),
+                (None, _) => "no legal run within the bound reaches an assert with a true guard".to_string(),
             };
             format!("VACUOUS: this unsat says nothing about any assertion: {why}.\n")
         }

@@ -3,24 +3,40 @@
 use crate::calls::Loaded;
 use crate::case::Case;
 
-/// The wish that every line runs in a block up to this one. Block numbers do not fall within a thread.
+/// The wish that every line that is run is in a block up to this one.
 pub fn blocks_up_to(case: &Case, last: u16) -> String {
-    let ends = case.chains.iter().filter_map(|chain| chain.last());
-    let ends = ends.map(|&record| format!(" (bvule {} {})", block(record), constant(last)));
-    format!("(and true{})", ends.collect::<String>())
+    let lines = case.chains.iter().flatten();
+    let lines = lines.map(|&record| format!(" (or {} (bvule {} {}))", unrun(case, record), block(record), constant(last)));
+    format!("(and true{})", lines.collect::<String>())
 }
 
-/// The wish that at most so many blocks have lines. A thread's first line begins a block with lines, and so does each line that is
-/// in another block than the line before it.
+/// The wish that at most so many blocks have lines.
 pub fn blocks_with_lines_at_most(case: &Case, most: u16) -> String {
-    let first = case.chains.iter().filter(|chain| !chain.is_empty()).map(|_| constant(1));
-    let changes = case.chains.iter().flat_map(|chain| chain.windows(2));
-    let changes = changes.map(|pair| format!("(ite (= {} {}) #x0000 #x0001)", block(pair[0]), block(pair[1])));
-    let blocks = first.chain(changes).fold(constant(0), |sum, one| format!("(bvadd {sum} {one})"));
-    format!("(bvule {blocks} {})", constant(most))
+    let has_lines = |number: usize| {
+        let lines = case.chains[case.thread_of_block(number)].iter();
+        let lines = lines.map(|&record| format!(" (= {} {})", block(record), constant(number as u16)));
+        format!("(or false{})", lines.collect::<String>())
+    };
+    at_most((0..=case.switches).map(has_lines), most)
 }
 
-/// The wish that the value of an input line is at most this, as a schedule has it: 0 where the guard is false.
+/// The wish that at most so many lines are run.
+pub fn lines_at_most(case: &Case, most: u16) -> String {
+    at_most(case.chains.iter().flatten().map(|&record| format!("(not {})", unrun(case, record))), most)
+}
+
+/// That at most so many of these conditions hold.
+fn at_most(conditions: impl Iterator<Item = String>, most: u16) -> String {
+    let sum = conditions.fold(constant(0), |sum, one| format!("(bvadd {sum} (ite {one} #x0001 #x0000))"));
+    format!("(bvule {sum} {})", constant(most))
+}
+
+fn unrun(case: &Case, record: u16) -> String {
+    format!("(= {} {})", block(record), constant(case.unrun()))
+}
+
+/// The wish that the value of an input line is at most this, as a schedule has it: 0 where the guard is false. Where it was not run
+/// its constraint gives it 0.
 pub fn input_at_most(loaded: &Loaded, record: u16, most: u16) -> String {
     let small = format!("(bvule {} {})", value(record), constant(most));
     let guard = loaded.case.record(record).guard;

@@ -27,8 +27,8 @@ impl Refusal {
             10 => "an output slice is shorter than what would be written",
             11 => "the assignment does not have exactly 2R + n x (G + M) numbers",
             12 => "the schedule does not have exactly n + 1 numbers and one for each input line",
-            13 => "the block lengths of some thread do not add up to its lines",
-            14 => "the run meets an input line with a false guard and a value other than 0 (the place is that record)",
+            13 => "the block lengths of some thread add up to more than its lines",
+            14 => "an input line with a false guard, or not run, has a value other than 0 (the place is that record)",
             15 => "the assignment fails (the place is the first failed constraint, from 1)",
             _ => "not a refusal of document 01",
         }

@@ -1,6 +1,7 @@
 //! Pictures of many runs: nothing leaves its cell or its page, no text stands on another, and every line is told.
 
 use super::Picture;
+use crate::calls::Ending;
 use crate::case::Case;
 use crate::names::Name;
 use crate::run::Run;
@@ -71,13 +72,14 @@ fn give_names(case: &mut Case, dice: &mut Dice) {
     }
 }
 
-/// A schedule that runs all lines of the threads that have blocks.
+/// A schedule in which the threads that have blocks run all their lines, or stop early.
 fn schedule(case: &Case, dice: &mut Dice) -> Vec<u16> {
     let mut schedule = vec![0; case.switches + 1];
     for (thread, chain) in case.chains.iter().enumerate() {
         let blocks = case.blocks_of(thread);
         let used = blocks.len().min(dice.between(1, 6));
-        chain.iter().filter(|_| used > 0).for_each(|_| schedule[blocks[dice.below(used)]] += 1);
+        let most = if dice.below(4) == 0 { dice.below(chain.len() + 1) } else { chain.len() };
+        (0..most).filter(|_| used > 0).for_each(|_| schedule[blocks[dice.below(used)]] += 1);
     }
     schedule.extend(case.inputs().iter().map(|_| dice.below(65536) as u16));
     schedule
@@ -189,22 +191,26 @@ fn assert_is_in_order(svg: &str, threads: usize, about: &str) {
 #[test]
 fn many_runs() {
     let mut dice = Dice(7);
-    let (mut lanes, mut several) = (0, 0);
+    let (mut lanes, mut several, mut stopped) = (0, 0, 0);
     for number in 0..600 {
         let case = case(&mut dice);
         let walk = walk(&case, &schedule(&case, &mut dice));
         let run = Run { ending: walk.ending, items: walk.items, steps: walk.steps };
         let name = ["a", "a rather_long-name <&> of a case ".repeat(9).as_str()][dice.below(2)].to_string();
         let files = Picture::of(&case, &name, &run).files(OsStr::new("run.svg"));
-        let mut told = 0;
+        let mut told = Vec::new();
         for (file, svg) in &files {
             assert_is_in_order(svg, case.threads, &format!("case {number}, {file:?}"));
-            told += texts(svg).1.iter().map(|text| lines_told(text)).sum::<usize>();
+            told.extend(texts(svg).1);
         }
-        assert_eq!(told, run.steps.len(), "case {number}: lines");
+        assert_eq!(told.iter().map(|text| lines_told(text)).sum::<usize>(), run.steps.len(), "case {number}: lines");
+        let not_run = run.not_run_in_words(&case);
+        assert!(not_run.iter().all(|words| told.iter().any(|text| text.contains(words))), "case {number}: {not_run:?}");
+        stopped += usize::from(!not_run.is_empty() && !matches!(run.ending, Ending::CutOff(_)));
         lanes += usize::from(files.iter().any(|(_, svg)| svg.contains("#f4f4f4")));
         several += usize::from(files.len() > 1);
     }
     // There were enough of each kind.
     assert!(lanes > 100 && several > 100, "{lanes} in lanes, {several} of several pages");
+    assert!(stopped > 100, "{stopped} that stop");
 }
