@@ -49,12 +49,13 @@ pub fn lines_run(draft: &Draft, schedule: &[u16]) -> Vec<u16> {
 
 /// Every schedule of a case with one input, but for those with a value for the
 /// input where it is not run.
-pub fn schedules_with_all_values(draft: &Draft) -> impl Iterator<Item = Vec<u16>> + '_ {
-    block_lengths(draft).into_iter().flat_map(|lengths| {
+pub fn schedules_with_all_values(draft: &Draft) -> impl Iterator<Item = Vec<u16>> {
+    let with_most_value = |lengths: Vec<u16>| {
         let is_run = draft.inputs().iter().all(|input| lines_run(draft, &lengths).contains(input));
-        let most = if is_run { u16::MAX } else { 0 };
-        (0..=most).map(move |value| [lengths.as_slice(), &[value]].concat())
-    })
+        (lengths, if is_run { u16::MAX } else { 0 })
+    };
+    let all: Vec<(Vec<u16>, u16)> = block_lengths(draft).into_iter().map(with_most_value).collect();
+    all.into_iter().flat_map(|(lengths, most)| (0..=most).map(move |value| [lengths.as_slice(), &[value]].concat()))
 }
 
 /// Every schedule whose input values are among those given.

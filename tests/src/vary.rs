@@ -2,6 +2,7 @@
 //! damaged ones.
 
 use crate::draft::Draft;
+use crate::enumerate::lines_run;
 use crate::fill::fill;
 use crate::random::Random;
 
@@ -12,7 +13,6 @@ use crate::random::Random;
 pub fn schedule(random: &mut Random, draft: &Draft) -> Vec<u16> {
     let (threads, blocks) = (usize::from(draft.threads), draft.blocks());
     let mut schedule = vec![0; blocks];
-    let mut was_run = vec![false; draft.records.len()];
     let may_stop = random.chance(50);
     for (thread, chain) in draft.chains().iter().enumerate() {
         // None for a thread that has no block.
@@ -22,18 +22,16 @@ pub fn schedule(random: &mut Random, draft: &Draft) -> Vec<u16> {
             _ if may_stop => random.below(chain.len() + 1),
             _ => chain.len(),
         };
-        for &line in &chain[..steps] {
+        for _ in 0..steps {
             schedule[thread + threads * random.below(turns)] += 1;
-            was_run[usize::from(line) - 1] = true;
         }
     }
+    let lines_run = lines_run(draft, &schedule);
     let (only_zeros, zeros_left) = (random.chance(40), random.chance(75));
-    let input_value = |line: u16| match was_run[usize::from(line) - 1] {
-        true if only_zeros => 0,
-        false if only_zeros || zeros_left => 0,
-        _ => random.word(),
-    };
-    schedule.extend(draft.inputs().into_iter().map(input_value));
+    for line in draft.inputs() {
+        let is_zero = only_zeros || zeros_left && !lines_run.contains(&line);
+        schedule.push(if is_zero { 0 } else { random.word() });
+    }
     schedule
 }
 

@@ -1,6 +1,6 @@
 //! The answers of `menduvo solve` on random small cases, beside what trying
-//! every schedule finds: violated, unsat or vacuous, and which asserts a
-//! complete legal run reaches with a true guard.
+//! every schedule finds: violated, unsat or vacuous, and which asserts a legal
+//! run reaches with a true guard.
 
 use std::collections::BTreeSet;
 use std::env;

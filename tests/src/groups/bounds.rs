@@ -5,8 +5,8 @@
 use crate::ask::reply;
 use crate::calls::{Calls, Replayed};
 use crate::draft::Draft;
-use crate::enumerate::{block_lengths, schedules, with_each};
-use crate::generate::{accepted, Shape, BUSY, BUSY_WITH_INPUTS, FOUR_THREADS, SMALL};
+use crate::enumerate::{block_lengths, schedules, schedules_with_all_values};
+use crate::generate::{accepted, Shape, BUSY, FOUR_THREADS, SMALL, TINY_WITH_INPUTS};
 use crate::groups::answers::{alone, asserts, changed, program, write_all, Folder};
 use crate::line::{assert, compute, constant, input, load, store, CONSTANT, LESS, OR};
 use crate::program;
@@ -29,18 +29,18 @@ pub fn run(_: &dyn Calls, report: &mut Report) {
         ["violated", "unsat", "vacuous", "another is first"].iter().try_for_each(|what| tally.saw_often(what, 3))
     });
     report.check("the shortest run", |tally| {
-        short(&drafts(84_000_000, BUSY, 110), &[0], tally)?;
-        short(&drafts(85_000_000, FOUR_THREADS, 40), &[0], tally)?;
+        short(&drafts(84_000_000, BUSY, 110), block_lengths, tally)?;
+        short(&drafts(85_000_000, FOUR_THREADS, 40), block_lengths, tally)?;
         tally.saw_often("violated", 20)?;
+        tally.saw_often("lines left", 20)?;
         tally.saw_often("an empty block between", 2)
     });
     report.check("the shortest run with an input", |tally| {
-        let fits = |draft: &Draft| draft.inputs().len() == 1 && (1..=6).contains(&block_lengths(draft).len());
-        let random = drafts(86_000_000, BUSY_WITH_INPUTS, 500).into_iter().filter(fits).take(6);
-        let drafts: Vec<Draft> = random.chain([1, 2, 100, 40_000].map(with_an_input)).collect();
-        let all_values: Vec<u16> = (0..=u16::MAX).collect();
-        short(&drafts, &all_values, tally)?;
-        tally.saw_often("an input over 0", 4)
+        let fits = |draft: &Draft| draft.inputs().len() == 1 && block_lengths(draft).len() <= 9;
+        let random = drafts(86_000_000, TINY_WITH_INPUTS, 500).into_iter().filter(fits).take(6);
+        let drafts: Vec<Draft> = random.chain([1, 100, 40_000].map(with_an_input)).collect();
+        short(&drafts, schedules_with_all_values, tally)?;
+        tally.saw_often("an input over 0", 3)
     });
 }
 
@@ -49,7 +49,7 @@ pub fn run(_: &dyn Calls, report: &mut Report) {
 fn with_an_input(least: u16) -> Draft {
     let is_less = [LESS, 0, CONSTANT, least];
     let lines = [input(0), compute(2, is_less), load(1, 0), assert([OR, 1, 2, 0])];
-    Draft::new(2, 3).with_globals(&[1]).with_thread(0, &lines).with_thread(1, &[store(0, constant(0))])
+    Draft::new(2, 2).with_globals(&[1]).with_thread(0, &lines).with_thread(1, &[store(0, constant(0))])
 }
 
 fn drafts(seed: u64, shape: Shape, cases: u64) -> Vec<Draft> {
@@ -144,37 +144,41 @@ fn numbers(object: &str, begin: &str) -> Result<Vec<u16>, String> {
     numbers.collect::<Result<_, _>>().map_err(|error| format!("{error}: {object}"))
 }
 
-/// The last block with lines, how many have lines, and the inputs.
+/// The last block with lines, how many have lines, the lines that are run, and
+/// the inputs.
 fn length(draft: &Draft, schedule: &[u16]) -> Vec<u16> {
     let (lengths, inputs) = schedule.split_at(draft.blocks());
     let used = lengths.iter().rposition(|&length| length > 0).unwrap_or(0) as u16;
     let blocks = lengths.iter().filter(|&&length| length > 0).count() as u16;
-    [&[used, blocks], inputs].concat()
+    [&[used, blocks, lengths.iter().sum()], inputs].concat()
 }
 
-fn short(drafts: &[Draft], values: &[u16], tally: &mut Tally) -> Outcome {
+/// `all` gives every schedule that may be the shortest.
+fn short<All: IntoIterator<Item = Vec<u16>>>(drafts: &[Draft], all: impl Fn(&Draft) -> All, tally: &mut Tally) -> Outcome {
     let folder = Folder::new("short");
     let printed = printed(&folder, drafts, &["--short"])?;
     for (number, draft) in drafts.iter().enumerate() {
         let object = object(&printed, number, "\"constraints\"")?;
-        let all = block_lengths(draft);
-        let all = draft.inputs().iter().fold(all, |all, _| with_each(&all, values));
-        let violating = all.iter().filter(|schedule| violates(draft, schedule));
-        let Some(shortest) = violating.map(|schedule| length(draft, schedule)).min() else {
+        let violating = all(draft).into_iter().filter(|schedule| violates(draft, schedule));
+        let Some(shortest) = violating.map(|schedule| length(draft, &schedule)).min() else {
             tally.holds(!object.contains("\"short\""), || format!("it has no run; {object}; case {draft}"))?;
             continue;
         };
         tally.saw("violated");
         let schedule = numbers(object, "\"schedule\":[")?;
         tally.same(length(draft, &schedule), shortest.clone(), || format!("{object}; case {draft}"))?;
-        let (used, blocks, inputs) = (shortest[0], shortest[1], format!("{:?}", &shortest[2..]).replace(' ', ""));
-        let wanted = format!("\"short\":{{\"switches\":{used},\"blocks\":{blocks},\"inputs\":{inputs},");
+        let (used, blocks, lines, inputs) = (shortest[0], shortest[1], shortest[2], &shortest[3..]);
+        let values = format!("{inputs:?}").replace(' ', "");
+        let wanted = format!("\"short\":{{\"switches\":{used},\"blocks\":{blocks},\"lines\":{lines},\"inputs\":{values},");
         tally.holds(object.contains(&wanted), || format!("it should say {wanted}; {object}; case {draft}"))?;
         tally.holds(object.contains("\"shortest\":true"), || format!("{object}; case {draft}"))?;
         if blocks <= used {
             tally.saw("an empty block between");
         }
-        if shortest[2..].iter().any(|&input| input > 0) {
+        if lines < draft.records.len() as u16 {
+            tally.saw("lines left");
+        }
+        if inputs.iter().any(|&input| input > 0) {
             tally.saw("an input over 0");
         }
     }

@@ -1,13 +1,17 @@
 //! The random cases themselves: all are accepted, and between them they have
-//! everything that document 01 allows.
+//! everything that document 01 allows. Their random schedules stop early, or not,
+//! with all that comes of it.
 
-use crate::calls::{Calls, Verdict};
+use crate::ask::reply;
+use crate::calls::{Calls, Replayed, Verdict};
 use crate::compare::SHAPES;
 use crate::draft::Draft;
+use crate::enumerate::{lines_run, runs_all_lines};
 use crate::generate::accepted;
 use crate::line::{Line, COMPUTE, INPUT, LOAD};
 use crate::random::Random;
 use crate::report::{Outcome, Report, Tally};
+use crate::vary::schedule;
 
 const CASES: u64 = 3_000;
 
@@ -42,6 +46,23 @@ pub fn run(calls: &dyn Calls, report: &mut Report) {
         saw_all(tally, "guard", 0..=32)?;
         saw_all(tally, "operand", 0..=16)?;
         tally.saw_often("guard on a local never written", 20)
+    });
+    report.check("schedules of all sorts", |tally| {
+        for seed in 71_000_000..71_000_000 + CASES {
+            let mut random = Random::from_seed(seed);
+            let draft = accepted(&mut random, SHAPES[seed as usize % SHAPES.len()]);
+            let schedule = schedule(&mut random, &draft);
+            note_schedule(&draft, &schedule, reply(calls, &draft, &schedule), tally);
+        }
+        for reply in ["violated", "clean", "cut off", "refused 14"] {
+            tally.saw_often(&format!("{reply}, all lines"), 20)?;
+            tally.saw_often(&format!("{reply}, lines left"), 20)?;
+        }
+        saw_all(tally, "kind left", 1..=8)?;
+        for what in ["an input left with a value", "several inputs left with values, and not by record"] {
+            tally.saw_often(what, 20)?;
+        }
+        tally.saw_often("lines without a block", 20)
     });
 }
 
@@ -90,6 +111,34 @@ fn note_lines(draft: &Draft, tally: &mut Tally) {
                 tally.saw("guard on a local never written");
             }
         }
+    }
+}
+
+fn note_schedule(draft: &Draft, schedule: &[u16], reply: Replayed, tally: &mut Tally) {
+    let reply = match reply {
+        Replayed::Violated(_) => "violated".to_string(),
+        Replayed::Clean => "clean".to_string(),
+        Replayed::CutOff(_) => "cut off".to_string(),
+        Replayed::Refused { number, .. } => format!("refused {number}"),
+    };
+    let lines = if runs_all_lines(draft, schedule) { "all lines" } else { "lines left" };
+    tally.saw(format!("{reply}, {lines}"));
+    let run = lines_run(draft, schedule);
+    let mut left = draft.chains().concat();
+    left.retain(|line| !run.contains(line));
+    for &line in &left {
+        tally.saw(format!("kind left {}", draft.line(line).kind));
+    }
+    let values = draft.inputs().into_iter().zip(&schedule[draft.blocks()..]);
+    let stray: Vec<u16> = values.filter(|(line, &value)| value != 0 && left.contains(line)).map(|(line, _)| line).collect();
+    if !stray.is_empty() {
+        tally.saw("an input left with a value");
+    }
+    if stray.iter().min() != stray.first() {
+        tally.saw("several inputs left with values, and not by record");
+    }
+    if draft.chains().iter().skip(draft.blocks()).any(|chain| !chain.is_empty()) {
+        tally.saw("lines without a block");
     }
 }
 

@@ -7,6 +7,7 @@ use super::answers::{program, Folder};
 use crate::ask::replay;
 use crate::calls::{Calls, Replayed};
 use crate::draft::Draft;
+use crate::enumerate::{lines_run, runs_all_lines};
 use crate::fill::fill;
 use crate::generate::{accepted, Shape, ANY, BUSY_WITH_INPUTS, FOUR_THREADS, LONG};
 use crate::line::INPUT;
@@ -20,7 +21,8 @@ use crate::vary::schedule;
 pub fn run(_: &dyn Calls, report: &mut Report) {
     report.check("inputs", |tally| {
         compare(BUSY_WITH_INPUTS, 160, tally)?;
-        ["violated", "clean", "cut off", "asked", "skipped"].iter().try_for_each(|what| tally.saw_often(what, 5))
+        let all = ["violated", "clean", "cut off", "asked", "skipped", "left", "all lines", "lines left"];
+        all.iter().try_for_each(|what| tally.saw_often(what, 5))
     });
     report.check("four threads", |tally| compare(FOUR_THREADS, 60, tally));
     report.check("long threads", |tally| compare(LONG, 40, tally));
@@ -53,22 +55,28 @@ fn compare(shape: Shape, cases: u64, tally: &mut Tally) -> Outcome {
 struct Way<'a> {
     draft: &'a Draft,
     schedule: Vec<u16>,
-    /// The input lines whose guard is true.
+    /// The input lines that are run and whose guard is true.
     asked: Vec<u16>,
     reply: Replayed,
     items: Vec<u16>,
 }
 
 impl<'a> Way<'a> {
-    /// An input line with a false guard has value 0, whatever it had.
+    /// An input line with a false guard, or one that is not run, has value 0,
+    /// whatever it had.
     fn of(draft: &'a Draft, mut schedule: Vec<u16>, tally: &mut Tally) -> Result<Way<'a>, String> {
         let table = table_of(&second::RIGHT, &draft.bytes())?;
         let assignment = fill(draft, &schedule);
+        let lines_run = lines_run(draft, &schedule);
+        tally.saw(if runs_all_lines(draft, &schedule) { "all lines" } else { "lines left" });
         let mut asked = Vec::new();
         for (place, record) in draft.inputs().into_iter().enumerate() {
             let copy = usize::from(table.value_row(record)?[2]);
             let local = if copy == 0 { 0 } else { assignment[2 * copy - 1] };
-            if draft.line(record).guard_is_true(local) {
+            if !lines_run.contains(&record) {
+                tally.saw("left");
+                schedule[draft.blocks() + place] = 0;
+            } else if draft.line(record).guard_is_true(local) {
                 tally.saw("asked");
                 asked.push(record);
             } else {

@@ -114,8 +114,7 @@ impl<'a> Machine<'a> {
             return None;
         }
         let record = case.record(line);
-        let stop =
-            if self.guard_is_true(thread, record) { self.run_line(thread, line, record) } else { self.pass_line(line) };
+        let stop = if self.guard_is_true(thread, record) { self.run_line(thread, line, record) } else { self.pass_line(line) };
         if stop.is_none() {
             // "After any other step the record that follows becomes the next
             // line."
