@@ -111,7 +111,8 @@ pub const PAGES: &[Page] = &[
         usage: "decode CASE ASSIGNMENT",
         summary: "print the schedule of an assignment, as numbers",
         options: &[SWITCHES],
-        more: "The numbers are n + 1 block lengths, and then a value for each input line.\n\
+        more: "The numbers are n + 1 block lengths, and then a value for each input line. A line with block number n + 1 was\n\
+               not run, and counts in no block.\n\
                Exit status 1 where the assignment fails (refusal 15).\n",
     },
     Page {

@@ -97,8 +97,8 @@ impl Reach {
         open.map(|(record, _)| *record).collect()
     }
 
-    /// Notes the asserts that the run of this schedule reaches, if it is legal. The library's word is proved, and
-    /// stands above a solver's.
+    /// Notes the asserts that the run of this schedule reaches, if it is legal. The library's word is proved, and stands above a
+    /// solver's.
     pub fn note_run(&mut self, loaded: &Loaded, schedule: &[u16]) -> Result<(), Failure> {
         let others = self.asserts.iter_mut().filter(|(_, reached)| !matches!(reached, Reached::Yes(_)));
         let others: Vec<_> = others.collect();
