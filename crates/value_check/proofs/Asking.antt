@@ -5,11 +5,10 @@ use Prim.Native.Nat.{ℕ, _<_}
 use native.Mathlib.Omega.{arith}
 use mathlib.Core.Bool.{Bool, true, false, cond, not}
 use lib.Dec.{eqb}
-use Rattle.model.specs.CaseFile.{Kind, compute, store, load, input, assert, assume, lock, unlock, Line, kindOf}
+use Rattle.model.specs.CaseFile.{Kind, compute, store, load, input, assert, assume, lock, unlock, Line}
 use Rattle.model.specs.Line.{Reads, nameOfTarget, guardTrue, guardedInValue, guardedOutValue, valueBy, unrunValue, breaks}
 use Rattle.model.specs.Holds.{demandMet}
 use Rattle.laws.proofs.Views.{EqView, same, diff, eq-view}
-use Rattle.line.proofs.KindNumbers.{KindView, is5, is6, kind-view, Not2}
 use Rattle.value_check.specs.declared.Asked.{Asked}
 use Rattle.value_check.specs.Asking.{Asks, failingAsked}
 
@@ -58,20 +57,6 @@ asks-unrun G l reads value x name ex en = record {
   breaking = λ e. rw (e, ex) (unrun-breaks (l .kind) l reads);
   naming = en;
 }
-
-pub unrun-other : (k : ℕ) → Not2 k 5 6 → 0 ≡ unrunValue (kindOf k)
-unfolding unrunValue
-unrun-other k n = go (kindOf k) (kind-view k)
-  where
-    go : (κ : Kind) → KindView k κ → 0 ≡ unrunValue κ
-    go compute v = refl
-    go store v = refl
-    go load v = refl
-    go input v = refl
-    go assert (is5 e) = absurd (n .0 .1 e)
-    go assume (is6 e) = absurd (n .1 e)
-    go lock v = refl
-    go unlock v = refl
 
 -- Where neither fails, the line has the value that its 4 asks for.
 pub value-asked : (at : ℕ) (r : Asked) (value : ℕ) → 0 < at → failingAsked at r value ≡ 0 → value ≡ r .value

@@ -44,7 +44,7 @@ pub struct Asked {
     pub name: usize,
 }
 
-// The value of an assert or assume that its guard leaves out or that was not run, and the value that a 5 asks of an assume.
+// The value of an assert or assume that its guard leaves out, and the value that a 5 asks of an assume.
 const LEFT_OUT: u16 = 1;
 
 const ASSUMED: u16 = 1;
@@ -152,13 +152,10 @@ fn asked_unrun(counts: Counts, l: Record) -> Asked
     requires { ⌜ Few counts ⌝ }
     ensures { λ r. ⌜ AskedUnrun counts l r ⌝ }
 {
-    let kind = l.kind;
-    let name = line::target_name(counts.globals, l);
-    match kind {
-        5 => four(LEFT_OUT, name),
-        6 => four(LEFT_OUT, name),
-        _ => four(0, name),
-    }
+    four(
+        line::unrun_value(l.kind),
+        line::target_name(counts.globals, l),
+    )
 }
 
 // A line, by whether it was run, and by its guard.
