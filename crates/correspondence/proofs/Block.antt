@@ -17,10 +17,11 @@ use Rattle.model.specs.Machine.{Memory, look, readsIn, stepped}
 use Rattle.model.specs.Assignment.{Assignment}
 use Rattle.model.specs.Copies.{readAfter, readsAfter}
 use Rattle.laws.specs.Order.{AllLines, Positive}
+use Rattle.laws.proofs.Unrun.{run-within-blocks, unrun-past-blocks}
 use Rattle.correspondence.specs.Meaning.{WellFormed, Demanded, LineMet, LinesMet, InputGiven, GivenTo, InputsGiven}
 use Rattle.model.specs.Runs.{memoryAfter}
 use Rattle.correspondence.proofs.Step.{MemoryFits, step-fits, Corresponds, step-keeps-correspondence}
-use Rattle.correspondence.proofs.Order.{run-in-block, unrun-past-blocks, HasBlock, NextIn, runMore}
+use Rattle.correspondence.proofs.Order.{HasBlock, NextIn, runMore}
 
 -- A line runs and has this value: it neither stops the run nor is refused.
 pub record LineRuns (kind : Kind) (l : Line) (value : ℕ) (reads : Reads) : Type 0 where
@@ -165,7 +166,7 @@ module _ (case : Case) (given : ℕ → ℕ) (α : Assignment) where
       → LineRuns (l .kind) l (α .value (l .number)) (readsIn case given l m)
   unfolding DecodedBy
   met-line-runs i l earlier m few in-block corresponds met inputs =
-      let run = run-in-block case i (α .block (l .number)) few in-block in
+      let run = run-within-blocks case (α .block (l .number)) (omega (arith, few, in-block)) in
       decoded-line-runs (case .G) (look m) l (α .value (l .number)) (given (l .number)) (l .kind)
       (subst (DecodedBy l) (sym (same-readers case α i l earlier m in-block corresponds))
       (record { has-value = rw run at (met .value); demand = met .demand run; inputs = rw run at inputs }))
@@ -175,7 +176,7 @@ module _ (case : Case) (given : ℕ → ℕ) (α : Assignment) where
       → LineMet case α earlier l × GivenTo case α given earlier l
   unfolding DecodedBy
   line-that-runs-is-met i l earlier m few in-block corresponds runs =
-      let run = run-in-block case i (α .block (l .number)) few in-block in
+      let run = run-within-blocks case (α .block (l .number)) (omega (arith, few, in-block)) in
       let decoded : LineDecoded (l .kind) l (α .value (l .number)) (given (l .number)) (readsAfter case α earlier l) =
       subst (DecodedBy l) (same-readers case α i l earlier m in-block corresponds)
       (line-that-runs-is-decoded (case .G) (look m) l (α .value (l .number)) (given (l .number)) (l .kind) runs) in

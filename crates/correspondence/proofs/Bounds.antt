@@ -14,7 +14,7 @@ use Rattle.model.specs.Word.{wordSize, AllBelow, bit, nonzero}
 use Rattle.model.specs.Limits.{localCount}
 use Rattle.model.specs.Lists.{numbersFrom}
 use Rattle.model.specs.CaseFile.{Kind, compute, store, load, input, assert, assume, lock, unlock, Line, Case, linesOf, itemCount}
-use Rattle.model.specs.Line.{operandA, operandB, targetName, Reads, guardTrue, apply, expression, guardedInValue, guardedOutValue, valueBy, valueOf, unrunValue, isInput}
+use Rattle.model.specs.Line.{operandA, operandB, targetName, Reads, guardTrue, apply, expression, guardedInValue, guardedOutValue, valueBy, valueOf, isInput}
 use Rattle.model.specs.Assignment.{Assignment, assignmentOf, wasRun}
 use Rattle.model.specs.Copies.{readsAfter}
 use Rattle.model.specs.Machine.{Memory, State, look, putLocal, putItem, readsIn, stepped, start, restIn, memoryIn}
@@ -26,6 +26,7 @@ use Rattle.correspondence.specs.Trace.{Event, blockEvents, leftEvents, a
 use Rattle.laws.proofs.Schedules.{lines-in-block-few}
 use Rattle.correspondence.specs.Fill.{blockIn, valueIn, traced, recordNumbers, blockNumbers, numbersOfAssignment, tracedRun}
 use Rattle.laws.proofs.AllLines.{all-dropped}
+use Rattle.laws.proofs.Unrun.{unrun-small}
 use Rattle.correspondence.proofs.Blocks.{turn}
 
 -- A number of 16 bits; lists of such numbers; lists by number whose every list is such a one.
@@ -111,17 +112,6 @@ unfolding valueBy
 below-value l reads c h =
     either IsWord (guardTrue l reads) _ _ (below-guarded-in (l .kind) l reads c h) (below-guarded-out (l .kind) reads h)
 
-below-unrun : (kind : Kind) → unrunValue kind < wordSize
-unfolding unrunValue
-below-unrun compute = omega arith
-below-unrun store = omega arith
-below-unrun load = omega arith
-below-unrun input = omega arith
-below-unrun assert = omega arith
-below-unrun assume = omega arith
-below-unrun lock = omega arith
-below-unrun unlock = omega arith
-
 -- The machine.
 record SmallMemory (m : Memory) : Type 0 where
   locals : Small (m .locals)
@@ -155,7 +145,7 @@ small-events-append (e ∷ es) fs h g = (h .0, h .1, small-events-append es fs (
 
 small-left : (i : ℕ) (ls : List Line) → i < wordSize → SmallEvents (leftEvents i ls)
 small-left i [] h = tt
-small-left i (l ∷ ls) h = (h, below-unrun (l .kind), small-left i ls h)
+small-left i (l ∷ ls) h = (h, unrun-small (l .kind), small-left i ls h)
 
 small-all-left : (i : ℕ) (rests : List (List Line)) → i < wordSize → SmallEvents (allLeftEvents i rests)
 small-all-left i [] h = tt

@@ -2,19 +2,19 @@
 -- Assumes nothing. Met again in Runs, for constraint 7.
 use mathlib.Core.Path.{_≡_, refl, sym, ap, _∙_}
 use Prim.Native.Nat.{ℕ, zero, suc, _+_, _%_, _≤_}
-use mathlib.Core.Bool.{false}
 use mathlib.Core.List.{List, [], _∷_, _++_}
 use native.Mathlib.Omega.{arith}
 use native.Mathlib.Nat.{zero-add}
 use lib.ListN.{getD, length, drop}
 use Rattle.model.specs.Word.{bit}
 use Rattle.model.specs.CaseFile.{Kind, compute, store, load, input, assert, assume, lock, unlock, Line, Case}
-use Rattle.model.specs.Line.{Reads, readsOf, valueOf, unrunValue, breaks}
+use Rattle.model.specs.Line.{readsOf, valueOf, breaks}
 use Rattle.model.specs.Machine.{Memory, State, look, readsIn, stepped, restIn, memoryIn}
 use Rattle.model.specs.Assignment.{Assignment}
 use Rattle.model.specs.Copies.{readsAfter}
 use Rattle.model.specs.Runs.{nextState}
 use Rattle.laws.specs.Order.{AllLines, Positive}
+use Rattle.laws.proofs.Unrun.{unrun-breaks-nothing}
 use Rattle.correspondence.specs.Meaning.{WellFormed, breaksIn, sumBelow}
 use Rattle.correspondence.specs.Trace.{Event, blockEvents, leftEvents, allLeftEvents, events}
 use Rattle.correspondence.specs.Agreement.{brokenIn}
@@ -51,18 +51,6 @@ breaks-whatever-given G reader assert l x y value = refl
 breaks-whatever-given G reader assume l x y value = refl
 breaks-whatever-given G reader lock l x y value = refl
 breaks-whatever-given G reader unlock l x y value = refl
-
--- A line that was not run breaks nothing: an assert has value 1 then.
-unrun-breaks-nothing : (kind : Kind) (l : Line) (reads : Reads) → breaks kind l reads (unrunValue kind) ≡ false
-unfolding breaks unrunValue
-unrun-breaks-nothing compute l reads = refl
-unrun-breaks-nothing store l reads = refl
-unrun-breaks-nothing load l reads = refl
-unrun-breaks-nothing input l reads = refl
-unrun-breaks-nothing assert l reads = refl
-unrun-breaks-nothing assume l reads = refl
-unrun-breaks-nothing lock l reads = refl
-unrun-breaks-nothing unlock l reads = refl
 
 module _ (case : Case) (wf : WellFormed case) (given : ℕ → ℕ) (α : Assignment) where
   line-breaks-alike : (i : ℕ) (l : Line) (earlier : List Line) (m : Memory) → α .block (l .number) ≡ i → Corresponds case α i earlier m

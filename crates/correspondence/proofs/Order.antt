@@ -3,7 +3,7 @@
 use mathlib.Core.Path.{_≡_, refl, sym, ap, _∙_, subst}
 use mathlib.Core.Logic.{_≢_}
 use Prim.Native.Nat.{ℕ, zero, suc, _+_, _%_, _≤_, _<_}
-use mathlib.Core.Bool.{Bool, true, false, cond, not}
+use mathlib.Core.Bool.{Bool, true, false, cond}
 use mathlib.Core.List.{List, [], _∷_, reverseAux}
 use native.Mathlib.Omega.{arith}
 use native.Mathlib.Nat.{zero-add}
@@ -12,19 +12,9 @@ use lib.ListN.{drop}
 use borrow.Author.Tests.{eq-eqb, ne-eqb}
 use Rattle.laws.proofs.Views.{EqView, same, diff, eq-view}
 use Rattle.model.specs.CaseFile.{Line, Case}
-use Rattle.model.specs.Assignment.{wasRun}
 use Rattle.model.specs.Schedule.{linesInBlock}
 use Rattle.laws.specs.Order.{AllLines, Ordered}
 use Rattle.laws.proofs.Walk.{RunBefore}
-
--- A line of block i was run, a line with block number n + 1 was not.
-pub run-in-block : (case : Case) (i x : ℕ) → i ≤ case .n → x ≡ i → wasRun case x ≡ true
-unfolding wasRun
-run-in-block case i x few e = ap not (ne-eqb x (suc (case .n)) (λ e'. omega arith))
-
-pub unrun-past-blocks : (case : Case) (x : ℕ) → x ≡ suc (case .n) → wasRun case x ≡ false
-unfolding wasRun
-unrun-past-blocks case x e = ap not (eq-eqb x (suc (case .n)) e)
 
 -- The lines already run, latest first, after so many more of these.
 abbrev pub runMore : ℕ → List Line → List Line → List Line

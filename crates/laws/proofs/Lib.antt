@@ -20,6 +20,7 @@ pub mod Schedules
 pub mod OnCase
 pub mod RowNumbers
 -- Lines, copies and rows
+pub mod Unrun
 pub mod AllLines
 pub mod LineFound
 pub mod Copies

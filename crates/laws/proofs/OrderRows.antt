@@ -8,7 +8,7 @@ use native.Mathlib.Omega.{arith}
 use native.Mathlib.Nat.{le-trans, add-zero}
 use lib.Dec.{eqb}
 use lib.ListN.{getD, length}
-use borrow.Author.Tests.{eqb-true, eq-eqb, ne-eqb, leb-true, le-leb}
+use borrow.Author.Tests.{eqb-true, eq-eqb, leb-true, le-leb}
 use Rattle.model.specs.CaseFile.{Line, Case}
 use Rattle.model.specs.Assignment.{Assignment, wasRun}
 use Rattle.model.specs.Table.{followRow, lineOrderRows, orderRows, allOrderRows}
@@ -16,12 +16,12 @@ use Rattle.model.specs.Holds.{holds}
 use Rattle.laws.specs.Order.{Ordered}
 use Rattle.laws.specs.AllHold.{AllHold}
 use Rattle.laws.proofs.Views.{EqView, same, diff, eq-view}
+use Rattle.laws.proofs.Unrun.{run-within-blocks}
 use Rattle.laws.proofs.AllHold.{all-hold-append, all-hold-split}
 
 -- Constraint 3 at a line with block number x.
 mine-of-three : (case : Case) (t x : ℕ) → not (wasRun case x) || eqb (x % case .T) t ≡ true → x ≤ case .n → x % case .T ≡ t
-unfolding wasRun
-mine-of-three case t x h few = eqb-true (x % case .T) t (rw (ne-eqb x (suc (case .n)) (λ e. absurd (omega (arith, e)))) at h)
+mine-of-three case t x h few = eqb-true (x % case .T) t (rw (run-within-blocks case x few) at h)
 
 three-of-mine : (case : Case) (t x : ℕ) → x ≤ suc (case .n) → (x ≤ case .n → x % case .T ≡ t)
     → not (wasRun case x) || eqb (x % case .T) t ≡ true

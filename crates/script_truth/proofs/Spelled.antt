@@ -13,29 +13,19 @@ use borrow.Author.Tests.{eqb-false, ltb-true, leb-true}
 use Rattle.model.specs.Word.{wordSize}
 use Rattle.model.specs.Limits.{localCount}
 use Rattle.model.specs.CaseFile.{Kind, compute, store, load, input, assert, assume, lock, unlock, Line, Case, itemCount, lineAt}
-use Rattle.model.specs.Line.{itemName, operandA, targetName, unrunValue}
+use Rattle.model.specs.Line.{itemName, operandA, targetName}
 use Rattle.model.specs.Assignment.{variables}
 use Rattle.smt.specs.Term.{Test, disjunction, Term, constant, Formula, join}
 use Rattle.script.specs.Assertions.{blockOf, valueOf, blockValue, valueBefore, localWith, linked, isVariable, same, blocksFrom, ownBlocks, readBefore, readItem, readName, guardTrue, operand, comparison, expression, operandsOf, oldTarget, factsWith, facts, withFacts, isExpression, isTruth, guardedIn, guardedOut, notRun, lineAssertion, valueAssertion, mutexFree, demandAssertion, walkBack, orBreaks, someBreaks, someThreadBreaks}
 use Rattle.laws.specs.RecordNumber.{RecordNumber}
 use Rattle.laws.specs.Order.{AllLines, AllThreads}
+use Rattle.laws.proofs.Unrun.{unrun-small}
 use Rattle.reading.specs.Spellable.{TermSpellable, FormulaSpellable}
 
 -- What is so of what a test takes, either way.
 pub taken : {A : Type 0} (P : A → Type 0) (p : Bool) (x y : A) → (p ≡ true → P x) → (p ≡ false → P y) → P (cond p x y)
 taken P true x y f g = f refl
 taken P false x y f g = g refl
-
-unrun-small : (kind : Kind) → unrunValue kind < wordSize
-unfolding unrunValue
-unrun-small compute = omega arith
-unrun-small store = omega arith
-unrun-small load = omega arith
-unrun-small input = omega arith
-unrun-small assert = omega arith
-unrun-small assume = omega arith
-unrun-small lock = omega arith
-unrun-small unlock = omega arith
 
 -- Sources are numbers of records.
 abbrev pub AllRecords : ℕ → List ℕ → Type 0

@@ -5,10 +5,11 @@ use Prim.Native.Nat.{ℕ, _<_}
 use native.Mathlib.Omega.{arith}
 use mathlib.Core.Bool.{Bool, true, false, cond, not}
 use lib.Dec.{eqb}
-use Rattle.model.specs.CaseFile.{Kind, compute, store, load, input, assert, assume, lock, unlock, Line}
+use Rattle.model.specs.CaseFile.{Kind, lock, Line}
 use Rattle.model.specs.Line.{Reads, nameOfTarget, guardTrue, guardedInValue, guardedOutValue, valueBy, unrunValue, breaks}
 use Rattle.model.specs.Holds.{demandMet}
 use Rattle.laws.proofs.Views.{EqView, same, diff, eq-view}
+use Rattle.laws.proofs.Unrun.{unrun-breaks-nothing}
 use Rattle.value_check.specs.declared.Asked.{Asked}
 use Rattle.value_check.specs.Asking.{Asks, failingAsked}
 
@@ -38,23 +39,12 @@ module _ (l : Line) (reads : Reads) (value : ℕ) where
   lock-out off = rw off
 
 -- A line that was not run: its 5 is met, and with the value that its 4 asks for it breaks nothing.
-unrun-breaks : (κ : Kind) (l : Line) (reads : Reads) → false ≡ breaks κ l reads (unrunValue κ)
-unfolding breaks unrunValue
-unrun-breaks compute l reads = refl
-unrun-breaks store l reads = refl
-unrun-breaks load l reads = refl
-unrun-breaks input l reads = refl
-unrun-breaks assert l reads = refl
-unrun-breaks assume l reads = refl
-unrun-breaks lock l reads = refl
-unrun-breaks unlock l reads = refl
-
 pub asks-unrun : (G : ℕ) (l : Line) (reads : Reads) (value x name : ℕ) → x ≡ unrunValue (l .kind) → name ≡ nameOfTarget G (l .kind) (l .target)
     → Asks false G l reads value (record { value = x; met = true; breaks = false; name = name })
 asks-unrun G l reads value x name ex en = record {
   asking = ex;
   meeting = refl;
-  breaking = λ e. rw (e, ex) (unrun-breaks (l .kind) l reads);
+  breaking = λ e. rw (e, ex) (sym (unrun-breaks-nothing (l .kind) l reads));
   naming = en;
 }
 

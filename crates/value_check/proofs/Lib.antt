@@ -1,4 +1,3 @@
-pub mod Run
 pub mod Asking
 pub mod LineRows
 pub mod Reading

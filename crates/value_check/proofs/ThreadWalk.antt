@@ -39,7 +39,7 @@ use Rattle.value_check.specs.Rows.{threadValues}
 use Rattle.value_check.specs.Asking.{Asks, AskedOf, failingAsked}
 use Rattle.value_check.specs.Breaking.{breakingAfter}
 use Rattle.value_check.specs.Walked.{CopyNoted, Entered, ThreadToAsk, ThreadWalked}
-use Rattle.value_check.proofs.Run.{run-before}
+use Rattle.laws.proofs.Unrun.{run-within-blocks}
 use Rattle.value_check.proofs.Asking.{value-asked}
 use Rattle.value_check.proofs.LineRows.{line-fails}
 use Rattle.value_check.proofs.Reading.{Reading, reading-start, reading-later, reading-reads, reading-more}
@@ -142,7 +142,7 @@ module _ {bytes xs : List ℕ} {t start : ℕ} {latest₀ : List (List ℕ)} {pr
             go (same e q) = rw (entered .stays e, e) (v .reading (ap (wasRun case) (sym e) ∙ sym (entered .asked) ∙ was-run))
             go (diff n q) =
                 let later : block < i = omega (arith, in-order .0 .from, own-block, n) in
-                reading-later case α items (v .reading (run-before case block i later walk-block)) i items' later (entered .enters was-run n) (item-numbers bytes ok)
+                reading-later case α items (v .reading (run-within-blocks case block (omega (arith, later, walk-block)))) i items' later (entered .enters was-run n) (item-numbers bytes ok)
 
         -- What it is asked.
         module _ (l : Record) (el : l ≡ recordOf bytes t k) (value : ℕ) (ev : value ≡ recordValue xs k)

@@ -4,7 +4,7 @@ use mathlib.Core.Bool.{true≢false}
 use native.Mathlib.Omega.{arith}
 use borrow.Author.Needs.{needs}
 use borrow.Author.Tests.{not-true, not-false}
-use Rattle.value_check.proofs.Run.{run-upto}
+use Rattle.laws.proofs.Unrun.{within-blocks-of-run}
 use Rattle.value_check.proofs.enter_block.Statement.{statement}
 use Rattle.value_check.proofs.enter_block.Tie as tie
 
@@ -31,7 +31,7 @@ start-of-block-requires : tie.Need-start-of-block-requires
 start-of-block-requires c κs =
     let start = c .before .before .before .before .before in
     let run = sym (c .before .before .was-run .ensures) ∙ not-false _ (c .before .if1 .left) in
-    record { accepted = start .pre .accepted; block = omega (arith, run-upto _ _ (start .pre .upto) run, start .pre .accepted .few-switches) }
+    record { accepted = start .pre .accepted; block = omega (arith, within-blocks-of-run _ _ (start .pre .upto) run, start .pre .accepted .few-switches) }
 
 returns-3 : tie.Need-returns-3
 returns-3 c = record {
