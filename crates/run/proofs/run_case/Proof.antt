@@ -15,7 +15,7 @@ lend-requires : tie.Need-lend-requires
 lend-requires c κs = rw (c .before .first-threads .ensures) (ready-start _ (c .before .before .before .before .before .pre .accepted) _ (c .before .before .before .before .before .pre .all-given))
 
 look-left-requires : tie.Need-look-left-requires
-look-left-requires c κs = search needs
+look-left-requires c κs = c .before .lend .ensures .ready
 
 end-of-requires : tie.Need-end-of-requires
 end-of-requires c κs = search needs
