@@ -16,13 +16,13 @@ use Rattle.correspondence.proofs.CaseBytes.{header, rec, file}
 
 -- ---- A fault that only a run which stops can show
 
--- Two threads that take turns, with four switches. Thread 0: 1 global 0 gets 1; 2 and 3 assert that global 2, loaded, is 0; 4 and 5
--- assume that global 1, loaded, is 1; 6 global 0 gets 2; 7 and 8 assume that global 1 is 2; 9 global 0 gets 3; 10 and 11 assume that
--- global 1 is 3. Thread 1: 12 and 13 assume that global 0, loaded, is 1; 14 and 15 globals 2 and 1 get 1; 16 and 17 assume that
+-- The case of `cases/handshake.case`, with four switches. Thread 0: 1 global 0 gets 1; 2 and 3 assert that global 2, loaded, is 0; 4
+-- and 5 assume that global 1, loaded, is 1; 6 global 0 gets 2; 7 and 8 assume that global 1 is 2; 9 global 0 gets 3; 10 and 11 assume
+-- that global 1 is 3. Thread 1: 12 and 13 assume that global 0, loaded, is 1; 14 and 15 globals 2 and 1 get 1; 16 and 17 assume that
 -- global 0 is 2; 18 and 19 globals 2 and 1 get 2; 20 and 21 assume that global 0 is 3; 22 global 2 gets 0; 23 global 1 gets 3.
-turns : List ℕ
+handshake : List ℕ
 unfolding file
-turns = file (header 2 4 3 0 1 12 0 0)
+handshake = file (header 2 4 3 0 1 12 0 0)
     (rec 2 2 0 0 0 16 0 1
     (rec 3 3 0 0 0 2 0 0
     (rec 4 5 0 0 5 0 16 0
@@ -50,16 +50,16 @@ turns = file (header 2 4 3 0 1 12 0 0)
 
 -- "A run is legal when nothing cuts it off, and violates when it also contains a zero assert": thread 0 has run three of its eleven
 -- lines and thread 1 three of its twelve.
-stopped-run-violates : replayed turns (1 ∷ 3 ∷ 2 ∷ 0 ∷ 0 ∷ []) 3 ≡ Violated 3
-unfolding computing turns
+stopped-run-violates : replayed handshake (1 ∷ 3 ∷ 2 ∷ 0 ∷ 0 ∷ []) 3 ≡ Violated 3
+unfolding computing handshake
 stopped-run-violates = refl
 
 -- All lines run: so many of thread 0's eleven in blocks 0 and 2, and so many of thread 1's twelve in block 1.
 wholeRun : ℕ → ℕ → ℕ → List ℕ
 wholeRun x y z = x ∷ z ∷ y ∷ (12 - z) ∷ (11 - (x + y)) ∷ []
 
-whole-run-is-cut-off : replayed turns (wholeRun 1 10 12) 3 ≡ CutOff 17
-unfolding computing turns wholeRun
+whole-run-is-cut-off : replayed handshake (wholeRun 1 10 12) 3 ≡ CutOff 17
+unfolding computing handshake wholeRun
 whole-run-is-cut-off = refl
 
 -- "no run that finished within the bound": wherever the switches are, some assume cuts a run of all lines off.
@@ -69,24 +69,24 @@ isCutOff Clean = false
 isCutOff (CutOff k) = true
 isCutOff (Refused number place) = false
 
-no-run-finishes : allFrom (λ x. allFrom (λ y. allFrom (λ z. isCutOff (replayed turns (wholeRun x y z) 3)) 0 13) 0 (12 - x)) 0 12 ≡ true
-unfolding computing turns wholeRun
+no-run-finishes : allFrom (λ x. allFrom (λ y. allFrom (λ z. isCutOff (replayed handshake (wholeRun x y z) 3)) 0 13) 0 (12 - x)) 0 12 ≡ true
+unfolding computing handshake wholeRun
 no-run-finishes = refl
 
--- The assignment of the run that stops: the lines that were not run have block number 5 and value 0, or 1 for the assumes; then the globals after blocks 0
--- to 3.
+-- The assignment of the run that stops: the lines that were not run have block number 5 and value 0, or 1 for the assumes; then the
+-- globals after blocks 0 to 3.
 stoppedRun : List ℕ
 stoppedRun =
     0 ∷ 1 ∷ 2 ∷ 1 ∷ 2 ∷ 0 ∷ 5 ∷ 0 ∷ 5 ∷ 1 ∷ 5 ∷ 0 ∷ 5 ∷ 0 ∷ 5 ∷ 1 ∷ 5 ∷ 0 ∷ 5 ∷ 0 ∷ 5 ∷ 1
     ∷ 1 ∷ 1 ∷ 1 ∷ 1 ∷ 1 ∷ 1 ∷ 5 ∷ 0 ∷ 5 ∷ 0 ∷ 5 ∷ 1 ∷ 5 ∷ 0 ∷ 5 ∷ 0 ∷ 5 ∷ 0 ∷ 5 ∷ 1 ∷ 5 ∷ 0 ∷ 5 ∷ 0
     ∷ 1 ∷ 0 ∷ 0 ∷ 1 ∷ 0 ∷ 1 ∷ 1 ∷ 0 ∷ 1 ∷ 1 ∷ 0 ∷ 1 ∷ []
 
-stopped-run-meets : checked turns stoppedRun ≡ Meets
-unfolding computing turns stoppedRun
+stopped-run-meets : checked handshake stoppedRun ≡ Meets
+unfolding computing handshake stoppedRun
 stopped-run-meets = refl
 
-stopped-run-decoded : decodedInto turns stoppedRun (replicate 5 9) ≡ 1 ∷ 3 ∷ 2 ∷ 0 ∷ 0 ∷ []
-unfolding computing turns stoppedRun
+stopped-run-decoded : decodedInto handshake stoppedRun (replicate 5 9) ≡ 1 ∷ 3 ∷ 2 ∷ 0 ∷ 0 ∷ []
+unfolding computing handshake stoppedRun
 stopped-run-decoded = refl
 
 -- ---- Lines that were not run

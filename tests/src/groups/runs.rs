@@ -207,8 +207,10 @@ fn passed_lines(calls: &dyn Calls, tally: &mut Tally) -> Outcome {
     Ok(())
 }
 
-/// The run that stops: the assert is reached in block 2, and is broken.
+/// The run that stops: the assert is reached in block 2, and is broken. The case is the one that is shipped.
 fn handshake_violates(calls: &dyn Calls, tally: &mut Tally) -> Outcome {
+    let shipped = include_bytes!("../../../cases/handshake.case");
+    tally.same_numbers(&handshake().bytes(), shipped, || "cases/handshake.case".into())?;
     runs(calls, &handshake(), &[1, 3, 2, 0, 0], Replayed::Violated(3), &[1, 0, 1], tally)?;
     // One line less of either thread, and nothing is broken.
     runs(calls, &handshake(), &[1, 3, 1, 0, 0], Replayed::Clean, &[1, 0, 1], tally)?;
