@@ -72,8 +72,8 @@ lengthsIn bytes counts = numbersFrom (λ i. getD (getD counts (i % threadCount b
 abbrev pub runValue : List ℕ → ℕ → ℕ → ℕ
 runValue bytes block value = cond (wasRun (caseOf bytes) block) value 0
 
--- The number of an input line that was run with this value, where its thread's locals have these: of what the line reads, only the guard's
--- local matters, and the line's number does not.
+-- The number of an input line that was run with this value, where its thread's locals have these: of what the line reads, only the
+-- guard's local matters, and the line's number does not.
 unfoldable pub inputNumber : Record → List ℕ → ℕ → ℕ
 inputNumber l locals value = cond (guardTrue (asLine l 0) (readsFrom 0 0 0 locals [] (asLine l 0))) value 0
 
