@@ -24,6 +24,7 @@ pub mod Unrun
 pub mod AllLines
 pub mod LineFound
 pub mod Copies
+pub mod ForwardWalk
 pub mod Memory
 pub mod Walk
 pub mod AllHold

@@ -8,3 +8,4 @@ pub mod RowValue
 pub mod Written
 pub mod Bounded
 pub mod Sizes
+pub mod ForwardWalk
