@@ -25,6 +25,7 @@ pub mod AllLines
 pub mod LineFound
 pub mod Copies
 pub mod ForwardWalk
+pub mod HandedOn
 pub mod Memory
 pub mod Walk
 pub mod AllHold

@@ -9,3 +9,4 @@ pub mod Written
 pub mod Bounded
 pub mod Sizes
 pub mod ForwardWalk
+pub mod HandedOn
