@@ -1,23 +1,24 @@
 -- The chains of copies as lines are taken: at first there is none, and a line that is taken has the copy of its target before it.
 -- Assumes nothing. Met again where the checker goes along a thread.
-use mathlib.Core.Path.{_≡_, refl, ap, _∙_}
+use mathlib.Core.Path.{_≡_, refl, sym, ap, _∙_}
 use mathlib.Core.Logic.{_≢_}
 use Prim.Native.Nat.{ℕ, zero, suc, _+_, _≤_, _<_}
-use mathlib.Core.List.{List, [], _∷_, reverse, reverseAux}
+use mathlib.Core.List.{List, [], _∷_, reverse, reverseAux, reverse-reverse}
 use native.Mathlib.Omega.{arith}
 use borrow.Author.Tests.{eq-eqb}
 use lib.ListN.{length, getD, set, length-set, length-replicate, replicate}
 use lib.Seq.{getD-set-same, getD-set-other}
 use Rattle.model.specs.Limits.{mostThreads, recordPlaces}
 use Rattle.model.specs.CaseFile.{Line, Case, caseOf, linesOf, sumOfLines, sumOfThreads, hasNumber}
-use Rattle.model.specs.Line.{noName, targetName}
+use Rattle.model.specs.Line.{targetName}
+use Rattle.model.specs.Copies.{nothingHeld, heldCopy, takeLine, walkLines, heldAfter}
 use Rattle.laws.specs.Accepted.{Accepted}
 use Rattle.laws.proofs.Views.{EqView, same, diff, eq-view}
 use Rattle.laws.proofs.Counting.{own-number-counts, thread-sum-at-most}
 use Rattle.laws.proofs.Lines.{numbers-within, numbers-once}
-use Rattle.copies.specs.Held.{copyIn, withCopy}
-use Rattle.copies.specs.CopyChains.{HasBefore, CopyChains}
-use Rattle.copies.proofs.Held.{held-start, held-more, held-next, held-copy}
+use Rattle.laws.proofs.ForwardWalk.{held-more, held-copy}
+use Rattle.copies.specs.CopyChains.{HasBefore, ThreadChains, CopyChains}
+use Rattle.copies.proofs.Held.{held-start, held-next}
 
 -- ---- Records that a thread's lines, or another thread's, do not have
 
@@ -42,33 +43,36 @@ has-before-kept G previous k p (l ∷ ls) none has = (
   has-before-kept G previous k p ls (omega arith) (has .1),
 )
 
--- ---- All threads
+-- ---- All threads, and one
 
-pub chains-start : (case : Case) (copies : List (List ℕ)) (previous : List ℕ) → copies ≡ replicate mostThreads (replicate noName 0)
-    → previous ≡ replicate recordPlaces 0 → CopyChains case copies previous 0 []
+pub chains-start : (case : Case) (copies : List (List ℕ)) (previous : List ℕ) → copies ≡ replicate mostThreads nothingHeld
+    → previous ≡ replicate recordPlaces 0 → CopyChains case copies previous 0
 chains-start case copies previous ec ep = record {
   latest = held-start case copies ec;
-  places = ap length ep ∙ length-replicate {A = ℕ} recordPlaces 0;
-  done = λ u h. absurd (omega arith);
-  own = tt;
+  before = record { places = ap length ep ∙ length-replicate {A = ℕ} recordPlaces 0; done = λ u h. absurd (omega arith) };
 }
 
-pub chains-next : {case : Case} {copies : List (List ℕ)} {previous : List ℕ} {t : ℕ} {earlier : List Line} → CopyChains case copies previous t earlier
-    → earlier ≡ reverse (linesOf case t) → CopyChains case copies previous (suc t) []
-chains-next {case} {copies} {previous} {t} {earlier} v e = record {
-  latest = held-next case copies t earlier (v .latest) e;
-  places = v .places;
-  done = λ u h. go u h (eq-view u t);
-  own = tt;
+pub thread-start : {case : Case} {copies : List (List ℕ)} {previous : List ℕ} {t : ℕ} → CopyChains case copies previous t → t < mostThreads
+    → ThreadChains case (getD copies t []) previous t []
+unfolding walkLines
+thread-start {case} {copies} {previous} {t} v few = record { holds = v .latest .none t (omega arith) few; before = v .before; own = tt }
+
+pub chains-next :
+    {case : Case} {copies : List (List ℕ)} {was : List ℕ} {t : ℕ} → CopyChains case copies was t → t < mostThreads
+    → {held previous : List ℕ} {earlier : List Line} → ThreadChains case held previous t earlier → earlier ≡ reverse (linesOf case t)
+    → CopyChains case (set copies t held) previous (suc t)
+chains-next {case} {copies} {was} {t} v few {held} {previous} {earlier} w e = record {
+  latest = held-next case copies t (v .latest) few held (w .holds ∙ ap (heldAfter (case .G)) (ap reverse e ∙ reverse-reverse (linesOf case t)));
+  before = record { places = w .before .places; done = λ u h. go u h (eq-view u t) };
 }
   where
     go : (u : ℕ) → u < suc t → EqView u t → HasBefore (case .G) previous (reverse (linesOf case u))
-    go u h (same p _) = rw (p, ← e) (v .own)
-    go u h (diff p _) = v .done u (omega arith)
+    go u h (same p _) = rw (p, ← e) (w .own)
+    go u h (diff p _) = w .before .done u (omega arith)
 
 -- a line is taken
-module _ (bytes : List ℕ) (ok : Accepted bytes) {copies : List (List ℕ)} {previous : List ℕ} {t : ℕ} {earlier : List Line}
-    (v : CopyChains (caseOf bytes) copies previous t earlier) (few : t < mostThreads) (l : Line) (later : List Line)
+module _ (bytes : List ℕ) (ok : Accepted bytes) {held previous : List ℕ} {t : ℕ} {earlier : List Line}
+    (v : ThreadChains (caseOf bytes) held previous t earlier) (l : Line) (later : List Line)
     (lines : reverseAux (l ∷ later) earlier ≡ reverse (linesOf (caseOf bytes) t)) where
   abbrev case : Case
   case = caseOf bytes
@@ -102,17 +106,19 @@ module _ (bytes : List ℕ) (ok : Accepted bytes) {copies : List (List ℕ)} {pr
         numbers-once bytes ok (l .number),
       )
 
-  pub chains-more : CopyChains case (withCopy copies t (targetName (case .G) l) (l .number))
-      (set previous (l .number) (copyIn copies t (targetName (case .G) l))) t (l ∷ earlier)
+  pub chains-more : ThreadChains case (takeLine (case .G) held l) (set previous (l .number) (heldCopy held (targetName (case .G) l))) t (l ∷ earlier)
   chains-more =
-      let p = copyIn copies t (targetName (case .G) l) in
+      let p = heldCopy held (targetName (case .G) l) in
       let within = numbers-within bytes ok (l .number) (omega (arith, in-thread, once)) in
       record {
-        latest = held-more case copies t earlier (v .latest) l few;
-        places = length-set previous (l .number) p ∙ v .places;
-        done = λ u h. has-before-kept (case .G) previous (l .number) p (reverse (linesOf case u)) (elsewhere-none u h) (v .done u h);
+        holds = ap (λ (xs : List ℕ). takeLine (case .G) xs l) (v .holds) ∙ sym (held-more (case .G) earlier l);
+        before = record {
+          places = length-set previous (l .number) p ∙ v .before .places;
+          done = λ u h. has-before-kept (case .G) previous (l .number) p (reverse (linesOf case u)) (elsewhere-none u h) (v .before .done u h);
+        };
         own = (
-          getD-set-same previous (l .number) p 0 (omega (arith, within .low, v .places, ok .few-records)) ∙ held-copy case copies t earlier (v .latest) (targetName (case .G) l) few,
+          getD-set-same previous (l .number) p 0 (omega (arith, within .low, v .before .places, ok .few-records))
+          ∙ ap (λ (xs : List ℕ). heldCopy xs (targetName (case .G) l)) (v .holds) ∙ held-copy (case .G) (targetName (case .G) l) earlier,
           has-before-kept (case .G) previous (l .number) p earlier not-earlier (v .own),
         );
       }

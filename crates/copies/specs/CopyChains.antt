@@ -7,7 +7,7 @@ use lib.ListN.{length, getD}
 use Rattle.model.specs.Limits.{recordPlaces}
 use Rattle.model.specs.CaseFile.{Line, Case, linesOf}
 use Rattle.model.specs.Line.{targetName}
-use Rattle.model.specs.Copies.{copyOf}
+use Rattle.model.specs.Copies.{copyOf, heldAfter}
 use Rattle.copies.specs.Held.{Held}
 
 -- For each of these lines, which are given latest first, `previous` has by record number the copy of its target before it.
@@ -15,9 +15,18 @@ abbrev pub HasBefore : ℕ → List ℕ → List Line → Type 0
 HasBefore G previous [] = Unit
 HasBefore G previous (l ∷ earlier) = (getD previous (l .number) 0 ≡ copyOf G (targetName G l) earlier) × HasBefore G previous earlier
 
--- The chains after all lines of the threads before t and these of thread t, latest first.
-pub record CopyChains (case : Case) (copies : List (List ℕ)) (previous : List ℕ) (t : ℕ) (earlier : List Line) : Type 0 where
-  pub latest : Held case copies t earlier
+-- The copies before the lines of the threads before t.
+pub record ChainsBefore (case : Case) (previous : List ℕ) (t : ℕ) : Type 0 where
   pub places : length previous ≡ recordPlaces
   pub done : (u : ℕ) → u < t → HasBefore (case .G) previous (reverse (linesOf case u))
+
+-- The chains after these and after these lines of thread t, latest first, which are held.
+pub record ThreadChains (case : Case) (held previous : List ℕ) (t : ℕ) (earlier : List Line) : Type 0 where
+  pub holds : held ≡ heldAfter (case .G) (reverse earlier)
+  pub before : ChainsBefore case previous t
   pub own : HasBefore (case .G) previous earlier
+
+-- The chains after all lines of the threads before t.
+pub record CopyChains (case : Case) (copies : List (List ℕ)) (previous : List ℕ) (t : ℕ) : Type 0 where
+  pub latest : Held case copies t
+  pub before : ChainsBefore case previous t

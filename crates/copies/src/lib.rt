@@ -1,26 +1,52 @@
-// The latest copy of each name of each thread, in an array of arrays, threads by names, that one forward walk over each thread's
-// lines keeps up to date.
+// The forward walk that finds copies. It takes the lines of a thread front to back, each once, and holds for each name the latest line
+// up to there that has it as target.
 ghost use mathlib.Core.Path.{_≡_};
-ghost use Prim.Native.Nat.{_<_};
-ghost use Rattle.model.specs.Limits.{mostThreads};
-ghost use Rattle.copies.specs.Held.{copyIn, withCopy};
+ghost use Prim.Native.Nat.{_≤_};
+ghost use Rattle.model.specs.Limits.{mostGlobals};
+ghost use Rattle.model.specs.Copies.{heldCopy, takeCopy, takeLine};
+ghost use Rattle.case_file.specs.Records.{asLine};
+ghost use Rattle.copies.specs.Held.{copiesBefore};
+use case_file::Record;
+use line::Copies;
+use line::guard_name;
+use line::operand_a;
+use line::operand_b;
+use line::target_name;
 use model::NAMES;
-use model::THREADS;
 
-// The latest copy of a name in thread t; 0 if there is none.
-pub fn copy_of(copies: &[[u16; NAMES]; THREADS], t: usize, name: usize) -> u16
-    requires { ⌜ t < mostThreads ⌝ }
-    ensures { λ r. ⌜ r ≡ copyIn (now (copies .entry)) t name ⌝ }
+// The copy of a name; 0 if there is none.
+pub fn copy_of(held: &[u16; NAMES], name: usize) -> u16
+    ensures { λ r. ⌜ r ≡ heldCopy (now (held .entry)) name ⌝ }
 {
-    if name < NAMES { copies[t][name] } else { 0 }
+    if name < NAMES { held[name] } else { 0 }
 }
 
-// Record k is now the latest copy of a name in thread t.
-pub fn take_copy(copies: &mut [[u16; NAMES]; THREADS], t: usize, name: usize, k: u16)
-    requires { ⌜ t < mostThreads ⌝ }
-    ensures { λ r. ⌜ now (copies .exit) ≡ withCopy (now (copies .entry)) t name k ⌝ }
+// Line k is taken, whose target has this name: it is now the latest copy. The copy before it.
+pub fn take_copy(held: &mut [u16; NAMES], name: usize, k: u16) -> u16
+    ensures { λ r. ⌜ r ≡ heldCopy (now (held .entry)) name ⌝ }
+    ensures { λ r. ⌜ now (held .exit) ≡ takeCopy (now (held .entry)) name k ⌝ }
 {
+    let before = copy_of(held, name);
     if name < NAMES {
-        copies[t][name] = k;
+        held[name] = k;
+    }
+    before
+}
+
+// Line k is taken, in a case with so many globals. The copies of its names before it.
+pub fn take_line(held: &mut [u16; NAMES], globals: usize, l: Record, k: u16) -> Copies
+    requires { ⌜ globals ≤ mostGlobals ⌝ }
+    ensures { λ r. ⌜ r ≡ copiesBefore globals (now (held .entry)) (asLine l k) ⌝ }
+    ensures { λ r. ⌜ now (held .exit) ≡ takeLine globals (now (held .entry)) (asLine l k) ⌝ }
+{
+    let guard = copy_of(held, guard_name(l));
+    let a = copy_of(held, operand_a(l));
+    let b = copy_of(held, operand_b(l));
+    let target = take_copy(held, target_name(globals, l), k);
+    Copies {
+        guard,
+        a,
+        b,
+        target,
     }
 }

@@ -6,11 +6,11 @@ use Prim.Native.Nat.{ℕ, _≤_, _<_}
 use mathlib.Core.List.{List, [], _∷_, _++_, append-assoc, reverse, reverse-cons, reverse-reverse}
 use native.Mathlib.Omega.{arith}
 use borrow.Author.Tests.{lt-ltb}
-use lib.ListN.{length, getD, set, length-set, length-replicate, replicate, List·getD-eq-default, getD-replicate}
+use lib.ListN.{length, getD, length-set, length-replicate, getD-replicate}
 use lib.Seq.{getD-set-same, getD-set-other}
 use Rattle.model.specs.CaseFile.{Line}
 use Rattle.model.specs.Line.{noName, targetName}
-use Rattle.model.specs.Copies.{latest, copyOf, nothingHeld, takeLine, walkLines, heldAfter}
+use Rattle.model.specs.Copies.{latest, copyOf, nothingHeld, heldCopy, takeCopy, takeLine, walkLines, heldAfter}
 use Rattle.laws.specs.Order.{AllLines}
 use Rattle.laws.specs.ForwardWalk.{LatestOf, none, latest-is, HoldsLatest, ForAnyLines}
 use Rattle.laws.proofs.Views.{EqView, same, diff, eq-view, LtView, below, above, lt-view}
@@ -32,21 +32,38 @@ module _ (G : ℕ) where
   pub held-more : (earlier : List Line) (l : Line) → heldAfter G (reverse (l ∷ earlier)) ≡ takeLine G (heldAfter G (reverse earlier)) l
   held-more earlier l = ap (heldAfter G) (reverse-cons l earlier) ∙ one-more-line (reverse earlier) l
 
+  take-size : (held : List ℕ) (name k : ℕ) → length (takeCopy held name k) ≡ length held
+  unfolding takeCopy
+  take-size held name k = go (lt-view name noName)
+    where
+      go : LtView name noName → length (takeCopy held name k) ≡ length held
+      go (below h q) = rw q (length-set held name k)
+      go (above h q) = rw q
+
   walk-size : (held : List ℕ) (front : List Line) → length (walkLines G held front) ≡ length held
-  unfolding walkLines takeLine
+  unfolding walkLines
   walk-size held [] = refl
-  walk-size held (l ∷ front) = walk-size (set held (targetName G l) (l .number)) front ∙ length-set held (targetName G l) (l .number)
+  walk-size held (l ∷ front) = walk-size (takeLine G held l) front ∙ take-size held (targetName G l) (l .number)
 
   pub held-size : (front : List Line) → length (heldAfter G front) ≡ noName
   held-size front = walk-size nothingHeld front ∙ length-replicate {A = ℕ} noName 0
 
   -- ---- By name
 
-  pub no-place : (front : List Line) (name : ℕ) → noName ≤ name → getD (heldAfter G front) name 0 ≡ 0
-  no-place front name h = List·getD-eq-default (heldAfter G front) 0 {n = name} (omega (arith, held-size front))
+  held-taken : (held : List ℕ) (name k : ℕ) → length held ≡ noName → name < noName → getD (takeCopy held name k) name 0 ≡ k
+  unfolding takeCopy
+  held-taken held name k size h = rw (lt-ltb name noName h) (getD-set-same held name k 0 (omega (arith, size)))
+
+  held-else : (held : List ℕ) (other k name : ℕ) → other ≢ name → getD (takeCopy held other k) name 0 ≡ getD held name 0
+  unfolding takeCopy
+  held-else held other k name n = go (lt-view other noName)
+    where
+      go : LtView other noName → getD (takeCopy held other k) name 0 ≡ getD held name 0
+      go (below h q) = rw q (getD-set-other held other name k 0 (λ e. n (sym e)))
+      go (above h q) = rw q
 
   held-latest : (name : ℕ) (earlier : List Line) → name < noName → getD (heldAfter G (reverse earlier)) name 0 ≡ latest G name earlier
-  unfolding walkLines takeLine latest
+  unfolding walkLines latest
   held-latest name [] h = getD-replicate noName name 0 0 h
   held-latest name (l ∷ earlier) h =
       ap (λ (xs : List ℕ). getD xs name 0) (held-more earlier l) ∙ go (eq-view (targetName G l) name) (held-latest name earlier h)
@@ -57,18 +74,17 @@ module _ (G : ℕ) where
       go : EqView (targetName G l) name → getD before name 0 ≡ latest G name earlier
           → getD (takeLine G before l) name 0 ≡ latest G name (l ∷ earlier)
       go (same e _) ih =
-          ap (λ (i : ℕ). getD (set before i (l .number)) name 0) e
-          ∙ getD-set-same before name (l .number) 0 (omega (arith, held-size (reverse earlier))) ∙ sym (latest-target G name l earlier e)
-      go (diff n _) ih =
-          getD-set-other before (targetName G l) name (l .number) 0 (λ e. n (sym e)) ∙ ih ∙ sym (latest-other G name l earlier n)
+          ap (λ (other : ℕ). getD (takeCopy before other (l .number)) name 0) e ∙ held-taken before name (l .number) (held-size (reverse earlier)) h
+          ∙ sym (latest-target G name l earlier e)
+      go (diff n _) ih = held-else before (targetName G l) (l .number) name n ∙ ih ∙ sym (latest-other G name l earlier n)
 
-  pub held-copy : (name : ℕ) (earlier : List Line) → getD (heldAfter G (reverse earlier)) name 0 ≡ copyOf G name earlier
-  unfolding copyOf
+  pub held-copy : (name : ℕ) (earlier : List Line) → heldCopy (heldAfter G (reverse earlier)) name ≡ copyOf G name earlier
+  unfolding heldCopy copyOf
   held-copy name earlier = go (lt-view name noName)
     where
-      go : LtView name noName → getD (heldAfter G (reverse earlier)) name 0 ≡ copyOf G name earlier
+      go : LtView name noName → heldCopy (heldAfter G (reverse earlier)) name ≡ copyOf G name earlier
       go (below h q) = rw q (held-latest name earlier h)
-      go (above h q) = rw q (no-place (reverse earlier) name h)
+      go (above h q) = rw q
 
   -- ---- The latest of the lines, front to back
 
@@ -103,7 +119,7 @@ module _ (G : ℕ) where
     latest = λ name h.
         subst (λ (ls : List Line). LatestOf G name ls (getD (heldAfter G ls) name 0)) (reverse-reverse front)
         (subst (LatestOf G name (reverse (reverse front))) (sym (held-latest name (reverse front) h)) (latest-of name (reverse front)));
-    copy = λ name. ap (λ (ls : List Line). getD (heldAfter G ls) name 0) (sym (reverse-reverse front)) ∙ held-copy name (reverse front);
+    copy = λ name. ap (λ (ls : List Line). heldCopy (heldAfter G ls) name) (sym (reverse-reverse front)) ∙ held-copy name (reverse front);
     one-more = one-more-line front;
   }
 

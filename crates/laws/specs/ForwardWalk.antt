@@ -7,7 +7,7 @@ use mathlib.Core.List.{List, [], _∷_, _++_, reverse}
 use lib.ListN.{length, getD}
 use Rattle.model.specs.CaseFile.{Line}
 use Rattle.model.specs.Line.{noName, targetName}
-use Rattle.model.specs.Copies.{copyOf, takeLine, heldAfter}
+use Rattle.model.specs.Copies.{copyOf, heldCopy, takeLine, heldAfter}
 use Rattle.laws.specs.Order.{AllLines}
 
 -- "the latest line up to there that has it as target, or 0": number p, where these are the lines up to there, front to back.
@@ -22,7 +22,7 @@ pub record HoldsLatest (G : ℕ) (front : List Line) : Type 0 where
   pub size : length (heldAfter G front) ≡ noName
   pub latest : (name : ℕ) → name < noName → LatestOf G name front (getD (heldAfter G front) name 0)
   -- It is the copy that the table has at the next line.
-  pub copy : (name : ℕ) → getD (heldAfter G front) name 0 ≡ copyOf G name (reverse front)
+  pub copy : (name : ℕ) → heldCopy (heldAfter G front) name ≡ copyOf G name (reverse front)
   -- One more line is one step more.
   pub one-more : (l : Line) → heldAfter G (front ++ (l ∷ [])) ≡ takeLine G (heldAfter G front) l
 

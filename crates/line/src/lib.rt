@@ -29,6 +29,14 @@ pub struct Counts {
     pub items: usize,
 }
 
+// The copies of a line's guard, operands and target.
+pub struct Copies {
+    pub guard: u16,
+    pub a: u16,
+    pub b: u16,
+    pub target: u16,
+}
+
 pub fn counts_of(case: &[u8]) -> Counts
     requires { ⌜ Accepted (now case) ⌝ }
     ensures { λ r. ⌜ HasCounts (now (case .entry)) r ⌝ }

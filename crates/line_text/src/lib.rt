@@ -14,6 +14,7 @@ use expressions::operand;
 use expressions::put_guard;
 use expressions::put_is_expression;
 use expressions::put_is_truth;
+use line::Copies;
 use line::operand_a;
 use line::target_name;
 use line::unrun_value;
@@ -25,14 +26,6 @@ use reads_text::put_name;
 use spell::Atom;
 use spell::put;
 use spell::put_equal;
-
-// The copies of a line's guard, operands and target.
-pub struct Copies {
-    pub guard: u16,
-    pub a: u16,
-    pub b: u16,
-    pub target: u16,
-}
 
 // The value of line k, which has record l, where its guard is true.
 fn put_in(

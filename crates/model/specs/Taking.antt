@@ -11,7 +11,7 @@ use Rattle.model.specs.Lists.{unless}
 use Rattle.model.specs.CaseFile.{Line, lineWith}
 use Rattle.model.specs.Accept.{countsOk, fieldsOk}
 use Rattle.model.specs.Line.{guardName, operandA, operandB, targetName}
-use Rattle.model.specs.Copies.{takeLine}
+use Rattle.model.specs.Copies.{heldCopy, takeLine}
 use Rattle.model.specs.declared.Taken.{Taken}
 use Rattle.model.specs.declared.Taken.the-variants.{Copies, Refused}
 use Rattle.model.specs.declared.CopyNumbers.{CopyNumbers}
@@ -20,11 +20,10 @@ use Rattle.model.specs.declared.CopyNumbers.{CopyNumbers}
 abbrev pub handedLine : ℕ → List ℕ → Line
 handedLine number fields = lineWith (λ j. getD fields j 0) 0 number
 
--- The copies of a line's names by what is held before it: "guard copy, a copy, b copy, target copy". What is no name has no place in
--- what is held, and copy 0.
+-- The copies of a line's names by what is held before it: "guard copy, a copy, b copy, target copy".
 abbrev pub copiesAt : ℕ → List ℕ → Line → Taken
 copiesAt G held l =
-    Copies (getD held (guardName l) 0) (getD held (operandA l) 0) (getD held (operandB l) 0) (getD held (targetName G l) 0)
+    Copies (heldCopy held (guardName l)) (heldCopy held (operandA l)) (heldCopy held (operandB l)) (heldCopy held (targetName G l))
 
 -- "4. G is over 8 or M is over 4."; "6. A first or next number is over R", where none can be the record's number; "9. A record breaks
 -- the rules of its fields", and the place is this record.

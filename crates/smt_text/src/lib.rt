@@ -15,7 +15,7 @@ use case_file::Record;
 use case_file::record_at;
 use encoder::MOST_NUMBERS;
 use encoder::encode;
-use line_text::Copies;
+use line::Copies;
 use line_text::put_five;
 use line_text::put_four;
 use line_threads::threads_of;
