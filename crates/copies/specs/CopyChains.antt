@@ -7,8 +7,8 @@ use lib.ListN.{length, getD}
 use Rattle.model.specs.Limits.{recordPlaces}
 use Rattle.model.specs.CaseFile.{Line, Case, linesOf}
 use Rattle.model.specs.Line.{targetName}
-use Rattle.model.specs.Copies.{copyOf, heldAfter}
-use Rattle.copies.specs.Held.{Held}
+use Rattle.model.specs.Copies.{copyOf}
+use Rattle.copies.specs.Held.{HeldAfter, Held}
 
 -- For each of these lines, which are given latest first, `previous` has by record number the copy of its target before it.
 abbrev pub HasBefore : ℕ → List ℕ → List Line → Type 0
@@ -22,7 +22,7 @@ pub record ChainsBefore (case : Case) (previous : List ℕ) (t : ℕ) : Type 0 w
 
 -- The chains after these and after these lines of thread t, latest first, which are held.
 pub record ThreadChains (case : Case) (held previous : List ℕ) (t : ℕ) (earlier : List Line) : Type 0 where
-  pub holds : held ≡ heldAfter (case .G) (reverse earlier)
+  pub holds : HeldAfter (case .G) held earlier
   pub before : ChainsBefore case previous t
   pub own : HasBefore (case .G) previous earlier
 

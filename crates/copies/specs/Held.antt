@@ -2,7 +2,7 @@
 -- Assumes nothing.
 use mathlib.Core.Path.{_≡_}
 use Prim.Native.Nat.{ℕ, _≤_, _<_}
-use mathlib.Core.List.{List, []}
+use mathlib.Core.List.{List, [], reverse}
 use lib.ListN.{length, getD}
 use Rattle.model.specs.Limits.{mostThreads}
 use Rattle.model.specs.CaseFile.{Line, Case, linesOf}
@@ -18,6 +18,10 @@ copiesBefore G held l = record {
   b = heldCopy held (operandB l);
   target = heldCopy held (targetName G l);
 }
+
+-- What is held after these lines of a thread, latest first.
+abbrev pub HeldAfter : ℕ → List ℕ → List Line → Type 0
+HeldAfter G held earlier = held ≡ heldAfter G (reverse earlier)
 
 -- "For every thread the latest copy of each name is known": after all lines of the threads before t.
 pub record Held (case : Case) (copies : List (List ℕ)) (t : ℕ) : Type 0 where

@@ -1,14 +1,15 @@
--- One line of a walk: its rows are put where it stands in its thread, and it becomes the latest copy of its target.
+-- One line of a walk: its rows are put where it stands in its thread, and it is taken.
 -- Assumes nothing.
 use mathlib.Core.Path.{_≡_, refl, sym, ap, _∙_}
 use mathlib.Core.Logic.{_≢_}
-use Prim.Native.Nat.{ℕ, suc, _+_, _*_, _≤_, _<_}
-use mathlib.Core.List.{List, [], _∷_, reverse}
+use Prim.Native.Nat.{ℕ, _+_, _*_, _≤_, _<_}
+use mathlib.Core.List.{List, _∷_, reverse, reverse-reverse}
 use native.Mathlib.Omega.{arith}
 use lib.ListN.{length}
-use Rattle.model.specs.Limits.{mostThreads}
-use Rattle.model.specs.CaseFile.{kindOf, Line, records, recordField, threadCount, switchCount, globalCount, nextRecord, lineOf, caseOf}
-use Rattle.model.specs.Line.{targetName}
+use Rattle.model.specs.CaseFile.{kindOf, Line, records, recordField, threadCount, switchCount, globalCount, nextRecord, lineOf, caseOf, linesOf}
+use Rattle.model.specs.Line.{guardName, operandA, operandB, targetName}
+use Rattle.model.specs.Copies.{copyOf, heldCopy, takeLine, heldAfter}
+use Rattle.model.specs.Table.{valueRow}
 use Rattle.laws.specs.Accepted.{Accepted, linesFrom, threadLines}
 use Rattle.laws.specs.RowCounts.{orderRowCount, valueRowCount}
 use Rattle.laws.proofs.Chains.{threads-are}
@@ -16,10 +17,11 @@ use Rattle.laws.proofs.Following.{lines-end, lines-more, next-low}
 use Rattle.laws.proofs.Views.{EqView, same, diff, eq-view}
 use Rattle.case_file.specs.declared.Record.{Record}
 use Rattle.case_file.specs.Records.{recordOf, asLine}
-use Rattle.copies.specs.Held.{withCopy, Held}
-use Rattle.copies.proofs.Held.{held-more, held-next}
+use Rattle.laws.proofs.ForwardWalk.{held-more, held-copy}
+use Rattle.line.specs.declared.Copies.{Copies}
+use Rattle.copies.specs.Held.{copiesBefore, HeldAfter}
 use Rattle.case_file.specs.declared.Link.{Link}
-use Rattle.rows.specs.Rows.{Nearest, PutsOrder, PutsValues}
+use Rattle.rows.specs.Rows.{Nearest, PutsOrder, fourOf, PutsValues}
 use Rattle.encoder.proofs.Walking.{orders, values, Walking, walking-room, walking-more}
 
 nearest-line : (bytes : List ℕ) (t k : ℕ) → Accepted bytes → k ≤ records bytes → Nearest k (linesFrom bytes t k)
@@ -43,13 +45,10 @@ order-step {bytes} {t} {k} {link} puts v ok some line next eT en =
     nearest : Nearest (link .next) (linesFrom bytes t (nextRecord bytes k))
     nearest = rw next (nearest-line bytes t (nextRecord bytes k) ok (next-low bytes ok t k some (v .low)))
 
--- Its 4 and its 5 are put, and it is taken as the latest copy of its target.
-module _ {bytes : List ℕ} {t k : ℕ} {copies : List (List ℕ)} {out : List ℕ} {at : ℕ} {numbers before : List ℕ} {start : ℕ}
-    (v : Walking bytes t (values (caseOf bytes)) (Held (caseOf bytes) copies t) k numbers before start out at) (ok : Accepted bytes) (some : k ≢ 0)
+-- It is taken, and its 4 and its 5 are put with the copies that it has.
+module _ {bytes : List ℕ} {t k : ℕ} {held : List ℕ} {out : List ℕ} {at : ℕ} {numbers before : List ℕ} {start : ℕ}
+    (v : Walking bytes t (values (caseOf bytes)) (HeldAfter (globalCount bytes) held) k numbers before start out at) (ok : Accepted bytes) (some : k ≢ 0)
     {l : Record} (el : l ≡ recordOf bytes t k) where
-  pub thread-low : t < threadCount bytes → l .thread < mostThreads
-  thread-low few = rw el (omega (arith, ok .few-threads))
-
   width : {c : ℕ} → c ≡ valueRowCount (kindOf (l .kind)) → c ≡ valueRowCount (kindOf (recordField bytes k 1))
   width ec = rw el at ec
 
@@ -57,20 +56,31 @@ module _ {bytes : List ℕ} {t k : ℕ} {copies : List (List ℕ)} {out : List �
   value-room ec h = omega (arith, walking-room v ok some h, width ec)
 
   pub value-step :
-      {G c name next : ℕ} {out' : List ℕ} {copies' : List (List ℕ)} → G ≡ globalCount bytes → PutsValues (asLine l k) G copies out at out'
-      → c ≡ valueRowCount (kindOf (l .kind)) → t < threadCount bytes → ((j : ℕ) → name ≡ targetName G (asLine l j)) → copies' ≡ withCopy copies t name k
-      → next ≡ nextRecord bytes k → Walking bytes t (values (caseOf bytes)) (Held (caseOf bytes) copies' t) next numbers before start out' (at + 6 * c)
-  value-step {name = name} {copies' = copies'} eG puts ec few en taken next =
-      walking-more v ok some next held ((rw el at puts) (caseOf bytes) (v .earlier) (v .known) eG) (omega (arith, width ec))
+      {G c next : ℕ} {out' held' : List ℕ} {copies : Copies} → G ≡ globalCount bytes → copies ≡ copiesBefore G held (asLine l k) → held' ≡ takeLine G held (asLine l k)
+      → PutsValues (kindOf (l .kind)) (fourOf k copies) out at out' → c ≡ valueRowCount (kindOf (l .kind)) → next ≡ nextRecord bytes k
+      → Walking bytes t (values (caseOf bytes)) (HeldAfter (globalCount bytes) held') next numbers before start out' (at + 6 * c)
+  value-step {G} {held' = held'} {copies} eG ec taken puts ew next =
+      walking-more v ok some next after ((rw el at puts) (caseOf bytes) (v .earlier) (lineOf bytes t k) four) (omega (arith, width ew))
     where
-      target : name ≡ targetName (globalCount bytes) (lineOf bytes t k)
-      target = rw (el, eG) at (en k)
+      copy : (name : ℕ) → heldCopy held name ≡ copyOf (globalCount bytes) name (v .earlier)
+      copy name = ap (λ (xs : List ℕ). heldCopy xs name) (v .known) ∙ held-copy (globalCount bytes) name (v .earlier)
 
-      held : Held (caseOf bytes) copies' t (lineOf bytes t k ∷ v .earlier)
-      held = rw (taken, target) (held-more (caseOf bytes) copies t (v .earlier) (v .known) (lineOf bytes t k) (omega (arith, ok .few-threads)))
+      found : copies ≡ copiesBefore (globalCount bytes) held (lineOf bytes t k)
+      found = rw (el, eG) at ec
+
+      four : fourOf k copies ≡ valueRow (caseOf bytes) (v .earlier) (lineOf bytes t k)
+      four =
+          let l = lineOf bytes t k in
+          ap (fourOf k) found ∙ rw (copy (guardName l), copy (operandA l), copy (operandB l), copy (targetName (globalCount bytes) l))
+
+      after : HeldAfter (globalCount bytes) held' (lineOf bytes t k ∷ v .earlier)
+      after =
+          (rw (el, eG) at taken)
+          ∙ ap (λ (xs : List ℕ). takeLine (globalCount bytes) xs (lineOf bytes t k)) (v .known) ∙ sym (held-more (globalCount bytes) (v .earlier) (lineOf bytes t k))
 
 -- All lines of thread t have been taken.
 pub thread-taken :
-    (bytes : List ℕ) (t : ℕ) (copies : List (List ℕ)) (earlier : List Line) → t < threadCount bytes → Held (caseOf bytes) copies t earlier
-    → earlier ≡ reverse (threadLines bytes t) → Held (caseOf bytes) copies (suc t) []
-thread-taken bytes t copies earlier few held e = held-next (caseOf bytes) copies t earlier held (e ∙ ap reverse (sym (threads-are bytes t few)))
+    (bytes : List ℕ) (t : ℕ) {held : List ℕ} {earlier : List Line} → t < threadCount bytes → HeldAfter (globalCount bytes) held earlier
+    → earlier ≡ reverse (threadLines bytes t) → held ≡ heldAfter (globalCount bytes) (linesOf (caseOf bytes) t)
+thread-taken bytes t few holds e =
+    holds ∙ ap (heldAfter (globalCount bytes)) (ap reverse e ∙ reverse-reverse (threadLines bytes t) ∙ sym (threads-are bytes t few))

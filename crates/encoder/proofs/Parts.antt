@@ -6,12 +6,12 @@ use mathlib.Core.List.{List, [], _∷_, _++_, reverse}
 use native.Mathlib.Omega.{arith}
 use native.Mathlib.Nat.{mod-lt}
 use native.Mathlib.Numerals.{add-one}
-use lib.ListN.{length, length-append}
+use lib.ListN.{length, length-append, getD, set}
 use Rattle.model.specs.Limits.{mostThreads, mostItems}
 use Rattle.model.specs.CaseFile.{threadCount, switchCount, chains, caseOf, linesOf, itemCount}
 use Rattle.model.specs.Line.{itemName}
 use Rattle.model.specs.Lists.{writtenOver}
-use Rattle.model.specs.Copies.{latest}
+use Rattle.model.specs.Copies.{latest, heldCopy}
 use Rattle.model.specs.Table.{Row, row, orderRows, allOrderRows, valueRows, allValueRows, itemRows, blockRows, runRows, goalRow, table, numbersOf}
 use Rattle.laws.specs.Accepted.{Accepted, threadLines}
 use Rattle.laws.specs.Written.{numbersAt, Put}
@@ -19,11 +19,15 @@ use Rattle.laws.proofs.Following.{chains-more, chains-end}
 use Rattle.laws.proofs.RowNumbers.{numbers-of-append}
 use Rattle.laws.proofs.Sizes.{six-a-row}
 use Rattle.laws.proofs.Writing.{numbers-from-start, put-then}
-use Rattle.copies.specs.Held.{copyIn, Held}
-use Rattle.copies.proofs.Held.{held-last}
+use Rattle.copies.specs.Held.{Held}
+use Rattle.copies.proofs.Held.{held-next, held-last}
 use Rattle.encoder.proofs.Series.{Series, Going, going-more, going-end}
 use Rattle.encoder.specs.Parts.{orderNumbers, allOrderNumbers, valueNumbers, allValueNumbers, itemNumbers, allItemNumbers, runNumbers, tableNumbers}
-use Rattle.encoder.specs.Writers.{PutCopies}
+use Rattle.encoder.specs.Writers.{PutThread, PutCopies}
+
+-- A thread of an accepted case is one of four.
+pub thread-low : {bytes : List ℕ} → Accepted bytes → {t T : ℕ} → T ≡ threadCount bytes → t < T → t < mostThreads
+thread-low ok e h = omega (arith, ok .few-threads)
 
 module _ (bytes : List ℕ) where
   -- The order rows of the threads from t on.
@@ -70,16 +74,19 @@ module _ (bytes : List ℕ) where
 
   -- At thread t: the latest copies after all lines of the threads before it, and what is written of the values of so many threads.
   pub record Taking (to : ℕ) (copies : List (List ℕ)) (t : ℕ) (before : List ℕ) (start : ℕ) (out : List ℕ) (at : ℕ) : Type 0 where
-    pub held : Held (caseOf bytes) copies t []
+    pub held : Held (caseOf bytes) copies t
     pub going : Going (valueSeries to) t (allValueNumbers bytes) before start out at
 
   module _ {to : ℕ} {copies : List (List ℕ)} {t : ℕ} {before : List ℕ} {start : ℕ} {out : List ℕ} {at : ℕ} (v : Taking to copies t before start out at) where
-    pub taking-more : t < to → {out' : List ℕ} {at' : ℕ} {copies' : List (List ℕ)} → PutCopies bytes (valueNumbers bytes t) out at out' at' copies' (suc t)
-        → Taking to copies' (t + 1) before start out' at'
-    taking-more h done = record { held = rw add-one (done .held); going = going-more (v .going) h (done .put) }
+    pub taking-more : t < to → t < mostThreads → {out' : List ℕ} {at' : ℕ} {held : List ℕ} → PutThread bytes t out at out' at' held
+        → Taking to (set copies t held) (t + 1) before start out' at'
+    taking-more h few {held = held} done = record {
+      held = rw add-one (held-next (caseOf bytes) copies t (v .held) few held (done .all));
+      going = going-more (v .going) h (done .put);
+    }
 
     pub taking-end : to ≡ threadCount bytes → to ≤ t → PutCopies bytes (allValueNumbers bytes) before start out at copies (threadCount bytes)
-    taking-end e h = record { put = going-end (v .going) h; held = subst (λ (u : ℕ). Held (caseOf bytes) copies u []) (omega arith) (v .held) }
+    taking-end e h = record { put = going-end (v .going) h; held = subst (Held (caseOf bytes) copies) (omega arith) (v .held) }
 
   -- The 6s of the blocks from i on.
   unfoldable pub blocksFrom : ℕ → ℕ → List ℕ
@@ -132,12 +139,12 @@ module _ (bytes : List ℕ) where
 
   -- The 6 of item g, from what is held of the block's thread.
   pub item-put :
-      Accepted bytes → (copies : List (List ℕ)) → Held (caseOf bytes) copies (threadCount bytes) [] → (d a : List ℕ) (at i g T copy : ℕ) (w : Row) → g < mostItems
-      → T ≡ threadCount bytes → copy ≡ copyIn copies (i % T) (itemName g) → w ≡ row 6 g i copy 0 0 → a ≡ numbersAt d at (numbersOf (w ∷ []))
+      Accepted bytes → (copies : List (List ℕ)) → Held (caseOf bytes) copies (threadCount bytes) → (d a : List ℕ) (at i g T copy : ℕ) (w : Row) → g < mostItems
+      → T ≡ threadCount bytes → copy ≡ heldCopy (getD copies (i % T) []) (itemName g) → w ≡ row 6 g i copy 0 0 → a ≡ numbersAt d at (numbersOf (w ∷ []))
       → Put (itemRow i g) d at a (at + 6)
   item-put ok copies held d a at i g T copy w few eT ec ew ea =
       let low : i % threadCount bytes < threadCount bytes = mod-lt i (omega (arith, ok .some-threads)) in
-      let last = held-last (caseOf bytes) copies (threadCount bytes) [] held (i % threadCount bytes) (itemName g) low (omega (arith, ok .few-threads)) (omega arith) in
+      let last = held-last (caseOf bytes) copies (threadCount bytes) held (i % threadCount bytes) (itemName g) low (omega (arith, ok .few-threads)) (omega arith) in
       rw (← last, ← eT, ← ec, ← ew) (record { slice = ea; place = omega (arith, six-a-row (w ∷ [])) })
 
   -- All rows but the goal.

@@ -1,7 +1,7 @@
-// The encoder: the table of a case's constraints. The latest copy of each name is known for every thread, and one forward walk over
-// each thread's lines keeps it up to date.
+// The encoder: the table of a case's constraints. The latest copy of each name is known for every thread, by one forward walk over
+// each thread's lines.
 ghost use mathlib.Core.Path.{_≡_};
-ghost use Prim.Native.Nat.{suc, _+_};
+ghost use Prim.Native.Nat.{_+_};
 ghost use lib.ListN.{length};
 ghost use Rattle.model.specs.CaseFile.{threadCount, caseOf};
 ghost use Rattle.model.specs.Lists.{writtenOver};
@@ -12,7 +12,7 @@ ghost use Rattle.model.specs.declared.Verdict.the-variants as verdicts;
 ghost use Rattle.laws.specs.Accepted.{Accepted};
 ghost use Rattle.laws.specs.Written.{Put, RoomFor, ThreadRoom};
 ghost use Rattle.encoder.specs.Parts.{orderNumbers, allOrderNumbers, valueNumbers, allValueNumbers, itemNumbers, allItemNumbers, runNumbers, tableNumbers};
-ghost use Rattle.encoder.specs.Writers.{CopiesRoom, ThreadCopiesRoom, PutCopies, Answered};
+ghost use Rattle.encoder.specs.Writers.{CopiesRoom, ThreadCopiesRoom, PutThread, PutCopies, Answered};
 use accept::accept;
 use case_file::Link;
 use case_file::block_values;
@@ -27,9 +27,8 @@ use case_file::switches;
 use case_file::threads;
 use case_file::variables;
 use copies::copy_of;
-use copies::take_copy;
+use copies::take_line;
 use line::ORDER_ROWS;
-use line::target_name;
 use line::value_rows;
 use model::Encoded;
 use model::ITEMS;
@@ -165,32 +164,31 @@ fn write_all_values(
     let mut at = start;
     let mut thread = 0;
     while thread < threads {
-        at = write_values(case, table, at, thread, latest);
+        at = write_values(case, table, at, thread, &mut latest[thread]);
         thread += 1;
     }
     at
 }
 
-// Those of thread t, where those of the threads before it have been written.
+// Those of thread t, from a place on; the place after them. Each line is taken once, and gives its copies.
 fn write_values(
     case: &[u8],
     table: &mut [u16],
     start: usize,
     t: usize,
-    latest: &mut [[u16; NAMES]; THREADS],
+    held: &mut [u16; NAMES],
 ) -> usize
-    requires { ⌜ ThreadCopiesRoom (now case) (now latest) t (start + length (valueNumbers (now case) t)) (now table) ⌝ }
-    ensures { λ r. ⌜ PutCopies (now (case .entry)) (valueNumbers (now (case .entry)) t) (now (table .entry)) start (now (table .exit)) r (now (latest .exit)) (suc t) ⌝ }
+    requires { ⌜ ThreadCopiesRoom (now case) (now held) t (start + length (valueNumbers (now case) t)) (now table) ⌝ }
+    ensures { λ r. ⌜ PutThread (now (case .entry)) t (now (table .entry)) start (now (table .exit)) r (now (held .exit)) ⌝ }
 {
     let globals = globals(case) as usize;
     let mut at = start;
     let mut k = first_of(case, t);
     while k != 0 {
         let l = record_at(case, t as u16, k);
-        let target = target_name(globals, l);
         let line = k as u16;
-        rows::put_values(table, at, line, l, globals, latest);
-        take_copy(latest, t, target, line);
+        let copies = take_line(held, globals, l, line);
+        rows::put_values(table, at, line, l.kind, copies);
         at += ROW * value_rows(l.kind);
         k = next_of(case, k);
     }
@@ -233,7 +231,7 @@ fn write_items(
     let mut at = start;
     let mut g = 0;
     while g < items {
-        let copy = copy_of(latest, t, LOCALS + g);
+        let copy = copy_of(&latest[t], LOCALS + g);
         let w = rows::item_row(g as u16, i, copy);
         rows::put_row(table, at, w);
         at += ROW;

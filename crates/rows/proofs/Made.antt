@@ -2,15 +2,13 @@
 -- Assumes nothing.
 use mathlib.Core.Path.{_≡_, refl, sym, _∙_}
 use mathlib.Core.Logic.{_≢_, _⊎_, inl, inr}
-use Prim.Native.Nat.{ℕ, _+_, _≤_, _<_}
+use Prim.Native.Nat.{ℕ, _+_, _≤_}
 use mathlib.Core.List.{List, [], _∷_}
 use native.Mathlib.Omega.{arith}
 use native.Mathlib.Numerals.{add-one, add-two, add-three, add-four, add-five}
 use borrow.Author.Tests.{ne-eqb}
 use lib.ListN.{set}
-use Rattle.model.specs.Limits.{mostThreads}
 use Rattle.model.specs.CaseFile.{Kind, kindOf, Line, lineOf, Case, caseOf}
-use Rattle.model.specs.Line.{guardName, operandA, operandB, targetName}
 use Rattle.model.specs.Table.{Row, row, followRow, lineOrderRows, valueRow, demandRows, numbersOf}
 use Rattle.laws.specs.RowCounts.{valueRowCount}
 use Rattle.laws.specs.Written.{numbersAt}
@@ -18,8 +16,6 @@ use Rattle.laws.proofs.Views.{EqView, same, diff, eq-view}
 use Rattle.laws.proofs.Writing.{numbers-none}
 use Rattle.laws.proofs.RowNumbers.{rows-then}
 use Rattle.laws.proofs.Sizes.{line-value-length}
-use Rattle.copies.specs.Held.{copyIn, Held}
-use Rattle.copies.proofs.Held.{held-copy}
 use Rattle.case_file.specs.declared.Link.{Link}
 use Rattle.rows.specs.Rows.{Nearest, Stands}
 
@@ -92,27 +88,8 @@ some-row kind = omega (arith, line-value-length kind (caseOf []) [] (lineOf [] 0
 
 -- the 4 and the 5
 pub values-are :
-    (case : Case) (earlier : List Line) (l : Line) (d a b : List ℕ) (at : ℕ) (w : Row) → w ≡ valueRow case earlier l → a ≡ numbersAt d at (numbersOf (w ∷ []))
-    → b ≡ numbersAt a (at + 6) (numbersOf (demandRows (l .kind) case earlier l))
-    → b ≡ numbersAt d at (numbersOf (valueRow case earlier l ∷ demandRows (l .kind) case earlier l))
-values-are case earlier l d a b at w ew ea eb = rows-then d a b at (at + 6) (valueRow case earlier l ∷ []) _ (one-row d a at ea ew) refl eb
-
-pub value-is :
-    (case : Case) (earlier : List Line) (l : Line) (copies : List (List ℕ)) (t : ℕ) (guard a b target w x y z : ℕ) → Held case copies t earlier → t < mostThreads
-    → guard ≡ guardName l → a ≡ operandA l → b ≡ operandB l → target ≡ targetName (case .G) l
-    → w ≡ copyIn copies t guard → x ≡ copyIn copies t a → y ≡ copyIn copies t b → z ≡ copyIn copies t target → row 4 (l .number) w x y z ≡ valueRow case earlier l
-value-is case earlier l copies t guard a b target w x y z h few eg ea eb et ew ex ey ez =
-    rw (
-      ew,
-      ex,
-      ey,
-      ez,
-      held-copy case copies t earlier h guard few,
-      held-copy case copies t earlier h a few,
-      held-copy case copies t earlier h b few,
-      held-copy case copies t earlier h target few,
-      eg,
-      ea,
-      eb,
-      et,
-    )
+    (kind : Kind) (case : Case) (earlier : List Line) (l : Line) (d a b : List ℕ) (at : ℕ) (v w : Row) → w ≡ valueRow case earlier l → v ≡ w
+    → a ≡ numbersAt d at (numbersOf (v ∷ [])) → b ≡ numbersAt a (at + 6) (numbersOf (demandRows kind case earlier l))
+    → b ≡ numbersAt d at (numbersOf (valueRow case earlier l ∷ demandRows kind case earlier l))
+values-are kind case earlier l d a b at v w ew ev ea eb =
+    rows-then d a b at (at + 6) (valueRow case earlier l ∷ []) _ (one-row d a at ea (ev ∙ ew)) refl eb

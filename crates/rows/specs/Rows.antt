@@ -3,18 +3,14 @@
 -- Assumes nothing.
 use mathlib.Core.Path.{_≡_}
 use mathlib.Core.Logic.{_≢_}
-use Prim.Native.Nat.{ℕ, _+_, _*_, _≤_, _<_}
+use Prim.Native.Nat.{ℕ}
 use mathlib.Core.List.{List, [], _∷_}
-use lib.ListN.{length}
-use Rattle.model.specs.Limits.{mostThreads, mostGlobals}
-use Rattle.model.specs.CaseFile.{Kind, kindOf, Line, Case}
-use Rattle.model.specs.Table.{Row, followRow, lineOrderRows, valueRow, demandRows, numbersOf}
-use Rattle.laws.specs.RowCounts.{valueRowCount}
+use Rattle.model.specs.CaseFile.{Kind, Line, Case}
+use Rattle.model.specs.Table.{Row, row, followRow, lineOrderRows, valueRow, demandRows, numbersOf}
 use Rattle.laws.specs.Written.{numbersAt}
-use Rattle.copies.specs.Held.{Held}
 use Rattle.rows.specs.declared.Constraint.{Constraint}
 use Rattle.case_file.specs.declared.Link.{Link}
-use Rattle.case_file.specs.declared.Record.{Record}
+use Rattle.line.specs.declared.Copies.{Copies}
 
 -- A constraint as the code holds it.
 abbrev pub asRow : Constraint → Row
@@ -46,9 +42,9 @@ PutsOrder link T n t slice at after =
     (case : Case) (earlier : List Line) (l : Line) (ls : List Line) → Stands link earlier l ls → T ≡ case .T → n ≡ case .n
     → after ≡ numbersAt slice at (numbersOf (lineOrderRows case t earlier l ls))
 
--- The 4 of a line from what is held of its thread, where there are G globals.
-abbrev pub Values : Line → ℕ → List (List ℕ) → Row → Type 0
-Values l G copies w = (case : Case) (earlier : List Line) → Held case copies (l .thread) earlier → G ≡ case .G → w ≡ valueRow case earlier l
+-- The 4 of line k with these copies.
+abbrev pub fourOf : ℕ → Copies → Row
+fourOf k copies = row 4 k (copies .guard) (copies .a) (copies .b) (copies .target)
 
 -- The 5 of a line with this 4.
 abbrev pub PutsDemand : Kind → Row → List ℕ → ℕ → List ℕ → Type 0
@@ -56,16 +52,7 @@ PutsDemand kind w slice at after =
     (case : Case) (earlier : List Line) (l : Line) → w ≡ valueRow case earlier l → after ≡ numbersAt slice at (numbersOf (demandRows kind case earlier l))
 
 -- Both.
-abbrev pub PutsValues : Line → ℕ → List (List ℕ) → List ℕ → ℕ → List ℕ → Type 0
-PutsValues l G copies slice at after =
-    (case : Case) (earlier : List Line) → Held case copies (l .thread) earlier → G ≡ case .G
-    → after ≡ numbersAt slice at (numbersOf (valueRow case earlier l ∷ demandRows (l .kind) case earlier l))
-
--- A line with few enough threads and globals for its 4; and with room in a slice, from a place on, for its 4 and its 5.
-pub record LineFits (l : Record) (globals : ℕ) : Type 0 where
-  pub thread : l .thread < mostThreads
-  pub few-globals : globals ≤ mostGlobals
-
-pub record ValuesFit (l : Record) (globals : ℕ) (slice : List ℕ) (at : ℕ) : Type 0 where
-  pub line : LineFits l globals
-  pub room : at + 6 * valueRowCount (kindOf (l .kind)) ≤ length slice
+abbrev pub PutsValues : Kind → Row → List ℕ → ℕ → List ℕ → Type 0
+PutsValues kind w slice at after =
+    (case : Case) (earlier : List Line) (l : Line) → w ≡ valueRow case earlier l
+    → after ≡ numbersAt slice at (numbersOf (valueRow case earlier l ∷ demandRows kind case earlier l))

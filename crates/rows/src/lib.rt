@@ -1,5 +1,5 @@
 // The rows of the table: each is made by one function, and put into the slice by one. A line's rows are made from where it stands
-// in its chain and from the latest copies of its thread.
+// in its chain and from its copies.
 ghost use mathlib.Core.Path.{_≡_};
 ghost use Prim.Native.Nat.{_+_, _*_, _≤_};
 ghost use mathlib.Core.List.{[], _∷_};
@@ -8,17 +8,9 @@ ghost use Rattle.model.specs.CaseFile.{kindOf};
 ghost use Rattle.model.specs.Table.{row, goalRow, numbersOf};
 ghost use Rattle.laws.specs.RowCounts.{orderRowCount, valueRowCount};
 ghost use Rattle.laws.specs.Written.{numbersAt};
-ghost use Rattle.case_file.specs.Records.{asLine};
-ghost use Rattle.rows.specs.Rows.{asRow, Follows, PutsOrder, Values, PutsDemand, PutsValues, LineFits, ValuesFit};
+ghost use Rattle.rows.specs.Rows.{asRow, Follows, PutsOrder, fourOf, PutsDemand, PutsValues};
 use case_file::Link;
-use case_file::Record;
-use copies::copy_of;
-use line::guard_name;
-use line::operand_a;
-use line::operand_b;
-use line::target_name;
-use model::NAMES;
-use model::THREADS;
+use line::Copies;
 
 // A row of the table, and how many numbers it has.
 pub struct Constraint {
@@ -94,23 +86,17 @@ pub fn put_order(table: &mut [u16], at: usize, link: Link, threads: u16, last: u
     put_row(table, at + ROW, second);
 }
 
-// The 4 of a line with number k.
-fn value_row(k: u16, l: Record, globals: usize, latest: &[[u16; NAMES]; THREADS]) -> Constraint
-    requires { ⌜ LineFits l globals ⌝ }
-    ensures { λ r. ⌜ Values (asLine l k) globals (now (latest .entry)) (asRow r) ⌝ }
+// The 4 of line k, which has these copies.
+fn value_row(k: u16, copies: Copies) -> Constraint
+    ensures { λ r. ⌜ asRow r ≡ fourOf k copies ⌝ }
 {
-    let t = l.thread as usize;
-    let target = target_name(globals, l);
-    let a = operand_a(l);
-    let b = operand_b(l);
-    let guard = guard_name(l);
     Constraint {
         kind: 4,
         one: k,
-        two: copy_of(latest, t, guard),
-        three: copy_of(latest, t, a),
-        four: copy_of(latest, t, b),
-        five: copy_of(latest, t, target),
+        two: copies.guard,
+        three: copies.a,
+        four: copies.b,
+        five: copies.target,
     }
 }
 
@@ -146,21 +132,14 @@ fn put_demand(table: &mut [u16], at: usize, kind: u16, w: Constraint)
     }
 }
 
-// The 4 of a line with number k, and its 5 where it has one.
-pub fn put_values(
-    table: &mut [u16],
-    at: usize,
-    k: u16,
-    l: Record,
-    globals: usize,
-    latest: &[[u16; NAMES]; THREADS],
-)
-    requires { ⌜ ValuesFit l globals (now table) at ⌝ }
-    ensures { λ x. ⌜ PutsValues (asLine l k) globals (now (latest .entry)) (now (table .entry)) at (now (table .exit)) ⌝ }
+// The 4 of line k, which has this kind and these copies, and its 5 where it has one.
+pub fn put_values(table: &mut [u16], at: usize, k: u16, kind: u16, copies: Copies)
+    requires { ⌜ at + 6 * valueRowCount (kindOf kind) ≤ length (now table) ⌝ }
+    ensures { λ x. ⌜ PutsValues (kindOf kind) (fourOf k copies) (now (table .entry)) at (now (table .exit)) ⌝ }
 {
-    let w = value_row(k, l, globals, latest);
+    let w = value_row(k, copies);
     put_row(table, at, w);
-    put_demand(table, at + ROW, l.kind, w);
+    put_demand(table, at + ROW, kind, w);
 }
 
 // A 6.

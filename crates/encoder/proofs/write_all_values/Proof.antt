@@ -1,8 +1,9 @@
 -- `write_all_values` writes the 4s and 5s, a thread at a time. Assumes nothing.
 use borrow.Author.Needs.{needs}
 use Prim.Native.Nat.{_-_}
+use native.Mathlib.Omega.{arith}
 use Rattle.encoder.proofs.Series.{going-start, going-fits}
-use Rattle.encoder.proofs.Parts.{values-all, Taking, taking-more, taking-end}
+use Rattle.encoder.proofs.Parts.{values-all, Taking, thread-low, taking-more, taking-end}
 use Rattle.encoder.proofs.write_all_values.Statement.{statement}
 use Rattle.encoder.proofs.write_all_values.Tie as tie
 
@@ -21,8 +22,21 @@ cast-threads c = search needs
 loop-holds : tie.Need-loop-holds Inv-loop μ-loop
 loop-holds c = record { held = c .before .before .before .pre .held; going = going-start (values-all _ _ (c .threads .ensures)) }
 
+mul-write-values : tie.Need-mul-write-values Inv-loop μ-loop
+mul-write-values c = omega (arith, thread-low (c .before .before .before .before .before .before .pre .accepted) (c .before .before .before .threads .ensures) (c .before .loop-test .taken))
+
+index-1-write-values : tie.Need-index-1-write-values Inv-loop μ-loop
+index-1-write-values c = thread-low (c .before .before .before .before .before .before .pre .accepted) (c .before .before .before .threads .ensures) (c .before .loop-test .taken)
+
 write-values-requires : tie.Need-write-values-requires Inv-loop μ-loop
-write-values-requires c κs = let room = going-fits (c .before .before .before .loop .inv .going) (c .before .before .loop-test .taken) (c .before .before .before .before .before .before .before .pre .room) in search needs
+write-values-requires c κs =
+    let low = thread-low (c .before .before .before .before .before .before .before .pre .accepted) (c .before .before .before .before .threads .ensures) (c .before .before .loop-test .taken) in
+    record {
+      accepted = c .before .before .before .before .before .before .before .pre .accepted;
+      thread = search needs;
+      nothing = c .before .before .before .loop .inv .held .none _ (omega arith) low;
+      room = going-fits (c .before .before .before .loop .inv .going) (c .before .before .loop-test .taken) (c .before .before .before .before .before .before .before .pre .room);
+    }
 
 add-thread : tie.Need-add-thread Inv-loop μ-loop
 add-thread c = search needs
@@ -31,7 +45,7 @@ loop-less : tie.Need-loop-less Inv-loop μ-loop
 loop-less c = search needs
 
 loop-again : tie.Need-loop-again Inv-loop μ-loop
-loop-again c = taking-more _ (c .before .before .before .before .before .before .loop .inv) (c .before .before .before .before .before .loop-test .taken) (c .before .before .write-values .ensures)
+loop-again c = taking-more _ (c .before .before .before .before .before .before .loop .inv) (c .before .before .before .before .before .loop-test .taken) (thread-low (c .before .before .before .before .before .before .before .before .before .before .pre .accepted) (c .before .before .before .before .before .before .before .threads .ensures) (c .before .before .before .before .before .loop-test .taken)) (c .before .before .write-values .ensures)
 
 same-length : tie.Need-same-length Inv-loop μ-loop
 same-length c = c .before .loop .inv .going .writes .same
@@ -48,6 +62,8 @@ write-all-values-spec =
     threads-requires
     cast-threads
     loop-holds
+    mul-write-values
+    index-1-write-values
     write-values-requires
     add-thread
     loop-less

@@ -30,11 +30,17 @@ items-requires c κs = search needs
 loop-holds : tie.Need-loop-holds Inv-loop μ-loop
 loop-holds c = going-start (items-all _ _ _ (c .items .ensures .is))
 
+mul-copy-of : tie.Need-mul-copy-of Inv-loop μ-loop
+mul-copy-of c = omega (arith, block-thread _ (c .before .before .before .before .before .before .pre .accepted) (c .before .before .before .before .before .before .args .i) _ (c .before .before .before .threads .ensures))
+
+index-1-copy-of : tie.Need-index-1-copy-of Inv-loop μ-loop
+index-1-copy-of c = block-thread _ (c .before .before .before .before .before .before .pre .accepted) _ _ (c .before .before .before .threads .ensures)
+
 add-copy-of : tie.Need-add-copy-of Inv-loop μ-loop
 add-copy-of c = search needs
 
 copy-of-requires : tie.Need-copy-of-requires Inv-loop μ-loop
-copy-of-requires c κs = block-thread _ (c .before .before .before .before .before .before .pre .accepted) _ _ (c .before .before .before .threads .ensures)
+copy-of-requires c κs = search needs
 
 cast-item-row : tie.Need-cast-item-row Inv-loop μ-loop
 cast-item-row c = search needs
@@ -44,11 +50,11 @@ item-row-requires c κs = search needs
 
 put-row-requires : tie.Need-put-row-requires Inv-loop μ-loop
 unfolding numbersOf
-put-row-requires c κs = going-fits (c .before .before .before .before .loop .inv) (c .before .before .before .loop-test .taken) (c .before .before .before .before .before .before .before .before .before .pre .room)
+put-row-requires c κs = going-fits (c .before .before .before .before .before .loop .inv) (c .before .before .before .before .loop-test .taken) (c .before .before .before .before .before .before .before .before .before .before .pre .room)
 
 add-at : tie.Need-add-at Inv-loop μ-loop
 unfolding numbersOf
-add-at c = let fits = going-fits (c .before .before .before .before .before .before .before .loop .inv) (c .before .before .before .before .before .before .loop-test .taken) (c .before .before .before .before .before .before .before .before .before .before .before .before .pre .room) in omega arith
+add-at c = let fits = going-fits (c .before .before .before .before .before .before .before .before .loop .inv) (c .before .before .before .before .before .before .before .loop-test .taken) (c .before .before .before .before .before .before .before .before .before .before .before .before .before .pre .room) in omega arith
 
 add-g : tie.Need-add-g Inv-loop μ-loop
 add-g c = search needs
@@ -58,8 +64,8 @@ loop-less c = search needs
 
 loop-again : tie.Need-loop-again Inv-loop μ-loop
 loop-again c =
-    let row = item-put _ (c .before .before .before .before .before .before .before .before .before .before .before .before .pre .accepted) _ (c .before .before .before .before .before .before .before .before .before .before .before .before .pre .held) _ _ _ _ _ _ _ _ (search needs) (c .before .before .before .before .before .before .before .before .before .threads .ensures) (c .before .before .before .before .before .copy-of .ensures) (c .before .before .before .before .item-row .ensures) (c .before .before .put-row .ensures) in
-    going-more (c .before .before .before .before .before .before .before .loop .inv) (c .before .before .before .before .before .before .loop-test .taken) row
+    let row = item-put _ (c .before .before .before .before .before .before .before .before .before .before .before .before .before .pre .accepted) _ (c .before .before .before .before .before .before .before .before .before .before .before .before .before .pre .held) _ _ _ _ _ _ _ _ (search needs) (c .before .before .before .before .before .before .before .before .before .before .threads .ensures) (c .before .before .before .before .before .copy-of .ensures) (c .before .before .before .before .item-row .ensures) (c .before .before .put-row .ensures) in
+    going-more (c .before .before .before .before .before .before .before .before .loop .inv) (c .before .before .before .before .before .before .before .loop-test .taken) row
 
 same-length : tie.Need-same-length Inv-loop μ-loop
 same-length c = c .before .loop .inv .writes .same
@@ -78,6 +84,8 @@ write-items-spec =
     rem-t
     items-requires
     loop-holds
+    mul-copy-of
+    index-1-copy-of
     add-copy-of
     copy-of-requires
     cast-item-row

@@ -3,22 +3,23 @@ use borrow.Author.Needs.{needs}
 use mathlib.Core.Path.{refl}
 use native.Mathlib.Omega.{arith}
 use lib.ListN.{length}
-use Rattle.model.specs.CaseFile.{kindOf, caseOf}
+use Rattle.model.specs.CaseFile.{kindOf, globalCount, caseOf}
 use Rattle.laws.specs.Accepted.{linesFrom}
 use Rattle.laws.proofs.Following.{lines-less}
 use Rattle.laws.proofs.Sizes.{value-count-at-most}
-use Rattle.copies.specs.Held.{Held}
+use Rattle.model.specs.Copies.{walkLines}
+use Rattle.copies.specs.Held.{HeldAfter}
 use Rattle.encoder.specs.Parts.{valueNumbers}
 use Rattle.encoder.proofs.Walking.{values, Walking, walking-start, walking-end, walking-whole}
-use Rattle.encoder.proofs.Lines.{thread-low, value-room, value-step, thread-taken}
+use Rattle.encoder.proofs.Lines.{value-room, value-step, thread-taken}
 use Rattle.encoder.proofs.write_values.Statement.{statement}
 use Rattle.encoder.proofs.write_values.Tie as tie
 
 abbrev Inv-loop : tie.InvT-loop
-Inv-loop case table₀ start t latest₀ globals at₀ k₀ table latest at k = Walking case t (values (caseOf case)) (Held (caseOf case) latest t) k (valueNumbers case t) table₀ start table at
+Inv-loop case table₀ start t held₀ globals at₀ k₀ table held at k = Walking case t (values (caseOf case)) (HeldAfter (globalCount case) held) k (valueNumbers case t) table₀ start table at
 
 abbrev μ-loop : tie.MeasureT-loop
-μ-loop case table₀ start t latest₀ globals at₀ k₀ table latest at k = length (linesFrom case t k)
+μ-loop case table₀ start t held₀ globals at₀ k₀ table held at k = length (linesFrom case t k)
 
 globals-requires : tie.Need-globals-requires Inv-loop μ-loop
 globals-requires c κs = search needs
@@ -30,8 +31,8 @@ first-of-requires : tie.Need-first-of-requires Inv-loop μ-loop
 first-of-requires c κs = search needs
 
 loop-holds : tie.Need-loop-holds Inv-loop μ-loop
-unfolding valueNumbers
-loop-holds c = walking-start (c .before .before .before .before .pre .accepted) (c .before .before .before .before .pre .thread) (c .first-of .ensures) (c .before .before .before .before .pre .held) refl
+unfolding valueNumbers walkLines
+loop-holds c = walking-start (c .before .before .before .before .pre .accepted) (c .before .before .before .before .pre .thread) (c .first-of .ensures) (c .before .before .before .before .pre .nothing) refl
 
 cast-record-at : tie.Need-cast-record-at Inv-loop μ-loop
 cast-record-at c = search needs
@@ -39,53 +40,37 @@ cast-record-at c = search needs
 record-at-requires : tie.Need-record-at-requires Inv-loop μ-loop
 record-at-requires c κs = search needs
 
-target-name-requires : tie.Need-target-name-requires Inv-loop μ-loop
-target-name-requires c κs = search needs
-
 cast-line : tie.Need-cast-line Inv-loop μ-loop
 cast-line c = search needs
 
-put-values-requires : tie.Need-put-values-requires Inv-loop μ-loop
-put-values-requires c κs =
-    let v = c .before .before .before .before .before .loop .inv in
-    let some = c .before .before .before .before .loop-test .taken in
-    let l = c .before .before .before .record-at .ensures in
-    let pre = c .before .before .before .before .before .before .before .before .before .before .pre in
-    let low = thread-low v (pre .accepted) some l (pre .thread) in
-    let room = value-room v (pre .accepted) some l refl (pre .room) in
-    search needs
+take-line-requires : tie.Need-take-line-requires Inv-loop μ-loop
+take-line-requires c κs = search needs
 
-take-copy-requires : tie.Need-take-copy-requires Inv-loop μ-loop
-take-copy-requires c κs = search needs
+put-values-requires : tie.Need-put-values-requires Inv-loop μ-loop
+put-values-requires c κs = value-room (c .before .before .before .before .before .loop .inv) (c .before .before .before .before .before .before .before .before .before .before .pre .accepted) (c .before .before .before .before .loop-test .taken) (c .before .before .before .record-at .ensures) refl (c .before .before .before .before .before .before .before .before .before .before .pre .room)
 
 value-rows-requires : tie.Need-value-rows-requires Inv-loop μ-loop
 value-rows-requires c κs = search needs
 
 mul-at : tie.Need-mul-at Inv-loop μ-loop
-mul-at c = omega (arith, value-count-at-most (kindOf (c .before .before .before .before .before .before .before .before .before .record-at .result .kind)), c .value-rows .ensures)
+mul-at c = omega (arith, value-count-at-most (kindOf (c .before .before .before .before .before .before .before .record-at .result .kind)), c .value-rows .ensures)
 
 add-at : tie.Need-add-at Inv-loop μ-loop
 add-at c =
-    let v = c .before .before .before .before .before .before .before .before .before .before .before .loop .inv in
-    let room = value-room v (c .before .before .before .before .before .before .before .before .before .before .before .before .before .before .before .before .pre .accepted) (c .before .before .before .before .before .before .before .before .before .before .loop-test .taken) (c .before .before .before .before .before .before .before .before .before .record-at .ensures) (c .value-rows .ensures) (c .before .before .before .before .before .before .before .before .before .before .before .before .before .before .before .before .pre .room) in
+    let v = c .before .before .before .before .before .before .before .before .before .loop .inv in
+    let room = value-room v (c .before .before .before .before .before .before .before .before .before .before .before .before .before .before .pre .accepted) (c .before .before .before .before .before .before .before .before .loop-test .taken) (c .before .before .before .before .before .before .before .record-at .ensures) (c .value-rows .ensures) (c .before .before .before .before .before .before .before .before .before .before .before .before .before .before .pre .room) in
     omega arith
 
 next-of-requires : tie.Need-next-of-requires Inv-loop μ-loop
 next-of-requires c κs = search needs
 
 loop-less : tie.Need-loop-less Inv-loop μ-loop
-loop-less c = lines-less _ (c .before .before .before .before .before .before .before .before .before .before .before .before .before .before .before .before .before .pre .accepted) _ _ (c .before .before .before .before .before .before .before .before .before .before .before .loop-test .taken) (c .before .before .before .before .before .before .before .before .before .before .before .before .loop .inv .low) _ (c .next-of .ensures)
+loop-less c = lines-less _ (c .before .before .before .before .before .before .before .before .before .before .before .before .before .before .before .pre .accepted) _ _ (c .before .before .before .before .before .before .before .before .before .loop-test .taken) (c .before .before .before .before .before .before .before .before .before .before .loop .inv .low) _ (c .next-of .ensures)
 
 loop-again : tie.Need-loop-again Inv-loop μ-loop
 loop-again c =
-    let v = c .before .before .before .before .before .before .before .before .before .before .before .before .loop .inv in
-    let l = c .before .before .before .before .before .before .before .before .before .before .record-at .ensures in
-    let rows = c .before .before .before .before .before .before .put-values .ensures in
-    let target = c .before .before .before .before .before .before .before .before .before .target-name .ensures in
-    let width = c .before .value-rows .ensures in
-    let taken = c .before .before .take-copy .ensures in
-    let pre = c .before .before .before .before .before .before .before .before .before .before .before .before .before .before .before .before .before .pre in
-    value-step v (pre .accepted) (c .before .before .before .before .before .before .before .before .before .before .before .loop-test .taken) l (c .before .before .before .before .before .before .before .before .before .before .before .before .before .before .globals .ensures) rows width (pre .thread) target taken (c .next-of .ensures)
+    value-step (c .before .before .before .before .before .before .before .before .before .before .loop .inv) (c .before .before .before .before .before .before .before .before .before .before .before .before .before .before .before .pre .accepted) (c .before .before .before .before .before .before .before .before .before .loop-test .taken) (c .before .before .before .before .before .before .before .before .record-at .ensures) (c .before .before .before .before .before .before .before .before .before .before .before .before .globals .ensures) (c .before .before .before .before .before .before .take-line .ensures .0) (c .before .before .before .before .before .before .take-line .ensures .1) (c .before .before .before .before .put-values .ensures)
+    (c .before .value-rows .ensures) (c .next-of .ensures)
 
 same-length : tie.Need-same-length Inv-loop μ-loop
 same-length c = c .before .loop .inv .writes .same
@@ -93,7 +78,7 @@ same-length c = c .before .loop .inv .writes .same
 returns : tie.Need-returns Inv-loop μ-loop
 returns c =
     let done = c .loop-test .left in
-    record { put = walking-end (c .before .loop .inv) done; held = thread-taken _ _ _ _ (c .before .before .before .before .before .before .pre .thread) (c .before .loop .inv .known) (walking-whole (c .before .loop .inv) done) }
+    record { put = walking-end (c .before .loop .inv) done; all = thread-taken _ _ (c .before .before .before .before .before .before .pre .thread) (c .before .loop .inv .known) (walking-whole (c .before .loop .inv) done) }
 
 pub write-values-spec : {M : Type 1} → statement M
 write-values-spec =
@@ -107,10 +92,9 @@ write-values-spec =
     loop-holds
     cast-record-at
     record-at-requires
-    target-name-requires
     cast-line
+    take-line-requires
     put-values-requires
-    take-copy-requires
     value-rows-requires
     mul-at
     add-at

@@ -1,8 +1,8 @@
 -- `put_values` writes a line's 4 and its 5. Assumes nothing.
+use mathlib.Core.Path.{_∙_}
 use borrow.Author.Needs.{needs}
 use native.Mathlib.Omega.{arith}
 use Rattle.model.specs.CaseFile.{kindOf}
-use Rattle.case_file.specs.Records.{asLine}
 use Rattle.rows.proofs.Made.{some-row, values-are}
 use Rattle.rows.proofs.put_values.Statement.{statement}
 use Rattle.rows.proofs.put_values.Tie as tie
@@ -11,7 +11,7 @@ value-row-requires : tie.Need-value-row-requires
 value-row-requires c κs = search needs
 
 put-row-requires : tie.Need-put-row-requires
-put-row-requires c κs = omega (arith, some-row (kindOf (c .before .before .before .args .l .kind)))
+put-row-requires c κs = omega (arith, some-row (kindOf (c .before .before .before .args .kind)))
 
 add-put-demand : tie.Need-add-put-demand
 add-put-demand c = search needs
@@ -23,10 +23,7 @@ same-length : tie.Need-same-length
 same-length c = search needs
 
 returns : tie.Need-returns
-returns c = λ case earlier h eG.
-    let l = asLine (c .before .before .before .before .before .before .before .before .before .before .args .l) (c .before .before .before .before .before .before .before .before .before .before .args .k) in
-    let e = c .before .before .before .before .before .before .before .before .value-row .ensures case earlier h eG in
-    values-are case earlier l _ _ _ _ _ e (c .before .before .before .before .before .before .put-row .ensures) (c .before .before .put-demand .ensures case earlier l e)
+returns c = λ case earlier l e. values-are _ case earlier l _ _ _ _ _ _ e (c .before .before .before .before .before .before .before .before .value-row .ensures) (c .before .before .before .before .before .before .put-row .ensures) (c .before .before .put-demand .ensures case earlier l (c .before .before .before .before .before .before .before .before .value-row .ensures ∙ e))
 
 pub put-values-spec : {M : Type 1} → statement M
 put-values-spec =
