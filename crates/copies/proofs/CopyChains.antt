@@ -9,15 +9,15 @@ use borrow.Author.Tests.{eq-eqb}
 use lib.ListN.{length, getD, set, length-set, length-replicate, replicate}
 use lib.Seq.{getD-set-same, getD-set-other}
 use Rattle.model.specs.Limits.{mostThreads, recordPlaces}
-use Rattle.model.specs.CaseFile.{Line, Case, caseOf, linesOf, sumOfLines, sumOfThreads, hasNumber}
+use Rattle.model.specs.CaseFile.{Line, globalCount, Case, caseOf, linesOf, sumOfLines, sumOfThreads, hasNumber}
 use Rattle.model.specs.Line.{targetName}
-use Rattle.model.specs.Copies.{nothingHeld, heldCopy, takeLine, walkLines, heldAfter}
+use Rattle.model.specs.Copies.{copyOf, nothingHeld, heldCopy, takeLine, walkLines, heldAfter}
 use Rattle.laws.specs.Accepted.{Accepted}
 use Rattle.laws.proofs.Views.{EqView, same, diff, eq-view}
 use Rattle.laws.proofs.Counting.{own-number-counts, thread-sum-at-most}
 use Rattle.laws.proofs.Lines.{numbers-within, numbers-once}
 use Rattle.laws.proofs.ForwardWalk.{held-more, held-copy}
-use Rattle.copies.specs.CopyChains.{HasBefore, ThreadChains, CopyChains}
+use Rattle.copies.specs.CopyChains.{HasBefore, Noted, ThreadChains, CopyChains}
 use Rattle.copies.proofs.Held.{held-start, held-next}
 
 -- ---- Records that a thread's lines, or another thread's, do not have
@@ -43,37 +43,22 @@ has-before-kept G previous k p (l ∷ ls) none has = (
   has-before-kept G previous k p ls (omega arith) (has .1),
 )
 
--- ---- All threads, and one
+-- ---- The copies before the lines
 
-pub chains-start : (case : Case) (copies : List (List ℕ)) (previous : List ℕ) → copies ≡ replicate mostThreads nothingHeld
-    → previous ≡ replicate recordPlaces 0 → CopyChains case copies previous 0
-chains-start case copies previous ec ep = record {
-  latest = held-start case copies ec;
-  before = record { places = ap length ep ∙ length-replicate {A = ℕ} recordPlaces 0; done = λ u h. absurd (omega arith) };
-}
+pub noted-start : (case : Case) (previous : List ℕ) → previous ≡ replicate recordPlaces 0 → Noted case previous 0 []
+noted-start case previous e = record { places = ap length e ∙ length-replicate {A = ℕ} recordPlaces 0; done = λ u h. absurd (omega arith); own = tt }
 
-pub thread-start : {case : Case} {copies : List (List ℕ)} {previous : List ℕ} {t : ℕ} → CopyChains case copies previous t → t < mostThreads
-    → ThreadChains case (getD copies t []) previous t []
-unfolding walkLines
-thread-start {case} {copies} {previous} {t} v few = record { holds = v .latest .none t (omega arith) few; before = v .before; own = tt }
-
-pub chains-next :
-    {case : Case} {copies : List (List ℕ)} {was : List ℕ} {t : ℕ} → CopyChains case copies was t → t < mostThreads
-    → {held previous : List ℕ} {earlier : List Line} → ThreadChains case held previous t earlier → earlier ≡ reverse (linesOf case t)
-    → CopyChains case (set copies t held) previous (suc t)
-chains-next {case} {copies} {was} {t} v few {held} {previous} {earlier} w e = record {
-  latest = held-next case copies t (v .latest) few held (w .holds ∙ ap (heldAfter (case .G)) (ap reverse e ∙ reverse-reverse (linesOf case t)));
-  before = record { places = w .before .places; done = λ u h. go u h (eq-view u t) };
-}
+pub noted-next : {case : Case} {previous : List ℕ} {t : ℕ} {earlier : List Line} → Noted case previous t earlier
+    → earlier ≡ reverse (linesOf case t) → Noted case previous (suc t) []
+noted-next {case} {previous} {t} {earlier} v e = record { places = v .places; done = λ u h. go u h (eq-view u t); own = tt }
   where
     go : (u : ℕ) → u < suc t → EqView u t → HasBefore (case .G) previous (reverse (linesOf case u))
-    go u h (same p _) = rw (p, ← e) (w .own)
-    go u h (diff p _) = w .before .done u (omega arith)
+    go u h (same p _) = rw (p, ← e) (v .own)
+    go u h (diff p _) = v .done u (omega arith)
 
--- a line is taken
-module _ (bytes : List ℕ) (ok : Accepted bytes) {held previous : List ℕ} {t : ℕ} {earlier : List Line}
-    (v : ThreadChains (caseOf bytes) held previous t earlier) (l : Line) (later : List Line)
-    (lines : reverseAux (l ∷ later) earlier ≡ reverse (linesOf (caseOf bytes) t)) where
+-- one more line
+module _ (bytes : List ℕ) (ok : Accepted bytes) {previous : List ℕ} {t : ℕ} {earlier : List Line} (v : Noted (caseOf bytes) previous t earlier)
+    (l : Line) (later : List Line) (lines : reverseAux (l ∷ later) earlier ≡ reverse (linesOf (caseOf bytes) t)) where
   abbrev case : Case
   case = caseOf bytes
 
@@ -106,19 +91,44 @@ module _ (bytes : List ℕ) (ok : Accepted bytes) {held previous : List ℕ} {t 
         numbers-once bytes ok (l .number),
       )
 
-  pub chains-more : ThreadChains case (takeLine (case .G) held l) (set previous (l .number) (heldCopy held (targetName (case .G) l))) t (l ∷ earlier)
-  chains-more =
-      let p = heldCopy held (targetName (case .G) l) in
+  pub noted-more : {p : ℕ} → p ≡ copyOf (case .G) (targetName (case .G) l) earlier → Noted case (set previous (l .number) p) t (l ∷ earlier)
+  noted-more {p} e =
       let within = numbers-within bytes ok (l .number) (omega (arith, in-thread, once)) in
       record {
-        holds = ap (λ (xs : List ℕ). takeLine (case .G) xs l) (v .holds) ∙ sym (held-more (case .G) earlier l);
-        before = record {
-          places = length-set previous (l .number) p ∙ v .before .places;
-          done = λ u h. has-before-kept (case .G) previous (l .number) p (reverse (linesOf case u)) (elsewhere-none u h) (v .before .done u h);
-        };
+        places = length-set previous (l .number) p ∙ v .places;
+        done = λ u h. has-before-kept (case .G) previous (l .number) p (reverse (linesOf case u)) (elsewhere-none u h) (v .done u h);
         own = (
-          getD-set-same previous (l .number) p 0 (omega (arith, within .low, v .before .places, ok .few-records))
-          ∙ ap (λ (xs : List ℕ). heldCopy xs (targetName (case .G) l)) (v .holds) ∙ held-copy (case .G) (targetName (case .G) l) earlier,
+          getD-set-same previous (l .number) p 0 (omega (arith, within .low, v .places, ok .few-records)) ∙ e,
           has-before-kept (case .G) previous (l .number) p earlier not-earlier (v .own),
         );
       }
+
+-- ---- With what is held
+
+pub chains-start : (case : Case) (copies : List (List ℕ)) (previous : List ℕ) → copies ≡ replicate mostThreads nothingHeld
+    → previous ≡ replicate recordPlaces 0 → CopyChains case copies previous 0
+chains-start case copies previous ec ep = record { latest = held-start case copies ec; noted = noted-start case previous ep }
+
+pub thread-start : {case : Case} {copies : List (List ℕ)} {previous : List ℕ} {t : ℕ} → CopyChains case copies previous t → t < mostThreads
+    → ThreadChains case (getD copies t []) previous t []
+unfolding walkLines
+thread-start {case} {copies} {previous} {t} v few = record { holds = v .latest .none t (omega arith) few; noted = v .noted }
+
+pub chains-more :
+    (bytes : List ℕ) → Accepted bytes → {held previous : List ℕ} {t : ℕ} {earlier : List Line} → ThreadChains (caseOf bytes) held previous t earlier
+    → (l : Line) (later : List Line) → reverseAux (l ∷ later) earlier ≡ reverse (linesOf (caseOf bytes) t)
+    → ThreadChains (caseOf bytes) (takeLine (globalCount bytes) held l)
+    (set previous (l .number) (heldCopy held (targetName (globalCount bytes) l))) t (l ∷ earlier)
+chains-more bytes ok {held} {previous} {t} {earlier} v l later lines = record {
+  holds = ap (λ (xs : List ℕ). takeLine (globalCount bytes) xs l) (v .holds) ∙ sym (held-more (globalCount bytes) earlier l);
+  noted = noted-more bytes ok (v .noted) l later lines
+      (ap (λ (xs : List ℕ). heldCopy xs (targetName (globalCount bytes) l)) (v .holds) ∙ held-copy (globalCount bytes) (targetName (globalCount bytes) l) earlier);
+}
+
+pub chains-next :
+    {case : Case} {copies : List (List ℕ)} {was : List ℕ} {t : ℕ} → CopyChains case copies was t → t < mostThreads
+    → {held previous : List ℕ} → ThreadChains case held previous t (reverse (linesOf case t)) → CopyChains case (set copies t held) previous (suc t)
+chains-next {case} {copies} {was} {t} v few {held} {previous} w = record {
+  latest = held-next case copies t (v .latest) few held (w .holds ∙ ap (heldAfter (case .G)) (reverse-reverse (linesOf case t)));
+  noted = noted-next (w .noted) refl;
+}

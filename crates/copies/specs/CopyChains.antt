@@ -15,18 +15,18 @@ abbrev pub HasBefore : ℕ → List ℕ → List Line → Type 0
 HasBefore G previous [] = Unit
 HasBefore G previous (l ∷ earlier) = (getD previous (l .number) 0 ≡ copyOf G (targetName G l) earlier) × HasBefore G previous earlier
 
--- The copies before the lines of the threads before t.
-pub record ChainsBefore (case : Case) (previous : List ℕ) (t : ℕ) : Type 0 where
+-- The copies before the lines of the threads before t, and before these lines of thread t, latest first, are noted.
+pub record Noted (case : Case) (previous : List ℕ) (t : ℕ) (earlier : List Line) : Type 0 where
   pub places : length previous ≡ recordPlaces
   pub done : (u : ℕ) → u < t → HasBefore (case .G) previous (reverse (linesOf case u))
+  pub own : HasBefore (case .G) previous earlier
 
--- The chains after these and after these lines of thread t, latest first, which are held.
+-- The chains after these lines of thread t.
 pub record ThreadChains (case : Case) (held previous : List ℕ) (t : ℕ) (earlier : List Line) : Type 0 where
   pub holds : HeldAfter (case .G) held earlier
-  pub before : ChainsBefore case previous t
-  pub own : HasBefore (case .G) previous earlier
+  pub noted : Noted case previous t earlier
 
 -- The chains after all lines of the threads before t.
 pub record CopyChains (case : Case) (copies : List (List ℕ)) (previous : List ℕ) (t : ℕ) : Type 0 where
   pub latest : Held case copies t
-  pub before : ChainsBefore case previous t
+  pub noted : Noted case previous t []

@@ -7,6 +7,8 @@ use mathlib.Core.List.{List, [], _++_}
 use native.Mathlib.Omega.{arith}
 use native.Mathlib.Nat.{zero-add}
 use native.Mathlib.Numerals.{add-one}
+use lib.ListN.{getD, set}
+use Rattle.model.specs.Limits.{mostThreads}
 use Rattle.model.specs.CaseFile.{Case, threadCount, chains, caseOf, linesOf}
 use Rattle.model.specs.Assignment.{Assignment, assignmentOf}
 use Rattle.model.specs.Table.{allValueRows}
@@ -15,6 +17,8 @@ use Rattle.laws.proofs.Chains.{thread-count, threads-are}
 use Rattle.laws.proofs.OrderRows.{order-of-all-rows}
 use Rattle.laws.proofs.Following.{chains-more, chains-end}
 use Rattle.copies.specs.CopyChains.{CopyChains}
+use Rattle.copies.proofs.CopyChains.{thread-start}
+use Rattle.copies.proofs.CopyChains as copy-chains
 use Rattle.search.proofs.Search.{Searching, searching-start, searching-end, searching-fits, searching-found, searching-more}
 use Rattle.value_check.specs.declared.Walk.{Walk}
 use Rattle.value_check.specs.Rows.{threadValues, allValues, ThreadOrdered, AllOrdered}
@@ -33,7 +37,7 @@ pub record AllWalk (bytes xs : List ℕ) (start to : ℕ) (latest : List (List �
   pub none : walk .failed ≡ 0
   pub upto : t ≤ to
   pub seeks : Searching bytes xs start (allValues bytes) (walk .next) (allValueRows (caseOf bytes) (chains bytes t (to - t)))
-  pub copies : CopyChains (caseOf bytes) latest previous t []
+  pub copies : CopyChains (caseOf bytes) latest previous t
   pub breaking : breakingIn (caseOf bytes) (assignmentOf (caseOf bytes) xs) (walk .broken) (chains bytes t (to - t)) ≡ firstBreaking bytes xs
 
 module _ {bytes xs : List ℕ} {start : ℕ} {latest₀ : List (List ℕ)} {previous₀ : List ℕ} (pre : AllToAsk bytes xs start latest₀ previous₀)
@@ -67,28 +71,31 @@ module _ {bytes xs : List ℕ} {start : ℕ} {latest₀ : List (List ℕ)} {prev
       unfolding allValueRows
       split = ap (allValueRows case) (chains-more bytes t to h)
 
-      pub all-next : ThreadToAsk bytes xs t (walk .next) latest previous
+      pub all-low : t < mostThreads
+      all-low = omega (arith, pre .accepted .few-threads)
+
+      pub all-next : ThreadToAsk bytes xs t (walk .next) (getD latest t []) previous
       all-next =
           let few : t < threadCount bytes = omega arith in
           record {
             accepted = pre .accepted;
             thread = few;
             numbers = searching-fits (v .seeks) (pre .numbers) (threadValues bytes t) _ split;
-            chains = v .copies;
+            chains = thread-start (v .copies) all-low;
             ordered = thread-ordered bytes xs (pre .ordered) t few;
           }
 
-      module _ {latest' : List (List ℕ)} {previous' : List ℕ} {r : Walk} (asked : ThreadAsked bytes xs t walk latest' previous' r) where
-        pub all-found : r .failed ≢ 0 → AllAsked bytes xs start latest' previous' r
+      module _ {held previous' : List ℕ} {r : Walk} (asked : ThreadAsked bytes xs t walk held previous' r) where
+        pub all-found : r .failed ≢ 0 → AllAsked bytes xs start (set latest t held) previous' r
         all-found some = record { found = searching-found (v .seeks) (asked .found) _ split some (r .next); walked = λ none. absurd (some none) }
 
-        pub all-more : r .failed ≡ 0 → AllWalk bytes xs start to latest' previous' r (t + 1)
+        pub all-more : r .failed ≡ 0 → AllWalk bytes xs start to (set latest t held) previous' r (t + 1)
         unfolding breakingIn
         all-more none = record {
           none = none;
           upto = omega arith;
           seeks = searching-more (v .seeks) (asked .found) split none;
-          copies = rw add-one (asked .walked none .chains);
+          copies = rw add-one (copy-chains.chains-next (v .copies) all-low (asked .walked none .chains));
           breaking = ap (λ (x : ℕ). breakingIn case α x (chains bytes (t + 1) (to - (t + 1)))) (asked .walked none .breaking)
               ∙ sym (ap (breakingIn case α (walk .broken)) (chains-more bytes t to h)) ∙ v .breaking;
         }

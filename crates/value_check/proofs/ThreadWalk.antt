@@ -29,8 +29,8 @@ use Rattle.case_file.specs.Records.{recordOf, asLine}
 use Rattle.line.specs.CaseCounts.{HasCounts}
 use Rattle.line.specs.LineReads.{memory, readsBy}
 use Rattle.line.specs.declared.Counts.{Counts}
-use Rattle.copies.specs.CopyChains.{CopyChains}
-use Rattle.copies.proofs.CopyChains.{chains-next, chains-more}
+use Rattle.copies.specs.CopyChains.{ThreadChains}
+use Rattle.copies.proofs.CopyChains.{chains-more}
 use Rattle.assignment.specs.Numbers.{recordBlock, recordValue, StartOf}
 use Rattle.search.specs.Search.{Searched}
 use Rattle.search.proofs.Search.{Searching, searching-start, searching-end, searching-room, searching-found, searching-more}
@@ -44,7 +44,7 @@ use Rattle.value_check.proofs.Asking.{value-asked}
 use Rattle.value_check.proofs.LineRows.{line-fails}
 use Rattle.value_check.proofs.Reading.{Reading, reading-start, reading-later, reading-reads, reading-more}
 
-pub record ThreadWalk (bytes xs : List ℕ) (t start was : ℕ) (latest : List (List ℕ)) (previous locals items : List ℕ) (block broken at k : ℕ) : Type 0 where
+pub record ThreadWalk (bytes xs : List ℕ) (t start was : ℕ) (held previous locals items : List ℕ) (block broken at k : ℕ) : Type 0 where
   pub earlier : List Line
   pub low : k ≤ records bytes
   pub whole : reverseAux (linesFrom bytes t k) earlier ≡ reverse (linesOf (caseOf bytes) t)
@@ -53,11 +53,11 @@ pub record ThreadWalk (bytes xs : List ℕ) (t start was : ℕ) (latest : List (
   -- what is kept is not read after a line that was not run: no line after it was
   pub reading : wasRun (caseOf bytes) block ≡ true → Reading (caseOf bytes) (assignmentOf (caseOf bytes) xs) earlier block (memory locals items (itemCount (caseOf bytes)))
   pub seeks : Searching bytes xs start (threadValues bytes t) at (valueRows (caseOf bytes) earlier (linesFrom bytes t k))
-  pub chains : CopyChains (caseOf bytes) latest previous t earlier
+  pub chains : ThreadChains (caseOf bytes) held previous t earlier
   pub breaking : breakingAfter (caseOf bytes) (assignmentOf (caseOf bytes) xs) broken earlier (linesFrom bytes t k)
       ≡ breakingAfter (caseOf bytes) (assignmentOf (caseOf bytes) xs) was [] (threadLines bytes t)
 
-module _ {bytes xs : List ℕ} {t start : ℕ} {latest₀ : List (List ℕ)} {previous₀ : List ℕ} (pre : ThreadToAsk bytes xs t start latest₀ previous₀) where
+module _ {bytes xs : List ℕ} {t start : ℕ} {held₀ previous₀ : List ℕ} (pre : ThreadToAsk bytes xs t start held₀ previous₀) where
   abbrev ok : Accepted bytes
   ok = pre .accepted
 
@@ -68,7 +68,7 @@ module _ {bytes xs : List ℕ} {t start : ℕ} {latest₀ : List (List ℕ)} {pr
   α = assignmentOf case xs
 
   pub walk-start : (was k : ℕ) (items : List ℕ) → k ≡ firstRecord bytes t → StartOf bytes xs 0 items
-      → ThreadWalk bytes xs t start was latest₀ previous₀ (replicate localCount 0) items 0 was start k
+      → ThreadWalk bytes xs t start was held₀ previous₀ (replicate localCount 0) items 0 was start k
   walk-start was k items e starts = rw e (record {
     earlier = [];
     low = ok .firsts t (pre .thread);
@@ -81,8 +81,8 @@ module _ {bytes xs : List ℕ} {t start : ℕ} {latest₀ : List (List ℕ)} {pr
     breaking = refl;
   })
 
-  module _ {was : ℕ} {latest : List (List ℕ)} {previous locals items : List ℕ} {block broken at k : ℕ}
-      (v : ThreadWalk bytes xs t start was latest previous locals items block broken at k) where
+  module _ {was : ℕ} {held previous locals items : List ℕ} {block broken at k : ℕ}
+      (v : ThreadWalk bytes xs t start was held previous locals items block broken at k) where
     module _ (e : k ≡ 0) where
       done : linesFrom bytes t k ≡ []
       done = lines-end bytes t k e
@@ -91,10 +91,10 @@ module _ {bytes xs : List ℕ} {t start : ℕ} {latest₀ : List (List ℕ)} {pr
       unfolding valueRows
       walk-end = searching-end (v .seeks) (ap (valueRows case (v .earlier)) done) 0 refl
 
-      pub walk-notes : ThreadWalked bytes xs t was latest previous broken
+      pub walk-notes : ThreadWalked bytes xs t was held previous broken
       unfolding breakingAfter
       walk-notes = record {
-        chains = chains-next (v .chains) (sym (ap (λ (ls : List Line). reverseAux ls (v .earlier)) done) ∙ v .whole);
+        chains = subst (ThreadChains case held previous t) (sym (ap (λ (ls : List Line). reverseAux ls (v .earlier)) done) ∙ v .whole) (v .chains);
         breaking = sym (ap (breakingAfter case α broken (v .earlier)) done) ∙ v .breaking;
       }
 
@@ -185,11 +185,11 @@ module _ {bytes xs : List ℕ} {t start : ℕ} {latest₀ : List (List ℕ)} {pr
               unfolding breakingAfter
               breaking-rest = rw (eb, breaks-are) (sym (ap (breakingAfter case α broken (v .earlier)) more) ∙ v .breaking)
 
-              pub walk-more : {latest' : List (List ℕ)} {previous' : List ℕ} → CopyNoted t (r .name) k previous latest previous' latest'
+              pub walk-more : {held' previous' : List ℕ} → CopyNoted (r .name) k previous held previous' held'
                   → (locals' items'' : List ℕ) → locals' ≡ putLocal true (r .name) value locals
                   → take (counts .items) items'' ≡ putItem true (r .name) value (take (counts .items) items')
                   → (next : ℕ) → next ≡ nextRecord bytes k
-                  → ThreadWalk bytes xs t start was latest' previous' locals' items'' i broken' (at + n) next
+                  → ThreadWalk bytes xs t start was held' previous' locals' items'' i broken' (at + n) next
               walk-more noted locals' items'' elo eit next ex = rw (ex, walk-place en) (record {
                 earlier = line ∷ v .earlier;
                 low = next-low bytes ok t k some (v .low);
@@ -198,7 +198,7 @@ module _ {bytes xs : List ℕ} {t start : ℕ} {latest₀ : List (List ℕ)} {pr
                 ordered = subst (λ (x : ℕ). Ordered case (α .block) t x rest) own-block (in-order .1);
                 reading = λ was-run. rw (elo, put-items, asks .naming) (reading-more case α (reading-in entered (entered .asked ∙ was-run)) line own-block value own-value (omega arith));
                 seeks = searching-more (v .seeks) here split none;
-                chains = rw (noted .notes, noted .takes, asks .naming) (chains-more bytes ok (v .chains) (omega (arith, ok .few-threads)) line rest whole);
+                chains = rw (noted .notes, noted .takes, asks .naming) (chains-more bytes ok (v .chains) line rest whole);
                 breaking = breaking-rest;
               })
                 where

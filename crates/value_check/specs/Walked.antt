@@ -5,29 +5,23 @@ use mathlib.Core.Path.{_≡_}
 use mathlib.Core.Logic.{_≢_}
 use Prim.Native.Nat.{ℕ, suc, _≤_, _<_}
 use mathlib.Core.Bool.{Bool, true, false}
-use mathlib.Core.List.{List, []}
+use mathlib.Core.List.{List, [], reverse}
 use lib.ListN.{set}
-use Rattle.model.specs.Limits.{mostThreads, recordPlaces}
-use Rattle.model.specs.CaseFile.{threadCount, caseOf}
+use Rattle.model.specs.CaseFile.{threadCount, caseOf, linesOf}
+use Rattle.model.specs.Copies.{heldCopy, takeCopy}
 use Rattle.model.specs.Assignment.{assignmentOf, wasRun}
 use Rattle.laws.specs.Accepted.{Accepted, threadLines}
-use Rattle.copies.specs.Held.{copyIn, withCopy}
-use Rattle.copies.specs.CopyChains.{CopyChains}
+use Rattle.copies.specs.CopyChains.{ThreadChains, CopyChains}
 use Rattle.assignment.specs.Numbers.{StartOf}
 use Rattle.search.specs.Search.{Searched, Room}
 use Rattle.value_check.specs.declared.Walk.{Walk}
 use Rattle.value_check.specs.Rows.{threadValues, allValues, ThreadOrdered, AllOrdered}
 use Rattle.value_check.specs.Breaking.{breakingAfter, firstBreaking}
 
--- A thread and a record that have their places in the arrays of copies.
-pub record HasPlaces (t k : ℕ) : Type 0 where
-  pub thread : t < mostThreads
-  pub number : k < recordPlaces
-
--- Record k is the latest copy of a name in thread t, and the copy before it is noted for it.
-pub record CopyNoted (t name k : ℕ) (previous : List ℕ) (latest : List (List ℕ)) (previous' : List ℕ) (latest' : List (List ℕ)) : Type 0 where
-  pub notes : previous' ≡ set previous k (copyIn latest t name)
-  pub takes : latest' ≡ withCopy latest t name k
+-- Line k is taken, whose target has this name, and the copy before it is noted for it.
+pub record CopyNoted (name k : ℕ) (previous held previous' held' : List ℕ) : Type 0 where
+  pub notes : previous' ≡ set previous k (heldCopy held name)
+  pub takes : held' ≡ takeCopy held name k
 
 -- An accepted case, and a block number that a line can have, run or not.
 pub record AtLine (bytes : List ℕ) (i : ℕ) : Type 0 where
@@ -42,33 +36,33 @@ pub record Entered (bytes xs : List ℕ) (block i : ℕ) (items items' : List �
   pub enters : run ≡ true → i ≢ block → StartOf bytes xs i items'
 
 -- After thread t's lines, of which all 4s and 5s hold.
-pub record ThreadWalked (bytes xs : List ℕ) (t was : ℕ) (latest : List (List ℕ)) (previous : List ℕ) (broken : ℕ) : Type 0 where
-  pub chains : CopyChains (caseOf bytes) latest previous (suc t) []
+pub record ThreadWalked (bytes xs : List ℕ) (t was : ℕ) (held previous : List ℕ) (broken : ℕ) : Type 0 where
+  pub chains : ThreadChains (caseOf bytes) held previous t (reverse (linesOf (caseOf bytes) t))
   pub breaking : broken ≡ breakingAfter (caseOf bytes) (assignmentOf (caseOf bytes) xs) was [] (threadLines bytes t)
 
 -- Before thread t's lines, the first constraint having number `start`.
-pub record ThreadToAsk (bytes xs : List ℕ) (t start : ℕ) (latest : List (List ℕ)) (previous : List ℕ) : Type 0 where
+pub record ThreadToAsk (bytes xs : List ℕ) (t start : ℕ) (held previous : List ℕ) : Type 0 where
   pub accepted : Accepted bytes
   pub thread : t < threadCount bytes
   pub numbers : Room start (threadValues bytes t)
-  pub chains : CopyChains (caseOf bytes) latest previous t []
+  pub chains : ThreadChains (caseOf bytes) held previous t []
   pub ordered : ThreadOrdered bytes xs t
 
 -- Which of thread t's 4s and 5s fails first, after a walk over the threads before it; and if none does, what is left.
-pub record ThreadAsked (bytes xs : List ℕ) (t : ℕ) (from : Walk) (latest : List (List ℕ)) (previous : List ℕ) (r : Walk) : Type 0 where
+pub record ThreadAsked (bytes xs : List ℕ) (t : ℕ) (from : Walk) (held previous : List ℕ) (r : Walk) : Type 0 where
   pub found : Searched bytes xs (from .next) (threadValues bytes t) (r .failed) (r .next)
-  pub walked : r .failed ≡ 0 → ThreadWalked bytes xs t (from .broken) latest previous (r .broken)
+  pub walked : r .failed ≡ 0 → ThreadWalked bytes xs t (from .broken) held previous (r .broken)
 
 -- After all threads' lines.
 pub record AllWalked (bytes xs : List ℕ) (latest : List (List ℕ)) (previous : List ℕ) (broken : ℕ) : Type 0 where
-  pub chains : CopyChains (caseOf bytes) latest previous (threadCount bytes) []
+  pub chains : CopyChains (caseOf bytes) latest previous (threadCount bytes)
   pub breaking : broken ≡ firstBreaking bytes xs
 
 -- Before all threads' lines, the first constraint having number `start`.
 pub record AllToAsk (bytes xs : List ℕ) (start : ℕ) (latest : List (List ℕ)) (previous : List ℕ) : Type 0 where
   pub accepted : Accepted bytes
   pub numbers : Room start (allValues bytes)
-  pub chains : CopyChains (caseOf bytes) latest previous 0 []
+  pub chains : CopyChains (caseOf bytes) latest previous 0
   pub ordered : AllOrdered bytes xs
 
 -- Which of all 4s and 5s fails first; and if none does, what is left.

@@ -3,10 +3,10 @@
 ghost use mathlib.Core.Path.{_≡_};
 ghost use mathlib.Core.Bool.{true, false};
 ghost use Prim.Native.Nat.{_<_};
-ghost use Rattle.model.specs.Limits.{mostConstraints};
+ghost use Rattle.model.specs.Limits.{mostConstraints, recordPlaces};
 ghost use Rattle.line.specs.CaseCounts.{Few};
 ghost use Rattle.value_check.specs.Asking.{AskedWhere, AskedUnrun, AskedOf, failingAsked};
-ghost use Rattle.value_check.specs.Walked.{HasPlaces, CopyNoted, AtLine, Entered, ThreadToAsk, ThreadAsked, AllToAsk, AllAsked};
+ghost use Rattle.value_check.specs.Walked.{CopyNoted, AtLine, Entered, ThreadToAsk, ThreadAsked, AllToAsk, AllAsked};
 use assignment::block_of;
 use assignment::start_of_block;
 use assignment::value_of;
@@ -16,7 +16,6 @@ use case_file::first_of;
 use case_file::next_of;
 use case_file::record_at;
 use case_file::threads;
-use copies::copy_of;
 use copies::take_copy;
 use line::Counts;
 use line::counts_of;
@@ -193,20 +192,18 @@ fn line_failing(at: u16, asked: Asked, value: u16) -> u16
     at + 1
 }
 
-// Record k is the latest copy of a name in thread t, after the copy before it is noted for it.
+// Line k is taken, whose target has this name, and the copy before it is noted for it.
 fn note_copy(
     previous: &mut [u16; RECORD_PLACES],
-    latest: &mut [[u16; NAMES]; THREADS],
-    t: u16,
+    held: &mut [u16; NAMES],
     name: usize,
     k: u16,
 )
-    requires { ⌜ HasPlaces t k ⌝ }
-    ensures { λ x. ⌜ CopyNoted t name k (now (previous .entry)) (now (latest .entry)) (now (previous .exit)) (now (latest .exit)) ⌝ }
+    requires { ⌜ k < recordPlaces ⌝ }
+    ensures { λ x. ⌜ CopyNoted name k (now (previous .entry)) (now (held .entry)) (now (previous .exit)) (now (held .exit)) ⌝ }
 {
     let own = k as usize;
-    previous[own] = copy_of(latest, t as usize, name);
-    take_copy(latest, t as usize, name, k);
+    previous[own] = take_copy(held, name, k);
 }
 
 // Whether a line with block number i was run. If so, its thread goes on in block i: the items' values stay where it is the same block,
@@ -232,17 +229,17 @@ fn enter_block(
 }
 
 // The 4s and 5s of thread t, after a walk over those of the threads before it. The values of its locals, and of the items in its
-// block, are kept along its chain; so are the latest copy of each of its names, and for each record the copy before it.
+// block, are kept along its chain; each line is taken once, and the copy before it is noted for its record.
 fn thread_values(
     case: &[u8],
     assignment: &[u16],
     previous: &mut [u16; RECORD_PLACES],
-    latest: &mut [[u16; NAMES]; THREADS],
+    held: &mut [u16; NAMES],
     t: u16,
     from: Walk,
 ) -> Walk
-    requires { ⌜ ThreadToAsk (now case) (now assignment) t (from .next) (now latest) (now previous) ⌝ }
-    ensures { λ r. ⌜ ThreadAsked (now (case .entry)) (now (assignment .entry)) t from (now (latest .exit)) (now (previous .exit)) r ⌝ }
+    requires { ⌜ ThreadToAsk (now case) (now assignment) t (from .next) (now held) (now previous) ⌝ }
+    ensures { λ r. ⌜ ThreadAsked (now (case .entry)) (now (assignment .entry)) t from (now (held .exit)) (now (previous .exit)) r ⌝ }
 {
     let counts = counts_of(case);
     let mut locals = [0u16; LOCALS];
@@ -268,7 +265,7 @@ fn thread_values(
         }
         broken = line::noted(broken, k, asked.breaks);
         at += value_rows(l.kind) as u16;
-        note_copy(previous, latest, t, asked.name, k);
+        note_copy(previous, held, asked.name, k);
         line::put_local(&mut locals, asked.name, value);
         line::put_item(&mut items, counts.items, asked.name, value);
         k = next_of(case, k as usize) as u16;
@@ -299,7 +296,7 @@ pub fn values_failing(
     };
     let mut t: u16 = 0;
     while t < count {
-        walk = thread_values(case, assignment, previous, latest, t, walk);
+        walk = thread_values(case, assignment, previous, &mut latest[t as usize], t, walk);
         if walk.failed != 0 {
             return walk;
         }

@@ -14,11 +14,10 @@ use Rattle.model.specs.Limits.{mostThreads, mostLines}
 use Rattle.model.specs.CaseFile.{threadCount, switchCount, caseOf, linesOf, itemCount}
 use Rattle.model.specs.Line.{itemName}
 use Rattle.model.specs.Assignment.{assignmentOf}
-use Rattle.model.specs.Copies.{latest}
+use Rattle.model.specs.Copies.{latest, heldCopy}
 use Rattle.model.specs.Table.{Row, row, itemRows, blockRows}
 use Rattle.model.specs.Holds.{holds}
 use Rattle.laws.proofs.Sizes.{item-numbers}
-use Rattle.copies.specs.Held.{copyIn}
 use Rattle.copies.proofs.Held.{held-last}
 use Rattle.assignment.specs.Numbers.{StartOf}
 use Rattle.search.specs.Search.{Searched, Room}
@@ -67,7 +66,7 @@ module _ {bytes xs previous : List ℕ} {copies : List (List ℕ)} {span : Span}
         pub block-room : Room at (six ∷ [])
         block-room = searching-fits (v .seeks) (r .ready .numbers) (six ∷ []) _ item-split
 
-        module _ {T : ℕ} (eT : T ≡ threadCount bytes) {p : ℕ} (ep : p ≡ copyIn copies (i % T) (itemName g))
+        module _ {T : ℕ} (eT : T ≡ threadCount bytes) {p : ℕ} (ep : p ≡ heldCopy (getD copies (i % T) []) (itemName g))
             {value : ℕ} (ev : value ≡ decidedValue xs (getD (span .before) g 0) (deciding previous xs i mostLines p)) where
           here : eqb (getD (span .after) g 0) value ≡ holds (caseOf bytes) (assignmentOf (caseOf bytes) xs) six
           here =
@@ -76,8 +75,8 @@ module _ {bytes xs previous : List ℕ} {copies : List (List ℕ)} {span : Span}
               let item : g < itemCount (caseOf bytes) = omega arith in
               six-holds ok xs (r .ready .chains) i g item _ _ _ p
               (r .before .filled g item) (rw add-one at (r .after .filled g item))
-              (ep ∙ ap (λ (x : ℕ). copyIn copies (i % x) (itemName g)) eT
-              ∙ held-last (caseOf bytes) copies (threadCount bytes) [] (r .ready .chains .latest) (i % threadCount bytes) (itemName g) below
+              (ep ∙ ap (λ (x : ℕ). heldCopy (getD copies (i % x) []) (itemName g)) eT
+              ∙ held-last (caseOf bytes) copies (threadCount bytes) (r .ready .chains .latest) (i % threadCount bytes) (itemName g) below
               (omega (arith, below, ok .few-threads)) (omega (arith, item, item-numbers bytes ok)))
               ev
 

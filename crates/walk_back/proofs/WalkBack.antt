@@ -80,7 +80,7 @@ all-reversed P [] earlier all before = before
 all-reversed P (l ∷ ls) earlier all before = all-reversed P ls (l ∷ earlier) (all .1) (all .0, before)
 
 -- A 6 by the copy that decides it.
-module _ {bytes : List ℕ} (ok : Accepted bytes) (xs : List ℕ) {copies : List (List ℕ)} {previous : List ℕ} (chains : CopyChains (caseOf bytes) copies previous (threadCount bytes) [])
+module _ {bytes : List ℕ} (ok : Accepted bytes) (xs : List ℕ) {copies : List (List ℕ)} {previous : List ℕ} (chains : CopyChains (caseOf bytes) copies previous (threadCount bytes))
     (i g : ℕ) (h : g < itemCount (caseOf bytes)) where
   abbrev t : ℕ
   t = i % threadCount bytes
@@ -95,7 +95,7 @@ module _ {bytes : List ℕ} (ok : Accepted bytes) (xs : List ℕ) {copies : List
   unfolding holds valueBefore
   six-holds before after v p eb ea ep ev =
       ap₂ eqb ea (ev ∙ ap₂ (λ (x y : ℕ). decidedValue xs x (deciding previous xs i mostLines y)) eb ep
-      ∙ walked (caseOf bytes) xs previous i g (omega (arith, item-numbers bytes ok)) mostLines d (chains .done t below) positive
+      ∙ walked (caseOf bytes) xs previous i g (omega (arith, item-numbers bytes ok)) mostLines d (chains .noted .done t below) positive
       (rw (length-reverse (linesOf (caseOf bytes) t)) (ok .few-lines t below))
       ∙ sym (walk-from-last (caseOf bytes) xs previous i g d))
     where

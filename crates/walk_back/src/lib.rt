@@ -77,7 +77,7 @@ fn block_failing(
     let mut at = span.start;
     let mut g = 0;
     while g < count {
-        let last = copy_of(latest, t, LOCALS + g);
+        let last = copy_of(&latest[t], LOCALS + g);
         let value = decided_value(assignment, previous, span.block, last, span.before[g]);
         if span.after[g] != value {
             return Found {

@@ -3,8 +3,8 @@ use borrow.Author.Needs.{needs}
 use Rattle.value_check.proofs.note_copy.Statement.{statement}
 use Rattle.value_check.proofs.note_copy.Tie as tie
 
-copy-of-requires : tie.Need-copy-of-requires
-copy-of-requires c κs = search needs
+take-copy-requires : tie.Need-take-copy-requires
+take-copy-requires c κs = search needs
 
 mul-previous : tie.Need-mul-previous
 mul-previous c = search needs
@@ -12,13 +12,8 @@ mul-previous c = search needs
 element-write-previous : tie.Need-element-write-previous
 element-write-previous c = search needs
 
-take-copy-requires : tie.Need-take-copy-requires
-take-copy-requires c κs = search needs
-
 returns : tie.Need-returns
-returns c = record { notes = rw (c .before .before .copy-of .ensures); takes = c .take-copy .ensures }
+returns c = record { notes = rw (c .take-copy .ensures .0); takes = c .take-copy .ensures .1 }
 
 pub note-copy-spec : {M : Type 1} → statement M
-note-copy-spec =
-    tie.close
-    (tie.spec copy-of-requires mul-previous element-write-previous take-copy-requires returns)
+note-copy-spec = tie.close (tie.spec take-copy-requires mul-previous element-write-previous returns)

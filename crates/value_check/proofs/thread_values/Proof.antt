@@ -11,11 +11,11 @@ use Rattle.value_check.proofs.thread_values.Statement.{statement}
 use Rattle.value_check.proofs.thread_values.Tie as tie
 
 abbrev Inv-loop : tie.InvT-loop
-Inv-loop case assignment previous₀ latest₀ t counts locals₀ items₀ block₀ broken₀ at₀ k₀ previous latest locals items block broken at k =
-    ThreadWalk case assignment t at₀ broken₀ latest previous locals items block broken at k
+Inv-loop case assignment previous₀ held₀ t counts locals₀ items₀ block₀ broken₀ at₀ k₀ previous held locals items block broken at k =
+    ThreadWalk case assignment t at₀ broken₀ held previous locals items block broken at k
 
 abbrev μ-loop : tie.MeasureT-loop
-μ-loop case assignment previous₀ latest₀ t counts locals₀ items₀ block₀ broken₀ at₀ k₀ previous latest locals items block broken at k =
+μ-loop case assignment previous₀ held₀ t counts locals₀ items₀ block₀ broken₀ at₀ k₀ previous held locals items block broken at k =
     length (linesFrom case t k)
 
 counts-of-requires : tie.Need-counts-of-requires Inv-loop μ-loop
@@ -96,7 +96,7 @@ note-copy-requires c κs =
     let read = c .before .before .before .before .before .before in
     let line = read .before .before .before .before .before .before .before .before in
     let start = line .before .before .before .before .before .before .before in
-    record { thread = omega (arith, start .pre .thread, start .pre .accepted .few-threads); number = omega (arith, line .before .loop .inv .low, start .pre .accepted .few-records) }
+    omega (arith, line .before .loop .inv .low, start .pre .accepted .few-records)
 
 put-local-requires : tie.Need-put-local-requires Inv-loop μ-loop
 put-local-requires c κs = search needs

@@ -1,6 +1,7 @@
 -- `value_check::values_failing` meets its contract. Assumes nothing.
 use Prim.Native.Nat.{_-_}
-use Rattle.value_check.proofs.AllWalk.{AllWalk, all-start, all-end, all-next, all-found, all-more}
+use native.Mathlib.Omega.{arith}
+use Rattle.value_check.proofs.AllWalk.{AllWalk, all-start, all-end, all-low, all-next, all-found, all-more}
 use borrow.Author.Needs.{needs}
 use Rattle.value_check.proofs.values_failing.Statement.{statement}
 use Rattle.value_check.proofs.values_failing.Tie as tie
@@ -16,6 +17,15 @@ threads-requires c κs = search needs
 
 loop-holds : tie.Need-loop-holds Inv-loop μ-loop
 loop-holds c = all-start (c .before .before .before .pre) _ (c .threads .ensures)
+
+cast-thread-values : tie.Need-cast-thread-values Inv-loop μ-loop
+cast-thread-values c = search needs
+
+mul-thread-values : tie.Need-mul-thread-values Inv-loop μ-loop
+mul-thread-values c = omega (arith, all-low (c .before .before .before .before .before .before .pre) _ (c .before .before .before .threads .ensures) (c .before .before .loop .inv) (c .before .loop-test .taken))
+
+index-1-thread-values : tie.Need-index-1-thread-values Inv-loop μ-loop
+index-1-thread-values c = all-low (c .before .before .before .before .before .before .pre) _ (c .before .before .before .threads .ensures) (c .before .before .loop .inv) (c .before .loop-test .taken)
 
 thread-values-requires : tie.Need-thread-values-requires Inv-loop μ-loop
 thread-values-requires c κs = all-next (c .before .before .before .before .before .before .before .pre) _ (c .before .before .before .before .threads .ensures) (c .before .before .before .loop .inv) (c .before .before .loop-test .taken)
@@ -43,6 +53,9 @@ values-failing-spec =
     μ-loop
     threads-requires
     loop-holds
+    cast-thread-values
+    mul-thread-values
+    index-1-thread-values
     thread-values-requires
     returns
     add-t

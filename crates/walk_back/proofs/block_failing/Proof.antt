@@ -22,16 +22,16 @@ rem-t : tie.Need-rem-t Inv-loop μ-loop
 rem-t c = search needs
 
 cast-t : tie.Need-cast-t Inv-loop μ-loop
-cast-t c = record { fits = omega (arith, block-thread (c .before .before .before .before .before .pre) (c .threads .ensures)) }
+cast-t c = record { fits = omega (arith, block-thread (@pre) (@threads .ensures)) }
 
 loop-holds : tie.Need-loop-holds Inv-loop μ-loop
-loop-holds c = block-start (c .before .before .before .before .before .pre) (c .before .items .ensures .is)
+loop-holds c = block-start (@pre) (@items .ensures .is)
 
 add-copy-of : tie.Need-add-copy-of Inv-loop μ-loop
 add-copy-of c = search needs
 
 copy-of-requires : tie.Need-copy-of-requires Inv-loop μ-loop
-copy-of-requires c κs = block-thread (c .before .before .before .before .before .before .before .pre) (c .before .before .threads .ensures)
+copy-of-requires c κs = block-thread (@pre) (@threads .ensures)
 
 mul-decided-value : tie.Need-mul-decided-value Inv-loop μ-loop
 mul-decided-value c = search needs
@@ -50,13 +50,13 @@ element-copy-out-if1 c = search needs
 
 returns : tie.Need-returns Inv-loop μ-loop
 returns c =
-    let line = c .before .before .before .before .before in
+    let line = @before in
     block-found (line .before .before .before .before .before .before .before .pre) (line .before .before .before .items .ensures .is) (line .before .loop .inv) (line .loop-test .taken) (line .before .before .threads .ensures)
-    (c .before .before .before .before .copy-of .ensures) (c .before .before .decided-value .ensures) (c .if1 .taken) _
+    (@copy-of .ensures) (@decided-value .ensures) (@if1 .taken) _
 
 add-at : tie.Need-add-at Inv-loop μ-loop
 add-at c =
-    let line = c .before .before .before .before .before in
+    let line = @before in
     omega (arith, block-room (line .before .before .before .before .before .before .before .pre) (line .before .before .before .items .ensures .is) (line .before .loop .inv) (line .loop-test .taken) .room)
 
 add-g : tie.Need-add-g Inv-loop μ-loop
@@ -67,12 +67,12 @@ loop-less c = search needs
 
 loop-again : tie.Need-loop-again Inv-loop μ-loop
 loop-again c =
-    let line = c .before .before .before .before .before in
+    let line = @before in
     block-more (line .before .before .before .before .before .before .before .pre) (line .before .before .before .items .ensures .is) (line .before .loop .inv) (line .loop-test .taken) (line .before .before .threads .ensures)
-    (c .before .before .before .before .copy-of .ensures) (c .before .before .decided-value .ensures) (c .if1 .left)
+    (@copy-of .ensures) (@decided-value .ensures) (@if1 .left)
 
 returns-2 : tie.Need-returns-2 Inv-loop μ-loop
-returns-2 c = block-end (c .before .before .before .before .before .before .before .pre) (c .before .before .before .items .ensures .is) (c .before .loop .inv) (c .loop-test .left)
+returns-2 c = block-end (@pre) (@items .ensures .is) (@loop .inv) (@loop-test .left)
 
 pub block-failing-spec : {M : Type 1} → statement M
 block-failing-spec =
