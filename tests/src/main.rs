@@ -2,7 +2,8 @@
 //!
 //! `cargo run --release --offline -q -- [group]...` runs the named groups, or
 //! all that make sense. The last line is `N passed, M failed`.
-//! `-- write-cases FOLDER COUNT` writes random small cases.
+//! `-- write-cases FOLDER COUNT` writes random small cases, and
+//! `-- write-pages FOLDER` the listings and texts of random cases of all sorts.
 
 #![forbid(unsafe_code)]
 
@@ -21,6 +22,7 @@ mod fill;
 mod generate;
 mod groups;
 mod line;
+mod pages;
 mod program;
 #[cfg(feature = "proved")]
 mod proved;
@@ -41,7 +43,7 @@ use std::thread;
 use std::time::Duration;
 
 use groups::Group;
-use report::{Report, Totals};
+use report::{Outcome, Report, Totals};
 
 /// The most that a whole run may take. A run that takes longer has failed.
 const TIME_LIMIT: Duration = Duration::from_secs(900);
@@ -58,10 +60,10 @@ fn under_test() -> impl calls::Calls {
 
 fn main() -> ExitCode {
     let names: Vec<String> = std::env::args().skip(1).collect();
-    if let [command, folder, cases] = names.as_slice() {
-        if command == "write-cases" {
-            return write_cases(folder, cases);
-        }
+    match names.as_slice() {
+        [command, folder, cases] if command == "write-cases" => return told(write_cases(folder, cases)),
+        [command, folder] if command == "write-pages" => return told(pages::write(&under_test(), folder.as_ref())),
+        _ => {}
     }
     let Some(chosen) = chosen_groups(&names) else {
         print_groups();
@@ -83,10 +85,15 @@ fn main() -> ExitCode {
 }
 
 /// Writes random small cases to a folder, for what is measured with them.
-fn write_cases(folder: &str, cases: &str) -> ExitCode {
-    let written = cases.parse().map_err(|_| format!("'{cases}' is no number"));
-    match written.and_then(|cases| groups::answers::write(folder.as_ref(), generate::BUSY, cases)) {
-        Ok(_) => ExitCode::SUCCESS,
+fn write_cases(folder: &str, cases: &str) -> Outcome {
+    let cases = cases.parse().map_err(|_| format!("'{cases}' is no number"))?;
+    groups::answers::write(folder.as_ref(), generate::BUSY, cases).map(|_| ())
+}
+
+/// The exit status for what was written, or what went wrong on standard error.
+fn told(written: Outcome) -> ExitCode {
+    match written {
+        Ok(()) => ExitCode::SUCCESS,
         Err(message) => {
             eprintln!("{message}");
             ExitCode::FAILURE
