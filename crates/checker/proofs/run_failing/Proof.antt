@@ -26,7 +26,7 @@ returns-2 : tie.Need-returns-2
 returns-2 c = record { found = values-fail (c .before .before .before .before .before .before .before .before .before .before .pre) _ (c .before .before .before .before .before .before .before .order-failing .ensures) (c .before .before .before .before .before .if1 .left) (c .before .before .values-failing .ensures .found) (c .if2 .taken); breaking = λ z. absurd (c .if2 .taken z) }
 
 slice-aggregate-blocks-failing : tie.Need-slice-aggregate-blocks-failing
-slice-aggregate-blocks-failing c = sym (c .before .before .before .values-failing .ensures .walked (c .before .if2 .left) .chains .places)
+slice-aggregate-blocks-failing c = sym (c .before .before .before .values-failing .ensures .walked (c .before .if2 .left) .chains .noted .places)
 
 blocks-failing-requires : tie.Need-blocks-failing-requires
 blocks-failing-requires c κs =

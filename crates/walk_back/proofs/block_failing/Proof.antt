@@ -22,16 +22,22 @@ rem-t : tie.Need-rem-t Inv-loop μ-loop
 rem-t c = search needs
 
 cast-t : tie.Need-cast-t Inv-loop μ-loop
-cast-t c = record { fits = omega (arith, block-thread (@pre) (@threads .ensures)) }
+cast-t c = record { fits = omega (arith, block-thread (c .before .before .before .before .before .pre) (c .threads .ensures)) }
 
 loop-holds : tie.Need-loop-holds Inv-loop μ-loop
-loop-holds c = block-start (@pre) (@items .ensures .is)
+loop-holds c = block-start (c .before .before .before .before .before .pre) (c .before .items .ensures .is)
+
+mul-copy-of : tie.Need-mul-copy-of Inv-loop μ-loop
+mul-copy-of c = omega (arith, block-thread (c .before .before .before .before .before .before .before .pre) (c .before .before .threads .ensures))
+
+index-1-copy-of : tie.Need-index-1-copy-of Inv-loop μ-loop
+index-1-copy-of c = block-thread (c .before .before .before .before .before .before .before .pre) (c .before .before .threads .ensures)
 
 add-copy-of : tie.Need-add-copy-of Inv-loop μ-loop
 add-copy-of c = search needs
 
 copy-of-requires : tie.Need-copy-of-requires Inv-loop μ-loop
-copy-of-requires c κs = block-thread (@pre) (@threads .ensures)
+copy-of-requires c κs = search needs
 
 mul-decided-value : tie.Need-mul-decided-value Inv-loop μ-loop
 mul-decided-value c = search needs
@@ -50,14 +56,12 @@ element-copy-out-if1 c = search needs
 
 returns : tie.Need-returns Inv-loop μ-loop
 returns c =
-    let line = @before in
-    block-found (line .before .before .before .before .before .before .before .pre) (line .before .before .before .items .ensures .is) (line .before .loop .inv) (line .loop-test .taken) (line .before .before .threads .ensures)
-    (@copy-of .ensures) (@decided-value .ensures) (@if1 .taken) _
+    block-found (c .before .before .before .before .before .before .before .before .before .before .before .before .before .pre) (c .before .before .before .before .before .before .before .before .before .items .ensures .is) (c .before .before .before .before .before .before .before .loop .inv) (c .before .before .before .before .before .before .loop-test .taken) (c .before .before .before .before .before .before .before .before .threads .ensures)
+    (c .before .before .before .before .copy-of .ensures) (c .before .before .decided-value .ensures) (c .if1 .taken) _
 
 add-at : tie.Need-add-at Inv-loop μ-loop
 add-at c =
-    let line = @before in
-    omega (arith, block-room (line .before .before .before .before .before .before .before .pre) (line .before .before .before .items .ensures .is) (line .before .loop .inv) (line .loop-test .taken) .room)
+    omega (arith, block-room (c .before .before .before .before .before .before .before .before .before .before .before .before .before .pre) (c .before .before .before .before .before .before .before .before .before .items .ensures .is) (c .before .before .before .before .before .before .before .loop .inv) (c .before .before .before .before .before .before .loop-test .taken) .room)
 
 add-g : tie.Need-add-g Inv-loop μ-loop
 add-g c = search needs
@@ -67,12 +71,11 @@ loop-less c = search needs
 
 loop-again : tie.Need-loop-again Inv-loop μ-loop
 loop-again c =
-    let line = @before in
-    block-more (line .before .before .before .before .before .before .before .pre) (line .before .before .before .items .ensures .is) (line .before .loop .inv) (line .loop-test .taken) (line .before .before .threads .ensures)
-    (@copy-of .ensures) (@decided-value .ensures) (@if1 .left)
+    block-more (c .before .before .before .before .before .before .before .before .before .before .before .before .before .pre) (c .before .before .before .before .before .before .before .before .before .items .ensures .is) (c .before .before .before .before .before .before .before .loop .inv) (c .before .before .before .before .before .before .loop-test .taken) (c .before .before .before .before .before .before .before .before .threads .ensures)
+    (c .before .before .before .before .copy-of .ensures) (c .before .before .decided-value .ensures) (c .if1 .left)
 
 returns-2 : tie.Need-returns-2 Inv-loop μ-loop
-returns-2 c = block-end (@pre) (@items .ensures .is) (@loop .inv) (@loop-test .left)
+returns-2 c = block-end (c .before .before .before .before .before .before .before .pre) (c .before .before .before .items .ensures .is) (c .before .loop .inv) (c .loop-test .left)
 
 pub block-failing-spec : {M : Type 1} → statement M
 block-failing-spec =
@@ -85,6 +88,8 @@ block-failing-spec =
     rem-t
     cast-t
     loop-holds
+    mul-copy-of
+    index-1-copy-of
     add-copy-of
     copy-of-requires
     mul-decided-value
