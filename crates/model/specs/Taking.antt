@@ -2,7 +2,7 @@
 -- what it leaves in what is held for the line's thread.
 -- Assumes nothing.
 use Prim.Native.Nat.{ℕ}
-use mathlib.Core.Bool.{_&&_}
+use mathlib.Core.Bool.{Bool, _&&_}
 use mathlib.Core.List.{List}
 use lib.Dec.{leb}
 use lib.ListN.{getD}
@@ -25,12 +25,16 @@ abbrev pub copiesAt : ℕ → List ℕ → Line → Taken
 copiesAt G held l =
     Copies (heldCopy held (guardName l)) (heldCopy held (operandA l)) (heldCopy held (operandB l)) (heldCopy held (targetName G l))
 
+-- A number that a record can have.
+abbrev pub numberOk : ℕ → Bool
+numberOk number = leb 1 number && leb number mostRecords
+
 -- "4. G is over 8 or M is over 4."; "6. A first or next number is over R", where none can be the record's number; "9. A record breaks
 -- the rules of its fields", and the place is this record.
 unfoldable pub taken : ℕ → ℕ → ℕ → List ℕ → List ℕ → Taken
 taken G M number fields held =
     unless (countsOk G M) (Refused 4 0)
-    (unless (leb 1 number && leb number mostRecords) (Refused 6 0)
+    (unless (numberOk number) (Refused 6 0)
     (unless (fieldsOk (getD fields 1 0) G M (handedLine number fields)) (Refused 9 number)
     (copiesAt G held (handedLine number fields))))
 

@@ -1,22 +1,21 @@
 -- The rules of a record's fields, over the record as the code holds it.
 -- Assumes nothing.
-use mathlib.Core.Path.{_≡_, ap, _∙_}
+use mathlib.Core.Path.{_≡_, _∙_}
 use mathlib.Core.Logic.{_≢_}
 use Prim.Native.Nat.{ℕ, suc, _+_, _-_, _≤_, _<_}
-use mathlib.Core.Bool.{Bool, true, false, _&&_}
 use mathlib.Core.List.{List}
+use mathlib.Core.Bool.{Bool, true, false, _&&_}
 use native.Mathlib.Omega.{arith}
 use native.Mathlib.Numerals.{add-one}
-use borrow.Author.Tests.{lt-leb}
+use borrow.Author.Tests.{lt-leb, le-leb}
 use lib.Dec.{leb}
 use Rattle.model.specs.Limits.{highestKind, highestGuard}
 use Rattle.model.specs.Lists.{lowestFailing}
-use Rattle.model.specs.CaseFile.{globalCount, mutexCount, recordField}
-use Rattle.model.specs.Accept.{ruleOk}
+use Rattle.model.specs.CaseFile.{globalCount, mutexCount}
+use Rattle.model.specs.Accept.{fieldsOk, ruleOk}
 use Rattle.laws.proofs.Views.{LeView, within, beyond, le-view, and-false}
 use Rattle.case_file.specs.declared.Record.{Record}
 use Rattle.case_file.specs.Records.{recordOf, asLine}
-use Rattle.case_file.proofs.LoopTests.{over-leb, under-leb}
 use Rattle.rules.specs.KindRule.{keepsKindRule}
 
 -- What the last arm of a `match` on kinds knows: the number is none of 1 to 8.
@@ -37,17 +36,17 @@ no-kind k rule n = go (le-view 1 k)
     go (within h q) = rw (q, lt-leb k highestKind (over-8 k (n .0 .0 .0 .1) (n .0 .0 .1) (n .0 .1) (n .1) (over-4 k (n .0 .0 .0 .0) h)))
 
 -- A record's guard, then its kind's rule.
-module _ (bytes : List ℕ) (k : ℕ) (l : Record) (el : l ≡ recordOf bytes 0 k) where
-  pub guard-fails : highestGuard < l .guard → false ≡ ruleOk bytes k
-  guard-fails h =
-      let bad : leb (recordField bytes k 2) highestGuard ≡ false = over-leb (ap (λ (r : Record). r .guard) el) h in
-      rw (bad, and-false (leb (recordField bytes k 1) highestKind), and-false (leb 1 (recordField bytes k 1)))
+module _ (l : Record) (G M k : ℕ) where
+  pub guard-fails : highestGuard < l .guard → false ≡ fieldsOk (l .kind) G M (asLine l k)
+  guard-fails h = rw (lt-leb (l .guard) highestGuard h, and-false (leb (l .kind) highestKind), and-false (leb 1 (l .kind)))
 
-  pub kind-decides :
-      l .guard ≤ highestGuard → (G M : ℕ) → G ≡ globalCount bytes → M ≡ mutexCount bytes → (r : Bool) → ((j : ℕ) → r ≡ keepsKindRule (l .kind) G M (asLine l j)) → r ≡ ruleOk bytes k
-  kind-decides h G M eG eM r e =
-      let good : leb (recordField bytes k 2) highestGuard ≡ true = under-leb (ap (λ (r : Record). r .guard) el) h in
-      e k ∙ rw (el, eG, eM, good)
+  pub kind-decides : l .guard ≤ highestGuard → {r : Bool} → r ≡ keepsKindRule (l .kind) G M (asLine l k) → r ≡ fieldsOk (l .kind) G M (asLine l k)
+  kind-decides h e = e ∙ rw (le-leb (l .guard) highestGuard h)
+
+-- A record of a case.
+pub rule-of-fields : (bytes : List ℕ) (k G M : ℕ) (l : Record) → l ≡ recordOf bytes 0 k → G ≡ globalCount bytes → M ≡ mutexCount bytes → {r : Bool}
+    → r ≡ fieldsOk (l .kind) G M (asLine l k) → r ≡ ruleOk bytes k
+rule-of-fields bytes k G M l el eG eM e = e ∙ rw (el, eG, eM)
 
 -- The lowest record that fails a test, of those from i to before `to`.
 module _ (test : ℕ → Bool) (i to : ℕ) where

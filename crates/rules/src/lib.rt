@@ -3,7 +3,7 @@ ghost use mathlib.Core.Path.{_≡_};
 ghost use mathlib.Core.Bool.{not, _||_};
 ghost use Prim.Native.Nat.{ℕ};
 ghost use lib.Dec.{eqb};
-ghost use Rattle.model.specs.Accept.{expressionOk, onlyOperandA, noExpression, ruleOk, brokenRecord};
+ghost use Rattle.model.specs.Accept.{expressionOk, onlyOperandA, noExpression, fieldsOk, ruleOk, brokenRecord};
 ghost use Rattle.case_file.specs.Records.{asLine};
 ghost use Rattle.laws.specs.Sized.{Sized};
 ghost use Rattle.rules.specs.KindRule.{keepsKindRule, RuleReady};
@@ -64,16 +64,23 @@ fn kind_rule_ok(l: Record, globals: u16, mutexes: u16) -> bool
     }
 }
 
-// Whether record k keeps the rules of its fields, in a case with so many globals and mutexes.
+// Whether a record keeps the rules of its fields, in a case with so many globals and mutexes. Its number makes no difference.
+pub fn fields_ok(l: Record, globals: u16, mutexes: u16) -> bool
+    ensures { λ r. ⌜ ((k : ℕ) → r ≡ fieldsOk (l .kind) globals mutexes (asLine l k)) ⌝ }
+{
+    if model::HIGHEST_GUARD < l.guard {
+        return false;
+    }
+    kind_rule_ok(l, globals, mutexes)
+}
+
+// The same of record k of a case.
 fn rule_ok(case: &[u8], k: usize, globals: u16, mutexes: u16) -> bool
     requires { ⌜ RuleReady (now case) k globals mutexes ⌝ }
     ensures { λ r. ⌜ r ≡ ruleOk (now (case .entry)) k ⌝ }
 {
     let l = record_at(case, 0, k);
-    if model::HIGHEST_GUARD < l.guard {
-        return false;
-    }
-    kind_rule_ok(l, globals, mutexes)
+    fields_ok(l, globals, mutexes)
 }
 
 // 9: the lowest record that breaks the rules; 0 if none does.

@@ -1,4 +1,5 @@
-use Rattle.rules.proofs.FieldRules.{guard-fails, kind-decides}
+-- `rules::rule_ok` meets its contract. Assumes nothing.
+use Rattle.rules.proofs.FieldRules.{rule-of-fields}
 use borrow.Author.Needs.{needs}
 use Rattle.rules.proofs.rule_ok.Statement.{statement}
 use Rattle.rules.proofs.rule_ok.Tie as tie
@@ -6,14 +7,11 @@ use Rattle.rules.proofs.rule_ok.Tie as tie
 record-at-requires : tie.Need-record-at-requires
 record-at-requires c κs = search needs
 
+fields-ok-requires : tie.Need-fields-ok-requires
+fields-ok-requires c κs = search needs
+
 returns : tie.Need-returns
-returns c = search guard-fails
-
-kind-rule-ok-requires : tie.Need-kind-rule-ok-requires
-kind-rule-ok-requires c κs = search needs
-
-returns-2 : tie.Need-returns-2
-returns-2 c = search kind-decides
+returns c = rule-of-fields _ _ _ _ _ (c .before .record-at .ensures) (c .before .before .before .pre .globals) (c .before .before .before .pre .mutexes) (c .fields-ok .ensures _)
 
 pub rule-ok-spec : {M : Type 1} → statement M
-rule-ok-spec = tie.close (tie.spec record-at-requires returns kind-rule-ok-requires returns-2)
+rule-ok-spec = tie.close (tie.spec record-at-requires fields-ok-requires returns)
