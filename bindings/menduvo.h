@@ -35,7 +35,7 @@ extern "C" {
 /*
  * The most that any accepted case needs. A table, a schedule, items and a listing of these sizes are never refused with 10,
  * whatever the case; no accepted case is longer, and no assignment that is taken has more numbers. This is proved of the definitions
- * (crates/laws/specs/Sizes.antt, crates/menduvo/proofs/Delivered.antt; the limits are in crates/model/specs/Limits.antt).
+ * (crates/laws/specs/Sizes.antt, crates/delivered/specs/Delivered.antt; the limits are in crates/model/specs/Limits.antt).
  */
 #define MENDUVO_MOST_CASE_BYTES 4128u       /* 32 bytes, and 16 for each of 256 records */
 #define MENDUVO_MOST_TABLE_NUMBERS 7230u    /* six for each of 1,205 constraints */

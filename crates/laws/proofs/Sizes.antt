@@ -1,6 +1,6 @@
 -- How large an accepted case can be, and its table, an assignment, a schedule and the items. Whoever calls can lend slices of
 -- these sizes, and refusal 10 never meets them.
--- Assumes nothing. Met again where encoder, checker and schedule count, in the listing's text, and in menduvo's Delivered.
+-- Assumes nothing. Met again where encoder, checker and schedule count, in the listing's text, and in delivered's Delivered.
 use mathlib.Core.Path.{_≡_, refl}
 use mathlib.Core.Logic.{_≢_}
 use Prim.Native.Nat.{ℕ, zero, suc, _*_, _%_, _≤_, _<_}

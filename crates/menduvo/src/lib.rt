@@ -1,7 +1,7 @@
 // The public library: `accept`, the four calls, the listing and the text for solvers, for C and Rust. Each answer comes in the
 // document's numbers; what each call answers and leaves in the lent slices is defined in `model`'s specs/Accept.antt,
-// specs/Answers.antt and specs/Listing.antt and in `script`'s specs/Text.antt. The one statement about them all is
-// proofs/Delivered.antt.
+// specs/Answers.antt and specs/Listing.antt and in `script`'s specs/Text.antt. The one statement about them all is `delivered`'s
+// specs/Delivered.antt.
 ghost use mathlib.Core.Path.{_≡_};
 ghost use lib.ListN.{length};
 ghost use Rattle.model.specs.Accept.{verdict};

@@ -1,6 +1,8 @@
 -- `menduvo::menduvo_decode` meets its contract.
 -- Assumes nothing.
+use mathlib.Core.Path.{ap, _∙_}
 use borrow.Author.Needs.{needs}
+use Rattle.model.specs.Answers.{decodedNumbers}
 use Rattle.menduvo.proofs.menduvo_decode.Statement.{statement}
 use Rattle.menduvo.proofs.menduvo_decode.Tie as tie
 
@@ -14,7 +16,8 @@ same-length : tie.Need-same-length
 same-length c = search needs
 
 returns : tie.Need-returns
-returns c = ((cc), (cc))
+returns c =
+    let told = c .before .before .before .decode .ensures in (c .decoded-numbers .ensures ∙ ap decodedNumbers (told .0), told .1)
 
 pub menduvo-decode-spec : {M : Type 1} → statement M
 menduvo-decode-spec =

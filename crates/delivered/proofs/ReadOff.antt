@@ -26,7 +26,7 @@ use Rattle.script.specs.declared.Spelled.{Spelled}
 use Rattle.script.specs.declared.Spelled.the-variants as spelleds
 use Rattle.script.specs.declared.TextNumbers.{TextNumbers}
 use Rattle.correspondence.specs.Demand3.{Demand3}
-use Rattle.menduvo.specs.ReadOff.{AnswersToldApart, SomeYes, SomeViolated}
+use Rattle.delivered.specs.ReadOff.{AnswersToldApart, SomeYes, SomeViolated}
 
 -- ---- Each answer had back from its numbers.
 

@@ -1,6 +1,6 @@
 -- The one statement. What the calls answer equals the definitions (each call's own theorem, for the calls that C and Rust link and
 -- for those that they are made of), and about these same definitions demand 3 holds for every accepted case: so the claim is about
--- the code that is compiled, and it can be read off the numbers that the code hands out.
+-- the code that is compiled, and it can be read off the numbers that the code hands out. It is proved in proofs/Delivered.antt.
 -- Assumes nothing.
 use mathlib.Core.Path.{_≡_}
 use mathlib.Core.Logic.{_↔_}
@@ -14,48 +14,26 @@ use Rattle.model.specs.Listing.{listingText, listed}
 use Rattle.model.specs.declared.Verdict.the-variants.{Accepted}
 use Rattle.model.specs.declared.Listed.the-variants.{Text}
 use Rattle.laws.specs.Sizes.{Sizes, LargestSizes, NeverTooShort}
-use Rattle.laws.proofs.Sizes.{sizes, largest-sizes, never-too-short}
 use Rattle.correspondence.specs.Demand3.{ForEveryAcceptedCase}
-use Rattle.correspondence.proofs.Demand3.{demand-3}
-use Rattle.listing_text.proofs.Bridge.{never-refused}
 use Rattle.script.specs.Text.{mostTextBytes, smtText}
 use Rattle.script_truth.specs.Filed.{ForEveryText}
-use Rattle.script_truth.proofs.Filed.{every-text}
-use Rattle.text_size.proofs.Text.{text-at-most}
 use Rattle.accept.proofs.accept.Statement as accept-statement
-use Rattle.accept.proofs.accept.Met as accept-met
 use Rattle.encoder.proofs.encode.Statement as encode-statement
-use Rattle.encoder.proofs.encode.Met as encode-met
 use Rattle.checker.proofs.check.Statement as check-statement
-use Rattle.checker.proofs.check.Met as check-met
 use Rattle.decoder.proofs.decode.Statement as decode-statement
-use Rattle.decoder.proofs.decode.Met as decode-met
 use Rattle.replayer.proofs.replay.Statement as replay-statement
-use Rattle.replayer.proofs.replay.Met as replay-met
 use Rattle.listing_text.proofs.listing_text.Statement as listing-text-statement
-use Rattle.listing_text.proofs.listing_text.Met as listing-text-met
 use Rattle.smt_text.proofs.smt_length.Statement as smt-length-statement
-use Rattle.smt_text.proofs.smt_length.Met as smt-length-met
 use Rattle.smt_text.proofs.smt_text.Statement as smt-text-statement
-use Rattle.smt_text.proofs.smt_text.Met as smt-text-met
 use Rattle.menduvo.proofs.menduvo_accept.Statement as exported-accept-statement
-use Rattle.menduvo.proofs.menduvo_accept.Met as exported-accept-met
 use Rattle.menduvo.proofs.menduvo_encode.Statement as exported-encode-statement
-use Rattle.menduvo.proofs.menduvo_encode.Met as exported-encode-met
 use Rattle.menduvo.proofs.menduvo_check.Statement as exported-check-statement
-use Rattle.menduvo.proofs.menduvo_check.Met as exported-check-met
 use Rattle.menduvo.proofs.menduvo_decode.Statement as exported-decode-statement
-use Rattle.menduvo.proofs.menduvo_decode.Met as exported-decode-met
 use Rattle.menduvo.proofs.menduvo_replay.Statement as exported-replay-statement
-use Rattle.menduvo.proofs.menduvo_replay.Met as exported-replay-met
 use Rattle.menduvo.proofs.menduvo_listing.Statement as exported-listing-statement
-use Rattle.menduvo.proofs.menduvo_listing.Met as exported-listing-met
 use Rattle.menduvo.proofs.menduvo_smt_length.Statement as exported-smt-length-statement
-use Rattle.menduvo.proofs.menduvo_smt_length.Met as exported-smt-length-met
 use Rattle.menduvo.proofs.menduvo_smt_text.Statement as exported-smt-text-statement
-use Rattle.menduvo.proofs.menduvo_smt_text.Met as exported-smt-text-met
-use Rattle.menduvo.specs.ReadOff.{AnswersToldApart, SomeYes, SomeViolated}
-use Rattle.menduvo.proofs.ReadOff.{answers-told-apart, read-off}
+use Rattle.delivered.specs.ReadOff.{AnswersToldApart, SomeYes, SomeViolated}
 
 pub record Delivered (M : Type 1) : Type 2 where
   -- The calls, each with an enum for its answer;
@@ -90,32 +68,3 @@ pub record Delivered (M : Type 1) : Type 2 where
   -- and the numbers tell the answers apart, so that it can be read off them.
   pub told-apart : AnswersToldApart
   pub corresponds-in-numbers : (bytes : List ℕ) → AllBelow 256 bytes → verdict bytes ≡ Accepted → SomeYes bytes ↔ SomeViolated bytes
-
-pub delivered : {M : Type 1} → Delivered M
-delivered = record {
-  accept = accept-met.met;
-  encode = encode-met.met;
-  check = check-met.met;
-  decode = decode-met.met;
-  replay = replay-met.met;
-  listing_text = listing-text-met.met;
-  smt-length = smt-length-met.met;
-  smt-text = smt-text-met.met;
-  menduvo_accept = exported-accept-met.met;
-  menduvo_encode = exported-encode-met.met;
-  menduvo_check = exported-check-met.met;
-  menduvo_decode = exported-decode-met.met;
-  menduvo_replay = exported-replay-met.met;
-  menduvo_listing = exported-listing-met.met;
-  menduvo-smt-length = exported-smt-length-met.met;
-  menduvo-smt-text = exported-smt-text-met.met;
-  corresponds = demand-3;
-  filed = every-text;
-  sizes = sizes;
-  largest-sizes = largest-sizes;
-  never-too-short = never-too-short;
-  text-at-most = text-at-most;
-  listing-never-too-short = never-refused;
-  told-apart = answers-told-apart;
-  corresponds-in-numbers = λ bytes small accepted. read-off bytes (demand-3 bytes small accepted);
-}
