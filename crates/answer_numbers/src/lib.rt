@@ -4,13 +4,16 @@ ghost use Prim.Native.Nat.{_≤_};
 ghost use Rattle.model.specs.Limits.{mostListingBytes};
 ghost use Rattle.model.specs.Answers.{refusedNumbers, answerNumbers, verdictNumbers, encodedNumbers, checkedNumbers, decodedNumbers, replayedNumbers};
 ghost use Rattle.model.specs.Listing.{listedNumbers};
+ghost use Rattle.model.specs.Taking.{takenNumbers};
 ghost use Rattle.script.specs.Text.{spelledNumbers};
 use model::Checked;
+use model::CopyNumbers;
 use model::Decoded;
 use model::Encoded;
 use model::Listed;
 use model::Numbers;
 use model::Replayed;
+use model::Taken;
 use model::Verdict;
 use script::Spelled;
 use script::TextNumbers;
@@ -115,6 +118,35 @@ pub fn spelled_numbers(s: Spelled) -> TextNumbers
             refusal: number,
             place,
             bytes: 0,
+        },
+    }
+}
+
+// The copies of a line are four numbers, so they have places of their own.
+pub fn taken_numbers(t: Taken) -> CopyNumbers
+    ensures { λ r. ⌜ r ≡ takenNumbers t ⌝ }
+{
+    match t {
+        Taken::Copies {
+            guard,
+            a,
+            b,
+            target,
+        } => CopyNumbers {
+            refusal: 0,
+            place: 0,
+            guard,
+            a,
+            b,
+            target,
+        },
+        Taken::Refused { number, place } => CopyNumbers {
+            refusal: number,
+            place,
+            guard: 0,
+            a: 0,
+            b: 0,
+            target: 0,
         },
     }
 }

@@ -1,5 +1,7 @@
 -- The one statement holds: it is specs/Delivered.antt. Its term is made of the calls' own theorems and of those about the definitions.
 -- Assumes nothing. This is where the other crates lead.
+use Rattle.laws.proofs.ForwardWalk.{for-any-lines}
+use Rattle.laws.proofs.HandedOn.{every-line}
 use Rattle.laws.proofs.Sizes.{sizes, largest-sizes, never-too-short}
 use Rattle.correspondence.proofs.Demand3.{demand-3}
 use Rattle.listing_text.proofs.Bridge.{never-refused}
@@ -13,6 +15,7 @@ use Rattle.replayer.proofs.replay.Met as replay-met
 use Rattle.listing_text.proofs.listing_text.Met as listing-text-met
 use Rattle.smt_text.proofs.smt_length.Met as smt-length-met
 use Rattle.smt_text.proofs.smt_text.Met as smt-text-met
+use Rattle.builder.proofs.take_line.Met as take-line-met
 use Rattle.menduvo.proofs.menduvo_accept.Met as exported-accept-met
 use Rattle.menduvo.proofs.menduvo_encode.Met as exported-encode-met
 use Rattle.menduvo.proofs.menduvo_check.Met as exported-check-met
@@ -21,6 +24,7 @@ use Rattle.menduvo.proofs.menduvo_replay.Met as exported-replay-met
 use Rattle.menduvo.proofs.menduvo_listing.Met as exported-listing-met
 use Rattle.menduvo.proofs.menduvo_smt_length.Met as exported-smt-length-met
 use Rattle.menduvo.proofs.menduvo_smt_text.Met as exported-smt-text-met
+use Rattle.menduvo.proofs.menduvo_take_line.Met as exported-take-line-met
 use Rattle.delivered.proofs.ReadOff.{answers-told-apart, read-off}
 use Rattle.delivered.specs.Delivered.{Delivered}
 
@@ -34,6 +38,7 @@ delivered = record {
   listing_text = listing-text-met.met;
   smt-length = smt-length-met.met;
   smt-text = smt-text-met.met;
+  take-line = take-line-met.met;
   menduvo_accept = exported-accept-met.met;
   menduvo_encode = exported-encode-met.met;
   menduvo_check = exported-check-met.met;
@@ -42,8 +47,11 @@ delivered = record {
   menduvo_listing = exported-listing-met.met;
   menduvo-smt-length = exported-smt-length-met.met;
   menduvo-smt-text = exported-smt-text-met.met;
+  menduvo-take-line = exported-take-line-met.met;
   corresponds = demand-3;
   filed = every-text;
+  copies = for-any-lines;
+  handed-on = every-line;
   sizes = sizes;
   largest-sizes = largest-sizes;
   never-too-short = never-too-short;

@@ -3,9 +3,12 @@
 use mathlib.Core.Path.{_≡_, refl, sym, ap, ap₂, _∙_}
 use mathlib.Core.Logic.{_↔_, _≢_}
 use Prim.Native.Nat.{ℕ}
-use mathlib.Core.Bool.{cond}
+use mathlib.Core.Bool.{Bool, true, false, cond}
 use mathlib.Core.List.{List}
+use native.Mathlib.Omega.{arith}
 use lib.Dec.{eqb}
+use lib.ListN.{getD}
+use Rattle.model.specs.Lists.{unless}
 use Rattle.model.specs.Answers.{verdictNumbers, encodedNumbers, checkedNumbers, decodedNumbers, replayedNumbers, checked, replayed}
 use Rattle.model.specs.Listing.{listedNumbers}
 use Rattle.model.specs.declared.Numbers.{Numbers}
@@ -21,6 +24,11 @@ use Rattle.model.specs.declared.Replayed.{Replayed}
 use Rattle.model.specs.declared.Replayed.the-variants as replayeds
 use Rattle.model.specs.declared.Listed.{Listed}
 use Rattle.model.specs.declared.Listed.the-variants as listeds
+use Rattle.model.specs.Accept.{countsOk, fieldsOk}
+use Rattle.model.specs.Taking.{handedLine, numberOk, taken, takenNumbers}
+use Rattle.model.specs.declared.Taken.{Taken}
+use Rattle.model.specs.declared.Taken.the-variants as takens
+use Rattle.model.specs.declared.CopyNumbers.{CopyNumbers}
 use Rattle.script.specs.Text.{spelledNumbers}
 use Rattle.script.specs.declared.Spelled.{Spelled}
 use Rattle.script.specs.declared.Spelled.the-variants as spelleds
@@ -91,6 +99,36 @@ refusal-told : (r : Spelled) (number place : ℕ) → number ≢ 0 → spelledNu
 refusal-told (spelleds.Text size) number place some e = absurd (some (sym (ap (λ (x : TextNumbers). x .refusal) e)))
 refusal-told (spelleds.Refused n p) number place some e = ap₂ spelleds.Refused (ap (λ (x : TextNumbers). x .refusal) e) (ap (λ (x : TextNumbers). x .place) e)
 
+-- A line's copies, or a refusal that has a number.
+Given : Taken → Type 0
+Given (takens.Copies guard a b target) = Unit
+Given (takens.Refused number place) = number ≢ 0
+
+given-unless : (test : Bool) {number place : ℕ} {next : Taken} → number ≢ 0 → Given next → Given (unless test (takens.Refused number place) next)
+given-unless true some next = next
+given-unless false some next = some
+
+taken-given : (G M number : ℕ) (fields held : List ℕ) → Given (taken G M number fields held)
+unfolding taken
+taken-given G M number fields held =
+    given-unless (countsOk G M) (λ e. omega (arith, e)) (given-unless (numberOk number) (λ e. omega (arith, e))
+    (given-unless (fieldsOk (getD fields 1 0) G M (handedLine number fields)) (λ e. omega (arith, e)) tt))
+
+copies-told : (r : Taken) → Given r → (guard a b target : ℕ) → takenNumbers r ≡ takenNumbers (takens.Copies guard a b target)
+    → r ≡ takens.Copies guard a b target
+copies-told (takens.Copies g x y t) given guard a b target e =
+    rw (
+      ap (λ (n : CopyNumbers). n .guard) e,
+      ap (λ (n : CopyNumbers). n .a) e,
+      ap (λ (n : CopyNumbers). n .b) e,
+      ap (λ (n : CopyNumbers). n .target) e,
+    )
+copies-told (takens.Refused number place) given guard a b target e = absurd (given (ap (λ (n : CopyNumbers). n .refusal) e))
+
+not-taken-told : (r : Taken) (number place : ℕ) → number ≢ 0 → takenNumbers r ≡ takenNumbers (takens.Refused number place) → r ≡ takens.Refused number place
+not-taken-told (takens.Copies g x y t) number place some e = absurd (some (sym (ap (λ (n : CopyNumbers). n .refusal) e)))
+not-taken-told (takens.Refused n p) number place some e = ap₂ takens.Refused (ap (λ (x : CopyNumbers). x .refusal) e) (ap (λ (x : CopyNumbers). x .place) e)
+
 pub answers-told-apart : AnswersToldApart
 answers-told-apart = record {
   accepted = λ r. told verdictNumbers verdict-back verdict-is-back r verdicts.Accepted;
@@ -110,6 +148,9 @@ answers-told-apart = record {
   not-listed = λ r number place. told listedNumbers listed-back listed-is-back r (listeds.Refused number place);
   spelled = λ r bytes some. (spelled-told r bytes some, (λ e. ap spelledNumbers e));
   not-spelled = λ r number place some. (refusal-told r number place some, (λ e. ap spelledNumbers e));
+  copies = λ G M number fields held guard a b target.
+      (copies-told (taken G M number fields held) (taken-given G M number fields held) guard a b target, (λ e. ap takenNumbers e));
+  not-taken = λ r number place some. (not-taken-told r number place some, (λ e. ap takenNumbers e));
 }
 
 -- ---- Demand 3's equivalence, in numbers.

@@ -13,6 +13,8 @@ use Rattle.model.specs.Accept.{verdict}
 use Rattle.model.specs.Listing.{listingText, listed}
 use Rattle.model.specs.declared.Verdict.the-variants.{Accepted}
 use Rattle.model.specs.declared.Listed.the-variants.{Text}
+use Rattle.laws.specs.ForwardWalk.{ForAnyLines}
+use Rattle.laws.specs.HandedOn.{ForEveryLine}
 use Rattle.laws.specs.Sizes.{Sizes, LargestSizes, NeverTooShort}
 use Rattle.correspondence.specs.Demand3.{ForEveryAcceptedCase}
 use Rattle.script.specs.Text.{mostTextBytes, smtText}
@@ -25,6 +27,7 @@ use Rattle.replayer.proofs.replay.Statement as replay-statement
 use Rattle.listing_text.proofs.listing_text.Statement as listing-text-statement
 use Rattle.smt_text.proofs.smt_length.Statement as smt-length-statement
 use Rattle.smt_text.proofs.smt_text.Statement as smt-text-statement
+use Rattle.builder.proofs.take_line.Statement as take-line-statement
 use Rattle.menduvo.proofs.menduvo_accept.Statement as exported-accept-statement
 use Rattle.menduvo.proofs.menduvo_encode.Statement as exported-encode-statement
 use Rattle.menduvo.proofs.menduvo_check.Statement as exported-check-statement
@@ -33,6 +36,7 @@ use Rattle.menduvo.proofs.menduvo_replay.Statement as exported-replay-statement
 use Rattle.menduvo.proofs.menduvo_listing.Statement as exported-listing-statement
 use Rattle.menduvo.proofs.menduvo_smt_length.Statement as exported-smt-length-statement
 use Rattle.menduvo.proofs.menduvo_smt_text.Statement as exported-smt-text-statement
+use Rattle.menduvo.proofs.menduvo_take_line.Statement as exported-take-line-statement
 use Rattle.delivered.specs.ReadOff.{AnswersToldApart, SomeYes, SomeViolated}
 
 pub record Delivered (M : Type 1) : Type 2 where
@@ -45,6 +49,7 @@ pub record Delivered (M : Type 1) : Type 2 where
   pub listing_text : listing-text-statement.statement M
   pub smt-length : smt-length-statement.statement M
   pub smt-text : smt-text-statement.statement M
+  pub take-line : take-line-statement.statement M
   -- the calls that C and Rust link, whose answers are numbers;
   pub menduvo_accept : exported-accept-statement.statement M
   pub menduvo_encode : exported-encode-statement.statement M
@@ -54,11 +59,16 @@ pub record Delivered (M : Type 1) : Type 2 where
   pub menduvo_listing : exported-listing-statement.statement M
   pub menduvo-smt-length : exported-smt-length-statement.statement M
   pub menduvo-smt-text : exported-smt-text-statement.statement M
+  pub menduvo-take-line : exported-take-line-statement.statement M
   -- demand 3 over what accept, encode, check, decode and replay answer;
   pub corresponds : ForEveryAcceptedCase
   -- the text that is written, as its own reader reads it: true of an assignment exactly where the checker says yes, and of some exactly
   -- where some run violates;
   pub filed : ForEveryText
+  -- the forward walk that finds copies: after any lines of a thread it holds for each name the latest that has it as target, and one
+  -- more line is one step more; and the lines of every accepted case, handed on one by one, have the copies of the table;
+  pub copies : ForAnyLines
+  pub handed-on : ForEveryLine
   -- no accepted case needs more than the largest sizes, and slices of these sizes are never refused with 10;
   pub sizes : (bytes : List ℕ) → verdict bytes ≡ Accepted → Sizes bytes
   pub largest-sizes : LargestSizes

@@ -20,6 +20,9 @@ use Rattle.model.specs.declared.Replayed.{Replayed}
 use Rattle.model.specs.declared.Replayed.the-variants as replayeds
 use Rattle.model.specs.declared.Listed.{Listed}
 use Rattle.model.specs.declared.Listed.the-variants as listeds
+use Rattle.model.specs.Taking.{taken, takenNumbers}
+use Rattle.model.specs.declared.Taken.{Taken}
+use Rattle.model.specs.declared.Taken.the-variants as takens
 use Rattle.script.specs.Text.{spelledNumbers}
 use Rattle.script.specs.declared.Spelled.{Spelled}
 use Rattle.script.specs.declared.Spelled.the-variants as spelleds
@@ -46,6 +49,10 @@ pub record AnswersToldApart : Type 0 where
   -- No text is empty, and no refusal has number 0.
   pub spelled : (r : Spelled) (bytes : ℕ) → bytes ≢ 0 → (spelledNumbers r ≡ spelledNumbers (spelleds.Text bytes)) ↔ (r ≡ spelleds.Text bytes)
   pub not-spelled : (r : Spelled) (number place : ℕ) → number ≢ 0 → (spelledNumbers r ≡ spelledNumbers (spelleds.Refused number place)) ↔ (r ≡ spelleds.Refused number place)
+  -- No refusal of a line has number 0.
+  pub copies : (G M number : ℕ) (fields held : List ℕ) (guard a b target : ℕ)
+      → (takenNumbers (taken G M number fields held) ≡ takenNumbers (takens.Copies guard a b target)) ↔ (taken G M number fields held ≡ takens.Copies guard a b target)
+  pub not-taken : (r : Taken) (number place : ℕ) → number ≢ 0 → (takenNumbers r ≡ takenNumbers (takens.Refused number place)) ↔ (r ≡ takens.Refused number place)
 
 -- Some assignment is answered with 1 by the checker, and some schedule with 1 and a record by the replayer, the same one in every
 -- room that holds the items.

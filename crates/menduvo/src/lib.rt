@@ -1,13 +1,14 @@
-// The public library: `accept`, the four calls, the listing and the text for solvers, for C and Rust. Each answer comes in the
-// document's numbers; what each call answers and leaves in the lent slices is defined in `model`'s specs/Accept.antt,
-// specs/Answers.antt and specs/Listing.antt and in `script`'s specs/Text.antt. The one statement about them all is `delivered`'s
-// specs/Delivered.antt.
+// The public library: `accept`, the four calls, the listing, the text for solvers and the call that takes a line by itself, for C and
+// Rust. Each answer comes in the document's numbers; what each call answers and leaves in the lent slices is defined in `model`'s
+// specs/Accept.antt, specs/Answers.antt, specs/Listing.antt and specs/Taking.antt and in `script`'s specs/Text.antt. The one statement
+// about them all is `delivered`'s specs/Delivered.antt.
 ghost use mathlib.Core.Path.{_≡_};
 ghost use lib.ListN.{length};
 ghost use Rattle.model.specs.Accept.{verdict};
 ghost use Rattle.model.specs.Answers.{encoded, encodedInto, checked, decoded, decodedInto, replayed, replayedInto};
 ghost use Rattle.model.specs.Answers.{verdictNumbers, encodedNumbers, checkedNumbers, decodedNumbers, replayedNumbers};
 ghost use Rattle.model.specs.Listing.{listed, listedInto, listedNumbers};
+ghost use Rattle.model.specs.Taking.{taken, takenInto, takenNumbers};
 ghost use Rattle.script.specs.Text.{measured, spelled, spelledInto, spelledNumbers};
 use answer_numbers::checked_numbers;
 use answer_numbers::decoded_numbers;
@@ -15,7 +16,11 @@ use answer_numbers::encoded_numbers;
 use answer_numbers::listed_numbers;
 use answer_numbers::replayed_numbers;
 use answer_numbers::spelled_numbers;
+use answer_numbers::taken_numbers;
 use answer_numbers::verdict_numbers;
+use builder::FIELDS;
+use model::CopyNumbers;
+use model::NAMES;
 use model::Numbers;
 use script::TextNumbers;
 
@@ -86,4 +91,19 @@ pub extern "C" fn menduvo_smt_text(case: &[u8], text: &mut [u8]) -> TextNumbers
     ensures { λ r. ⌜ now (text .exit) ≡ spelledInto (now (case .entry)) (now (text .entry)) ⌝ }
 {
     spelled_numbers(smt_text::smt_text(case, text))
+}
+
+// The next line of a thread in a case with so many globals and mutexes: the copies of its names, and then it is held for its target.
+#[no_mangle]
+pub extern "C" fn menduvo_take_line(
+    globals: u16,
+    mutexes: u16,
+    number: u16,
+    fields: &[u16; FIELDS],
+    held: &mut [u16; NAMES],
+) -> CopyNumbers
+    ensures { λ r. ⌜ r ≡ takenNumbers (taken globals mutexes number (now (fields .entry)) (now (held .entry))) ⌝ }
+    ensures { λ r. ⌜ now (held .exit) ≡ takenInto globals mutexes number (now (fields .entry)) (now (held .entry)) ⌝ }
+{
+    taken_numbers(builder::take_line(globals, mutexes, number, fields, held))
 }

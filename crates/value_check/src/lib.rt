@@ -193,12 +193,7 @@ fn line_failing(at: u16, asked: Asked, value: u16) -> u16
 }
 
 // Line k is taken, whose target has this name, and the copy before it is noted for it.
-fn note_copy(
-    previous: &mut [u16; RECORD_PLACES],
-    held: &mut [u16; NAMES],
-    name: usize,
-    k: u16,
-)
+fn note_copy(previous: &mut [u16; RECORD_PLACES], held: &mut [u16; NAMES], name: usize, k: u16)
     requires { ⌜ k < recordPlaces ⌝ }
     ensures { λ x. ⌜ CopyNoted name k (now (previous .entry)) (now (held .entry)) (now (previous .exit)) (now (held .exit)) ⌝ }
 {
