@@ -2,11 +2,12 @@
  * Menduvo's calls, for C: the static library libmenduvo.a, written by `rt staticlib menduvo`.
  *
  * The calls are proved: what each of them answers, and what it leaves in each slice that it was lent, equals the definitions
- * in crates/model/specs (Accept, Answers, Listing) and crates/script/specs (Text), and every call returns. Not proved is how much of
- * the stack a call takes. The language has no static and no heap: the calls hold nothing between them, allocate nothing, and may be
- * called from any thread.
+ * in crates/model/specs (Accept, Answers, Copies, Listing) and crates/script/specs (Text), and every call returns. Not proved is how
+ * much of the stack a call takes. The language has no static and no heap: the calls hold nothing between them, allocate nothing, and
+ * may be called from any thread.
  *
- * A slice is a pointer and how many elements it has. The proof is about calls that keep three rules, which no call can test:
+ * A slice is a pointer and how many elements it has; those of menduvo_take_line have 8 and MENDUVO_NAMES, and come without a length.
+ * The proof is about calls that keep three rules, which no call can test:
  *   - each pointer is valid for that many elements, and is not null, also where there are none;
  *   - it is aligned as its type asks (a uint16_t at an even address);
  *   - a slice that is written overlaps no other slice of the same call; and until the call returns nobody else uses a slice
@@ -45,6 +46,9 @@ extern "C" {
 #define MENDUVO_MOST_LISTING_BYTES 43392u   /* six for each number of the largest table, and for the two counts */
 #define MENDUVO_MOST_SMT_BYTES 2000000u     /* no text for solvers is longer */
 
+/* How many numbers are held for a thread, one for each name: 16 locals, 8 globals, 4 mutexes. See menduvo_take_line. */
+#define MENDUVO_NAMES 28u
+
 /*
  * An answer.
  *
@@ -68,6 +72,18 @@ typedef struct {
     uint16_t refusal, place;
     size_t bytes;
 } MenduvoTextNumbers;
+
+/*
+ * An answer about one line of a thread: the copies of its names.
+ *
+ * Where `refusal` is 0 the line was taken: `place` is 0, and the other four are the record numbers of the copies that the line has
+ * before it, of the guard's local, of operand a (for a load of the global a), of operand b and of the target; 0 where the line has no
+ * such name, or the name no copy. They are the four numbers that its constraint 4 has after the line. Where `refusal` is 4, 6 or 9
+ * the line was refused: `place` is where, as above, and the other four are 0. No other refusal is given.
+ */
+typedef struct {
+    uint16_t refusal, place, guard, a, b, target;
+} MenduvoCopies;
 
 /*
  * The refusals in checking order, each with its number and what it means: the macro X is used once for each, as
@@ -104,7 +120,7 @@ static inline const char *menduvo_refusal_text(uint16_t refusal) {
 /*
  * Whether the other calls take this case.
  *   1  accepted
- * Refusals 1 to 9, which every other call but the listing gives too, first and for the same cases.
+ * Refusals 1 to 9, which every other call on a case but the listing gives too, first and for the same cases.
  */
 MenduvoNumbers menduvo_accept(const uint8_t *case_, size_t case_len);
 
@@ -167,6 +183,27 @@ MenduvoTextNumbers menduvo_smt_length(const uint8_t *case_, size_t case_len);
  * Refusals 1 to 9, and then 10 where `text` is shorter than menduvo_smt_length says.
  */
 MenduvoTextNumbers menduvo_smt_text(const uint8_t *case_, size_t case_len, uint8_t *text, size_t text_len);
+
+/*
+ * Takes one more line of a thread, for a builder that makes the lines of a case as it goes: each thread's front to back, each line
+ * once. It answers with the copies of the line's names before it, which is the row of its constraint 4.
+ *
+ * `globals` and `mutexes` are G and M of the case that is built, `number` is the line's record number, and `record` has the eight
+ * fields of its record: next, kind, guard, target, op, a, b, c. The field next is not looked at, since a builder may not know it yet.
+ *
+ * `held` is what is held for the thread, a record number for each name: local x at x, global g at 16 + g, mutex m at 16 + G + m. Each
+ * thread has its own, all 0 before its first line. Afterwards it has `number` for the line's target, guarded or not, and is else as
+ * it was; an assert or an assume has no target, and changes nothing. So after any line it has for each name the latest line up to
+ * there with this target, or 0; and after the thread's last line, for each item, the last copy that the 6s have. What it has before
+ * is not tested: any numbers are taken as they are.
+ *
+ * Refusals, in this order:
+ *   4  G is over 8 or M is over 4
+ *   6  `number` is not 1 to 256: no first or next number can name such a record
+ *   9  the record breaks the rules of its fields, for this G and M; the place is `number`
+ */
+MenduvoCopies menduvo_take_line(uint16_t globals, uint16_t mutexes, uint16_t number, const uint16_t record[8],
+                                uint16_t held[MENDUVO_NAMES]);
 
 #ifdef __cplusplus
 }

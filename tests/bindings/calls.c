@@ -1,5 +1,6 @@
 /* Every call of bindings/menduvo.h from C: a case on standard input, an assignment as arguments. Prints the numbers of each answer
- * and what was written; then refusals 1 and 10 to 12, with what the slices still hold. */
+ * and what was written; then refusals 1 and 10 to 12, with what the slices still hold. The lines of the case are taken thread by
+ * thread, front to back, with what is held after each thread; then a lock and refusals 4, 6 and 9. */
 #include "menduvo.h"
 #include <stdio.h>
 #include <stdlib.h>
@@ -12,9 +13,45 @@ static void tell_text(const char *call, MenduvoTextNumbers n) {
     printf("%s: %u %u %lu\n", call, n.refusal, n.place, (unsigned long)n.bytes);
 }
 
+static void tell_copies(const char *call, MenduvoCopies n) {
+    printf("%s: %u %u %u %u %u %u\n", call, n.refusal, n.place, n.guard, n.a, n.b, n.target);
+}
+
 static void tell_slice(const uint16_t *numbers, size_t count) {
     for (size_t i = 0; i < count; i++) printf(" %u", numbers[i]);
     printf("\n");
+}
+
+/* The 16 bits at a place of the case, low byte first. */
+static uint16_t field(const uint8_t *bytes, size_t place) {
+    return (uint16_t)(bytes[2 * place] | bytes[2 * place + 1] << 8);
+}
+
+static void take_lines(const uint8_t *bytes) {
+    uint16_t record[8];
+    for (size_t thread = 0; thread < field(bytes, 0); thread++) {
+        uint16_t held[MENDUVO_NAMES] = {0};
+        for (uint16_t number = field(bytes, 4 + thread); number != 0; number = record[0]) {
+            for (size_t i = 0; i < 8; i++) record[i] = field(bytes, 16 + 8 * ((size_t)number - 1) + i);
+            tell_copies("take_line", menduvo_take_line(field(bytes, 2), field(bytes, 3), number, record, held));
+        }
+        tell_slice(held, MENDUVO_NAMES);
+    }
+}
+
+static void take_others(void) {
+    /* Mutex 1 of two, after three globals, where local 2 is 0. Its next number is one that no record can have. */
+    const uint16_t lock[8] = {999, 7, 19, 1, 0, 0, 0, 0};
+    uint16_t held[MENDUVO_NAMES];
+    for (uint16_t name = 0; name < MENDUVO_NAMES; name++) held[name] = (uint16_t)(1000 + name);
+    tell_copies("take_line, a lock", menduvo_take_line(3, 2, 256, lock, held));
+    tell_copies("take_line, the same again", menduvo_take_line(3, 2, 255, lock, held));
+    tell_copies("take_line, nine globals", menduvo_take_line(9, 2, 0, lock, held));
+    tell_copies("take_line, five mutexes", menduvo_take_line(3, 5, 0, lock, held));
+    tell_copies("take_line, no record", menduvo_take_line(3, 1, 0, lock, held));
+    tell_copies("take_line, record 257", menduvo_take_line(3, 1, 257, lock, held));
+    tell_copies("take_line, one mutex", menduvo_take_line(3, 1, 77, lock, held));
+    tell_slice(held, MENDUVO_NAMES);
 }
 
 int main(int argc, char **argv) {
@@ -56,5 +93,8 @@ int main(int argc, char **argv) {
     tell_text("smt_length, a byte less of the case", menduvo_smt_length(bytes, length - 1));
     tell_text("smt_text, a byte less of the case", menduvo_smt_text(bytes, length - 1, (uint8_t *)kept, 4));
     tell_slice(kept, 2);
+
+    take_lines(bytes);
+    take_others();
     return 0;
 }

@@ -73,3 +73,16 @@ MenduvoNumbers menduvo_replay(const uint8_t *case_, size_t case_len, const uint1
     if (lie_is("answer")) return answer(4, 0, 0);
     return answer(1, 4, 0);
 }
+
+/* Copies beside a refusal or a place, a refusal that no line meets, or the place of another. */
+MenduvoCopies menduvo_take_line(uint16_t globals, uint16_t mutexes, uint16_t number, const uint16_t record[8],
+                                uint16_t held[MENDUVO_NAMES]) {
+    (void)globals, (void)mutexes, (void)record, (void)held;
+    MenduvoCopies copies = {0, 0, 0, 0, 0, 0};
+    if (lie_is("line refused")) copies.refusal = 7;
+    if (lie_is("line refused, with place")) copies.refusal = 6, copies.place = number;
+    if (lie_is("line refused, with copies")) copies.refusal = 9, copies.place = number, copies.target = 1;
+    if (lie_is("line refused elsewhere")) copies.refusal = 9, copies.place = (uint16_t)(number + 1);
+    if (lie_is("line taken, with place")) copies.place = number;
+    return copies;
+}

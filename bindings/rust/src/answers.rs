@@ -49,6 +49,14 @@ pub enum Listed {
     Refused { number: u16, place: u16 },
 }
 
+/// A line was taken, and these are the records of the copies that its names have before it, 0 where there is none: of the guard's
+/// local, of operand a (for a load of the global a), of operand b and of the target. Or it was refused.
+#[derive(Clone, Copy, Debug, PartialEq, Eq)]
+pub enum Taken {
+    Copies { guard: u16, a: u16, b: u16, target: u16 },
+    Refused { number: u16, place: u16 },
+}
+
 impl Display for Verdict {
     fn fmt(&self, to: &mut Formatter) -> fmt::Result {
         match *self {
@@ -106,6 +114,26 @@ impl Display for Listed {
             Listed::Text { bytes } => write!(to, "a listing of {}", count(bytes, "byte", "bytes")),
             Listed::Refused { number, place } => Refusal { number, place }.fmt(to),
         }
+    }
+}
+
+impl Display for Taken {
+    fn fmt(&self, to: &mut Formatter) -> fmt::Result {
+        match *self {
+            Taken::Copies { guard, a, b, target } => {
+                let [guard, a, b, target] = [guard, a, b, target].map(copy);
+                write!(to, "the copies before it: guard {guard}, a {a}, b {b}, target {target}")
+            }
+            Taken::Refused { number, place } => Refusal { number, place }.fmt(to),
+        }
+    }
+}
+
+/// `record 3`, or `none` for 0.
+fn copy(number: u16) -> String {
+    match number {
+        0 => "none".to_string(),
+        _ => format!("record {number}"),
     }
 }
 

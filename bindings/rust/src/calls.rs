@@ -1,7 +1,7 @@
-//! The eight calls: safe functions on slices.
+//! The nine calls: safe functions on slices.
 
-use crate::library::{self, read, read_text, Numbers};
-use crate::{Checked, Decoded, Encoded, Listed, Refusal, Replayed, Verdict};
+use crate::library::{self, read, read_copies, read_text, Numbers};
+use crate::{Checked, Decoded, Encoded, Listed, Refusal, Replayed, Taken, Verdict, NAMES};
 
 /// Whether the other calls take this case. Refusals 1 to 9.
 pub fn accept(case: &[u8]) -> Verdict {
@@ -93,4 +93,20 @@ pub fn smt_length(case: &[u8]) -> Result<usize, Refusal> {
 pub fn smt_text(case: &[u8], text: &mut [u8]) -> Result<usize, Refusal> {
     let numbers = library::smt_text(case, text);
     read_text(numbers, text.len())
+}
+
+/// Takes one more line of a thread, for a builder that makes the lines of a case as it goes: each thread's front to back, each line
+/// once. It answers with the copies of the line's names before it, the four numbers that its constraint 4 has after the line.
+///
+/// `globals` and `mutexes` are G and M of the case that is built, `number` is the line's record number, and `record` has the eight
+/// fields of its record: next, kind, guard, target, op, a, b, c. The field next is not looked at.
+///
+/// `held` has a record number for each name of the thread: local x at x, global g at 16 + g, mutex m at 16 + G + m. Each thread
+/// has its own, all 0 before its first line. Afterwards it has `number` for the line's target, guarded or not, and is else as it
+/// was. So after any line it has for each name the latest line up to there with this target, or 0, and after the thread's last
+/// line, for each item, the last copy that the 6s have. What it has before is not tested.
+///
+/// Refusals 4 (G is over 8 or M over 4), then 6 (`number` is not 1 to 256), then 9 (the fields; the place is `number`).
+pub fn take_line(globals: u16, mutexes: u16, number: u16, record: &[u16; 8], held: &mut [u16; NAMES]) -> Taken {
+    read_copies(library::take_line(globals, mutexes, number, record, held), number)
 }

@@ -1,10 +1,10 @@
 //! Menduvo's proved calls, for Rust: safe functions on slices over the static library `libmenduvo.a`.
 //!
 //! What each call answers, and what it leaves in each slice that it is lent, is defined in `crates/model/specs` (`Accept`,
-//! `Answers`, `Listing`) and `crates/script/specs` (`Text`); the library is proved to give just that. This package passes the
-//! slices and reads the numbers back into answers, which is not proved. It is the one place in this repository with unsafe code,
-//! and all of that stands in the private module `library`: the declaration of the eight functions of C, which nothing checks
-//! against their source, and the eight calls. The proof asks three rules of a caller: pointers are valid for their lengths,
+//! `Answers`, `Copies`, `Listing`) and `crates/script/specs` (`Text`); the library is proved to give just that. This package
+//! passes the slices and reads the numbers back into answers, which is not proved. It is the one place in this repository with
+//! unsafe code, and all of that stands in the private module `library`: the declaration of the nine functions of C, which nothing
+//! checks against their source, and the nine calls. The proof asks three rules of a caller: pointers are valid for their lengths,
 //! aligned, and a slice that is written overlaps no other. Rust's slices keep them.
 //!
 //! A slice that is written is written from its start, and numbers beyond the result keep their values. A refused call alters
@@ -24,9 +24,9 @@ mod calls;
 mod library;
 mod refusal;
 
-pub use answers::{Checked, Decoded, Encoded, Listed, Replayed, Verdict};
+pub use answers::{Checked, Decoded, Encoded, Listed, Replayed, Taken, Verdict};
 #[cfg(feature = "link")]
-pub use calls::{accept, check, decode, encode, listing, replay, smt_length, smt_text};
+pub use calls::{accept, check, decode, encode, listing, replay, smt_length, smt_text, take_line};
 pub use refusal::Refusal;
 
 /// The most bytes that an accepted case has.
@@ -43,3 +43,5 @@ pub const MOST_ITEMS: usize = 12;
 pub const MOST_LISTING_BYTES: usize = 43_392;
 /// The most bytes that a text for solvers has: a slice of so many is never refused with 10.
 pub const MOST_SMT_BYTES: usize = 2_000_000;
+/// How many numbers are held for a thread, one for each name: 16 locals, 8 globals, 4 mutexes.
+pub const NAMES: usize = 28;

@@ -1,6 +1,6 @@
 //! The C interface of `bindings/menduvo.h`, and all unsafe code of this repository.
 
-use crate::Refusal;
+use crate::{Refusal, Taken, NAMES};
 use std::fmt::Debug;
 
 /// An answer in the document's numbers, as C has it.
@@ -21,6 +21,18 @@ pub struct TextNumbers {
     pub refusal: u16,
     pub place: u16,
     pub bytes: usize,
+}
+
+/// An answer about one line, as C has it.
+#[repr(C)]
+#[derive(Clone, Copy, Debug)]
+pub struct Copies {
+    pub refusal: u16,
+    pub place: u16,
+    pub guard: u16,
+    pub a: u16,
+    pub b: u16,
+    pub target: u16,
 }
 
 unsafe extern "C" {
@@ -46,11 +58,13 @@ unsafe extern "C" {
     fn menduvo_listing(case: *const u8, case_len: usize, text: *mut u8, text_len: usize) -> Numbers;
     fn menduvo_smt_length(case: *const u8, case_len: usize) -> TextNumbers;
     fn menduvo_smt_text(case: *const u8, case_len: usize, text: *mut u8, text_len: usize) -> TextNumbers;
+    fn menduvo_take_line(globals: u16, mutexes: u16, number: u16, record: *const u16, held: *mut u16) -> Copies;
 }
 
 // SAFETY, of every call below: each pointer and its length are those of one slice, which is lent until the call returns and
-// which Rust keeps aligned and not null, also where it is empty. A slice that is written is lent as mutable, so no other slice
-// overlaps it. The library reads and writes within the slices and keeps no pointer.
+// which Rust keeps aligned and not null, also where it is empty. A pointer without a length is that of an array with as many
+// elements as the header says. A slice that is written is lent as mutable, so no other slice overlaps it. The library reads and
+// writes within the slices and keeps no pointer.
 
 pub fn accept(case: &[u8]) -> Numbers {
     unsafe { menduvo_accept(case.as_ptr(), case.len()) }
@@ -86,6 +100,10 @@ pub fn smt_text(case: &[u8], text: &mut [u8]) -> TextNumbers {
     unsafe { menduvo_smt_text(case.as_ptr(), case.len(), text.as_mut_ptr(), text.len()) }
 }
 
+pub fn take_line(globals: u16, mutexes: u16, number: u16, record: &[u16; 8], held: &mut [u16; NAMES]) -> Copies {
+    unsafe { menduvo_take_line(globals, mutexes, number, record.as_ptr(), held.as_mut_ptr()) }
+}
+
 /// The answer that the numbers stand for.
 pub fn read<Answer>(
     numbers: Numbers,
@@ -106,6 +124,16 @@ pub fn read_text(numbers: TextNumbers, most: usize) -> Result<usize, Refusal> {
         TextNumbers { refusal: 0, place: 0, bytes } if bytes <= most => Ok(bytes),
         TextNumbers { refusal: number @ 1..=10, place, bytes: 0 } => Err(Refusal { number, place }),
         _ => stand_for_none(&numbers),
+    }
+}
+
+/// The copies of the line with this record number, or why it was refused.
+pub fn read_copies(copies: Copies, line: u16) -> Taken {
+    match copies {
+        Copies { refusal: 0, place: 0, guard, a, b, target } => Taken::Copies { guard, a, b, target },
+        Copies { refusal: number @ (4 | 6), place: 0, guard: 0, a: 0, b: 0, target: 0 } => Taken::Refused { number, place: 0 },
+        Copies { refusal: 9, place, guard: 0, a: 0, b: 0, target: 0 } if place == line => Taken::Refused { number: 9, place },
+        _ => stand_for_none(&copies),
     }
 }
 

@@ -1,7 +1,7 @@
 //! What the Rust package has without a library: the refusals' texts, a line each; and then every answer in words.
 #![forbid(unsafe_code)]
 
-use menduvo::{Checked, Decoded, Encoded, Listed, Refusal, Replayed, Verdict};
+use menduvo::{Checked, Decoded, Encoded, Listed, Refusal, Replayed, Taken, Verdict};
 use std::error::Error;
 
 fn main() {
@@ -24,6 +24,8 @@ fn main() {
     println!("{}", Replayed::Refused { number: 14, place: 5 });
     println!("{}", Listed::Text { bytes: 220 });
     println!("{}", Listed::Refused { number: 10, place: 0 });
+    println!("{}", Taken::Copies { guard: 0, a: 3, b: 0, target: 256 });
+    println!("{}", Taken::Refused { number: 6, place: 0 });
     let error: Box<dyn Error> = Box::new(Refusal { number: 2, place: 0 });
     println!("{error}");
 }
