@@ -54,7 +54,8 @@ pub fn listing(calls: &dyn Calls, case: &[u8]) -> Result<String, String> {
 }
 
 /// Demands that the listing of a case is one refusal, that each of the other
-/// seven calls meets it, and that none of these touches what it was lent.
+/// seven calls on a case meets it, and that none of these touches what it was
+/// lent.
 pub fn refused_by_all(calls: &dyn Calls, case: &[u8], refusal: Refusal, tally: &mut Tally) -> Outcome {
     let about = || format!("case {case:?}");
     tally.same(calls.accept(case), Verdict::from(refusal), about)?;

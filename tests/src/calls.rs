@@ -1,4 +1,4 @@
-//! The eight calls of the library and their replies.
+//! The nine calls of the library and their replies.
 //!
 //! Both the second implementation and the proved library stand behind the
 //! trait `Calls`, so that each test can be run on either of them.
@@ -82,6 +82,24 @@ pub enum Spelled {
     },
 }
 
+/// How many numbers are held for a thread: 16 locals, 8 globals, 4 mutexes.
+pub const NAMES: usize = 28;
+
+#[derive(Clone, Copy, Debug, PartialEq, Eq)]
+pub enum Taken {
+    /// The copies of the line's names, 0 where there is none.
+    Copies {
+        guard: u16,
+        a: u16,
+        b: u16,
+        target: u16,
+    },
+    Refused {
+        number: u16,
+        place: u16,
+    },
+}
+
 pub trait Calls {
     fn accept(&self, case: &[u8]) -> Verdict;
     fn encode(&self, case: &[u8], table: &mut [u16]) -> Encoded;
@@ -91,6 +109,7 @@ pub trait Calls {
     fn listing(&self, case: &[u8], text: &mut [u8]) -> Listed;
     fn smt_length(&self, case: &[u8]) -> Spelled;
     fn smt_text(&self, case: &[u8], text: &mut [u8]) -> Spelled;
+    fn take_line(&self, globals: u16, mutexes: u16, number: u16, record: &[u16; 8], held: &mut [u16; NAMES]) -> Taken;
 }
 
 /// Every reply can be made from a refusal.
@@ -104,7 +123,7 @@ macro_rules! replies_that_can_refuse {
     )* };
 }
 
-replies_that_can_refuse!(Verdict, Encoded, Checked, Decoded, Replayed, Listed, Spelled);
+replies_that_can_refuse!(Verdict, Encoded, Checked, Decoded, Replayed, Listed, Spelled, Taken);
 
 impl Verdict {
     pub fn refusal(self) -> Option<Refusal> {

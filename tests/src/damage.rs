@@ -136,7 +136,7 @@ fn break_a_record(random: &mut Random, draft: &mut Draft) -> u16 {
 /// The line with one field that its kind does not allow. (A line that is
 /// already broken stays broken: its kind or guard may be out of range, and the
 /// change below only takes one field further out.)
-fn broken_line(random: &mut Random, draft: &Draft, line: &Line) -> Line {
+pub fn broken_line(random: &mut Random, draft: &Draft, line: &Line) -> Line {
     let mut line = *line;
     match random.below(7) {
         0 => line.kind = random.pick(&[0, 9, 10, 256, 65_535]),

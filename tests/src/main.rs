@@ -11,6 +11,7 @@ mod ask;
 mod calls;
 mod command;
 mod compare;
+mod compare_lines;
 mod compare_text;
 mod damage;
 mod damage_source;

@@ -1,6 +1,6 @@
 //! The proved library, through its safe wrapper in `bindings/rust`.
 
-use crate::calls::{Calls, Checked, Decoded, Encoded, Listed, Replayed, Spelled, Verdict};
+use crate::calls::{Calls, Checked, Decoded, Encoded, Listed, Replayed, Spelled, Taken, Verdict, NAMES};
 
 pub struct Proved;
 
@@ -56,6 +56,13 @@ impl Calls for Proved {
 
     fn smt_text(&self, case: &[u8], text: &mut [u8]) -> Spelled {
         spelled(menduvo::smt_text(case, text))
+    }
+
+    fn take_line(&self, globals: u16, mutexes: u16, number: u16, record: &[u16; 8], held: &mut [u16; NAMES]) -> Taken {
+        match menduvo::take_line(globals, mutexes, number, record, held) {
+            menduvo::Taken::Copies { guard, a, b, target } => Taken::Copies { guard, a, b, target },
+            menduvo::Taken::Refused { number, place } => Taken::Refused { number, place },
+        }
     }
 }
 

@@ -3,6 +3,7 @@
 
 use crate::calls::Calls;
 use crate::compare::{checks, decodings, lengths, listings, replays, tables, verdicts, Comparison};
+use crate::compare_lines::single_lines;
 use crate::report::Report;
 
 /// How often each reply must have been met at least.
@@ -51,13 +52,28 @@ const LISTINGS: [&str; 11] = [
     "refused 10",
 ];
 
-const COMPARISONS: [(&str, Comparison, u64, &[&str]); 7] = [
+const LINES: [&str; 11] = [
+    "kind 1 taken",
+    "kind 2 taken",
+    "kind 3 taken",
+    "kind 4 taken",
+    "kind 5 taken",
+    "kind 6 taken",
+    "kind 7 taken",
+    "kind 8 taken",
+    "refused 4",
+    "refused 6",
+    "refused 9",
+];
+
+const COMPARISONS: [(&str, Comparison, u64, &[&str]); 8] = [
     ("verdicts", verdicts, 20_000, &VERDICTS),
     ("tables", tables, 10_000, &["encoded", "refused 6", "refused 9"]),
     ("checks", checks, 4_000, &CHECKS),
     ("decodings", decodings, 4_000, &DECODINGS),
     ("replays", replays, 20_000, &REPLAYS),
     ("listings", listings, 2_000, &LISTINGS),
+    ("single lines", single_lines, 20_000, &LINES),
     ("every length of every slice", lengths, 200, &["encoded", "refused 10", "decoded", "listed"]),
 ];
 

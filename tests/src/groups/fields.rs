@@ -1,5 +1,5 @@
 //! Refusal 9 in full: for each kind and each field, values on both sides of
-//! what the kind allows.
+//! what the kind allows. The group `lines` tries the same lines one by one.
 
 use crate::calls::{Calls, Verdict};
 use crate::draft::Draft;
@@ -23,9 +23,13 @@ const LOCAL: (u16, u16) = (0, 15);
 const OPERAND: (u16, u16) = (0, 16);
 const ONLY_CONSTANT: (u16, u16) = (16, 16);
 const ANYTHING: (u16, u16) = (0, 65_535);
-/// The drafts here have three globals and two mutexes.
-const GLOBAL: (u16, u16) = (0, 2);
-const MUTEX: (u16, u16) = (0, 1);
+/// The lines here belong to cases with three globals and two mutexes.
+pub const GLOBALS: u16 = 3;
+pub const MUTEXES: u16 = 2;
+const GLOBAL: (u16, u16) = (0, GLOBALS - 1);
+const MUTEX: (u16, u16) = (0, MUTEXES - 1);
+
+pub const KINDS: [&str; 8] = ["compute", "store", "load", "input", "assert", "assume", "lock", "unlock"];
 
 /// The rules of an expression, whatever the kind: "0 gives a (then b is 0)",
 /// "An operand 0 to 15 is a local, 16 is the constant c", "c is 0 unless a
@@ -63,20 +67,18 @@ fn rules() -> Vec<Rule> {
 }
 
 pub fn run(calls: &dyn Calls, report: &mut Report) {
-    for name in ["compute", "store", "load", "input", "assert", "assume", "lock", "unlock"] {
-        report.check(name, |tally| {
-            let mut rules = rules().into_iter().filter(|rule| rule.name == name);
-            rules.try_for_each(|rule| keeps_to(calls, &rule, tally))
+    for kind in KINDS {
+        report.check(kind, |tally| {
+            let mut lines = tried_lines(kind).into_iter();
+            lines.try_for_each(|(line, is_good)| verdict(calls, line, is_good, tally))
         });
     }
     report.check("no other kind", |tally| {
-        for kind in [0, 9, 10, 16, 255, 256, 257, 65_535] {
-            verdict(calls, Line { kind, ..unlock(0) }, false, tally)?;
-        }
-        Ok(())
+        let mut lines = lines_of_no_kind().into_iter();
+        lines.try_for_each(|line| verdict(calls, line, false, tally))
     });
     report.check("no globals, no mutexes", |tally| {
-        for line in [store(0, constant(1)), load(0, 0), lock(0), unlock(0)] {
+        for line in lines_with_items() {
             let draft = Draft::new(2, 1).with_thread(0, &[line]);
             let refused = Verdict::Refused { number: 9, place: 1 };
             tally.same(calls.accept(&draft.bytes()), refused, || format!("{line:?}"))?;
@@ -85,17 +87,32 @@ pub fn run(calls: &dyn Calls, report: &mut Report) {
     });
 }
 
-fn keeps_to(calls: &dyn Calls, rule: &Rule, tally: &mut Tally) -> Outcome {
-    // "Guard 0 is always; 1 to 16 [...]; 17 to 32".
-    let fields = [(2, (0, 32)), (3, rule.target), (4, rule.op), (5, rule.a), (6, rule.b), (7, rule.c)];
-    for (field, (least, most)) in fields {
-        for value in tried_values(least, most) {
-            let mut fields = rule.line.fields();
-            fields[field] = value;
-            verdict(calls, fields.into(), (least..=most).contains(&value), tally)?;
+/// Lines that name an item, of which a case may have none.
+pub fn lines_with_items() -> [Line; 4] {
+    [store(0, constant(1)), load(0, 0), lock(0), unlock(0)]
+}
+
+/// Lines with kinds that there are not.
+pub fn lines_of_no_kind() -> [Line; 8] {
+    [0, 9, 10, 16, 255, 256, 257, 65_535].map(|kind| Line { kind, ..unlock(0) })
+}
+
+/// The lines of a kind, each field in turn on both sides of its limits, and
+/// whether the line keeps the rules.
+pub fn tried_lines(kind: &str) -> Vec<(Line, bool)> {
+    let mut lines = Vec::new();
+    for rule in rules().iter().filter(|rule| rule.name == kind) {
+        // "Guard 0 is always; 1 to 16 [...]; 17 to 32".
+        let fields = [(2, (0, 32)), (3, rule.target), (4, rule.op), (5, rule.a), (6, rule.b), (7, rule.c)];
+        for (field, (least, most)) in fields {
+            for value in tried_values(least, most) {
+                let mut fields = rule.line.fields();
+                fields[field] = value;
+                lines.push((fields.into(), (least..=most).contains(&value)));
+            }
         }
     }
-    Ok(())
+    lines
 }
 
 /// All small values, both ends with what lies beside them, and large ones.
@@ -108,7 +125,7 @@ fn tried_values(least: u16, most: u16) -> Vec<u16> {
 /// Demands the verdict on a case whose second record is the line.
 fn verdict(calls: &dyn Calls, line: Line, is_good: bool, tally: &mut Tally) -> Outcome {
     let lines = [compute(0, constant(1)), line, compute(1, local(0))];
-    let draft = Draft::new(2, 1).with_globals(&[1, 2, 3]).with_mutexes(2).with_thread(0, &lines);
+    let draft = Draft::new(2, 1).with_globals(&[1, 2, 3]).with_mutexes(MUTEXES).with_thread(0, &lines);
     let wanted = match is_good {
         true => Verdict::Accepted,
         false => Verdict::Refused { number: 9, place: 2 },

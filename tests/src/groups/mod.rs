@@ -14,6 +14,7 @@ mod differential;
 mod fields;
 mod generator;
 mod limits;
+mod lines;
 mod listing;
 mod mutants;
 mod refusals;
@@ -52,6 +53,7 @@ pub fn all() -> Vec<Group> {
         group("limits", "both sides of every limit", limits::run),
         group("refusals", "refusals 1 to 9 and their order", refusals::run),
         group("calls", "refusals 10 to 15 and their order", refusals_of_calls::run),
+        group("lines", "lines taken one by one", lines::run),
         group("generator", "random cases have all there is", generator::run),
         group("slices", "what calls leave in slices", slices::run),
         group("text", "the constraints as SMT-LIB text", text::run),

@@ -3,6 +3,7 @@
 
 use crate::calls::Calls;
 use crate::compare::{checks, decodings, lengths, listings, replays, tables, verdicts, Comparison};
+use crate::compare_lines::{single_lines, whole_threads};
 use crate::compare_text::{texts, truths};
 use crate::demand3::compare;
 use crate::generate::{BUSY, BUSY_WITH_INPUTS, SMALL};
@@ -12,7 +13,7 @@ use crate::second::{Second, Wrong, RIGHT};
 /// Rounds for each comparison: few, since a mistake should be found soon.
 const ROUNDS: u64 = 150;
 
-const MISTAKES: [(Wrong, &[Comparison]); 42] = [
+const MISTAKES: [(Wrong, &[Comparison]); 53] = [
     (Wrong::StrayNextUnseen, &[verdicts]),
     (Wrong::DropsA6, &[tables, demand_3]),
     (Wrong::FivesLast, &[tables]),
@@ -42,6 +43,17 @@ const MISTAKES: [(Wrong, &[Comparison]); 42] = [
     (Wrong::StrayLeftFirst, &[replays]),
     (Wrong::StrayLeftUnseen, &[replays, demand_3_with_inputs]),
     (Wrong::StrayLeftByRecord, &[replays]),
+    (Wrong::GuardedLineNotTaken, &[single_lines, whole_threads]),
+    (Wrong::FirstLineStays, &[single_lines, whole_threads]),
+    (Wrong::MutexAmongGlobals, &[single_lines, whole_threads]),
+    (Wrong::TakenBeforeRead, &[single_lines, whole_threads]),
+    (Wrong::AssertTaken, &[single_lines, whole_threads]),
+    (Wrong::HeldThoughRefused, &[single_lines]),
+    (Wrong::FieldsBeforeNumber, &[single_lines]),
+    (Wrong::NextLookedAt, &[single_lines, whole_threads]),
+    (Wrong::ConstantHasCopy, &[single_lines, whole_threads]),
+    (Wrong::UnusedOperandHasCopy, &[single_lines, whole_threads]),
+    (Wrong::LoadOfLocal, &[single_lines, whole_threads]),
     (Wrong::PlaceBeforeNumber, &[listings, lengths]),
     (Wrong::WritesThoughShort, &[listings, lengths, texts]),
     (Wrong::NoLastLineEnd, &[texts, truths]),
@@ -57,7 +69,7 @@ const MISTAKES: [(Wrong, &[Comparison]); 42] = [
     (Wrong::OldValueOpen, &[texts, truths]),
 ];
 
-const ALL: [Comparison; 12] = [
+const ALL: [Comparison; 14] = [
     verdicts,
     tables,
     checks,
@@ -65,6 +77,8 @@ const ALL: [Comparison; 12] = [
     replays,
     listings,
     lengths,
+    single_lines,
+    whole_threads,
     texts,
     truths,
     demand_3,

@@ -61,7 +61,7 @@ fn value_row(case: &Case, earlier: &[u16], line: u16) -> Row {
 
 /// The names that a line reads as a and as b. "A copy for a constant is 0",
 /// so a constant has no name here; op 0 and a load use no b.
-fn operand_names(record: &Record) -> (Option<Name>, Option<Name>) {
+pub fn operand_names(record: &Record) -> (Option<Name>, Option<Name>) {
     let local = |operand: u16| (operand < 16).then_some(Name::Local(operand));
     if record.kind == LOAD {
         (Some(Name::Global(record.a)), None)

@@ -1,6 +1,6 @@
-//! The second implementation: accept, encode, check, decode, replay and
-//! listing, written from documents 01 and 02 alone and kept as plain as can be;
-//! and the constraints as text, written from `docs/SMT-TEXT.md` as well.
+//! The second implementation: accept, encode, check, decode, replay, listing and
+//! taking a line, written from documents 01 and 02 alone and kept as plain as can
+//! be; and the constraints as text, written from `docs/SMT-TEXT.md` as well.
 
 mod case;
 mod check;
@@ -11,15 +11,17 @@ mod read;
 mod replay;
 mod smt;
 pub mod source;
+mod take;
 mod wrong;
 
 pub use wrong::Wrong;
 
-use crate::calls::{Calls, Checked, Decoded, Encoded, Listed, Refusal, Replayed, Spelled, Verdict};
+use crate::calls::{Calls, Checked, Decoded, Encoded, Listed, Refusal, Replayed, Spelled, Taken, Verdict};
 use case::Case;
 use check::Assigned;
 use read::{read, refusal};
 use replay::{Machine, Stop};
+use take::{Handed, Held};
 
 /// The second implementation, with at most one deliberate mistake.
 pub struct Second {
@@ -61,6 +63,10 @@ pub fn smt_text(case: &[u8], text: &mut [u8]) -> Spelled {
     RIGHT.smt_text(case, text)
 }
 
+pub fn take_line(globals: u16, mutexes: u16, number: u16, record: &[u16; 8], held: &mut Held) -> Taken {
+    RIGHT.take_line(globals, mutexes, number, record, held)
+}
+
 impl Calls for Second {
     fn accept(&self, case: &[u8]) -> Verdict {
         read(case, self.wrong).map_or_else(Verdict::from, |_| Verdict::Accepted)
@@ -92,6 +98,11 @@ impl Calls for Second {
 
     fn smt_text(&self, case: &[u8], text: &mut [u8]) -> Spelled {
         self.try_smt_text(case, text).unwrap_or_else(Spelled::from)
+    }
+
+    fn take_line(&self, globals: u16, mutexes: u16, number: u16, record: &[u16; 8], held: &mut Held) -> Taken {
+        let handed = Handed::new(globals, mutexes, number, record, self.wrong);
+        handed.take(held).unwrap_or_else(Taken::from)
     }
 }
 

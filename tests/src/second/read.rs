@@ -9,7 +9,7 @@ pub fn refusal(number: u16) -> Refusal {
     Refusal { number, place: 0 }
 }
 
-fn refuse_if(condition: bool, number: u16) -> Result<(), Refusal> {
+pub fn refuse_if(condition: bool, number: u16) -> Result<(), Refusal> {
     if condition {
         Err(refusal(number))
     } else {
@@ -23,7 +23,7 @@ pub fn read(bytes: &[u8], wrong: Wrong) -> Result<Case, Refusal> {
     let mut case = split(bytes, wrong);
     refuse_if(!(2..=4).contains(&case.threads), 2)?;
     refuse_if(case.switches > 15, 3)?;
-    refuse_if(case.globals > 8 || case.mutexes > 4, 4)?;
+    refuse_if(has_too_many_items(case.globals, case.mutexes), 4)?;
     refuse_if(!absent_fields_are_zero(&case), 5)?;
     case.chains = follow_chains(&case).ok_or(refusal(6))?;
     let reached: usize = case.chains.iter().map(Vec::len).sum();
@@ -57,7 +57,7 @@ fn split(bytes: &[u8], wrong: Wrong) -> Case {
     }
 }
 
-fn record(fields: &[u16]) -> Record {
+pub fn record(fields: &[u16]) -> Record {
     Record {
         next: fields[0],
         kind: fields[1],
@@ -68,6 +68,11 @@ fn record(fields: &[u16]) -> Record {
         b: fields[6],
         c: fields[7],
     }
+}
+
+/// "G is over 8 or M is over 4."
+pub fn has_too_many_items(globals: usize, mutexes: usize) -> bool {
+    globals > 8 || mutexes > 4
 }
 
 /// "Fields of absent threads and globals are 0."
@@ -116,16 +121,18 @@ fn follow_chain(case: &Case, first: u16, reached: &mut [bool]) -> Option<Vec<u16
 /// "A record breaks the rules of its fields; the place is the lowest such
 /// record."
 fn lowest_broken_record(case: &Case) -> Option<u16> {
-    let broken = case.records.iter().position(|record| !keeps_the_rules(case, record))?;
+    let is_broken = |record: &Record| !keeps_the_rules(case.globals, case.mutexes, record);
+    let broken = case.records.iter().position(is_broken)?;
     Some(broken as u16 + 1)
 }
 
-/// The rules of Kinds, and "A field that its kind does not use is 0".
-fn keeps_the_rules(case: &Case, record: &Record) -> bool {
+/// The rules of Kinds, with so many globals and mutexes, and "A field that its
+/// kind does not use is 0".
+pub fn keeps_the_rules(globals: usize, mutexes: usize, record: &Record) -> bool {
     let target_is_local = record.target <= 15;
-    let target_is_global = usize::from(record.target) < case.globals;
-    let target_is_mutex = usize::from(record.target) < case.mutexes;
-    let a_is_global = usize::from(record.a) < case.globals;
+    let target_is_global = usize::from(record.target) < globals;
+    let target_is_mutex = usize::from(record.target) < mutexes;
+    let a_is_global = usize::from(record.a) < globals;
     let no_op_b_c = record.op == 0 && record.b == 0 && record.c == 0;
     let no_expression = no_op_b_c && record.a == 0;
     let kind_is_kept = match record.kind {

@@ -70,6 +70,28 @@ pub enum Wrong {
     StrayLeftUnseen,
     /// Of such inputs the one with the lowest record number is named.
     StrayLeftByRecord,
+    /// A line with a guard is not taken as a copy.
+    GuardedLineNotTaken,
+    /// A name keeps the first line that has it as target.
+    FirstLineStays,
+    /// Mutexes stand where the globals begin, whatever G is.
+    MutexAmongGlobals,
+    /// A line is taken before its copies are read.
+    TakenBeforeRead,
+    /// An assert is taken as a copy of local 0.
+    AssertTaken,
+    /// A line that is refused is taken all the same.
+    HeldThoughRefused,
+    /// A record's fields are looked at before its number.
+    FieldsBeforeNumber,
+    /// A next number that no record can have is refused.
+    NextLookedAt,
+    /// Operand 16 has the copy of the name that stands at 16.
+    ConstantHasCopy,
+    /// The b that op 0 does not use has a copy.
+    UnusedOperandHasCopy,
+    /// A load has the copy of the local with the global's number.
+    LoadOfLocal,
     /// Columns of a source are counted in bytes.
     ColumnsInBytes,
     /// A local that has a new name is still called by its plain one.
