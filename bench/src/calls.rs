@@ -1,4 +1,4 @@
-//! The eight calls on a sample, proved and in plain Rust: that they agree, how long they take, and one of them by itself.
+//! The nine calls on a sample, proved and in plain Rust: that they agree, how long they take, and one of them by itself.
 
 use std::hint::black_box;
 
@@ -6,9 +6,12 @@ use crate::measure::{compare, Times};
 use crate::plain::{self, case::Case};
 use crate::sample::Sample;
 use crate::spelling::Spelling;
-use menduvo::{Checked, Decoded, Encoded, Listed, Refusal, Replayed, Verdict};
+use menduvo::{Checked, Decoded, Encoded, Listed, Refusal, Replayed, Taken, Verdict};
 
-pub const NAMES: [&str; 8] = ["accept", "encode", "check", "decode", "replay", "listing", "smt_length", "smt_text"];
+pub const CALLS: usize = 9;
+/// The last is made for every line of the case.
+pub const NAMES: [&str; CALLS] =
+    ["accept", "encode", "check", "decode", "replay", "listing", "smt_length", "smt_text", "take_line"];
 
 /// No case has a longer text.
 const MOST_SMT_BYTES: usize = 2_000_000;
@@ -21,7 +24,12 @@ pub struct Buffers {
     items: Vec<u16>,
     text: Vec<u8>,
     smt: Vec<u8>,
+    /// For each line, thread by thread, what its taking answered; and what is held for each thread.
+    taken: Vec<Taken>,
+    held: [Held; 4],
 }
+
+type Held = [u16; menduvo::NAMES];
 
 impl Buffers {
     /// No result leaves all of them as they are here.
@@ -32,6 +40,8 @@ impl Buffers {
             items: vec![0xA5A5; menduvo::MOST_ITEMS],
             text: vec![0xA5; menduvo::MOST_LISTING_BYTES],
             smt: vec![0xA5; MOST_SMT_BYTES],
+            taken: vec![Taken::Refused { number: 0xA5A5, place: 0xA5A5 }; 256],
+            held: [[0xA5A5; menduvo::NAMES]; 4],
         }
     }
 }
@@ -42,7 +52,7 @@ type Answers = (Verdict, Encoded, Checked, Decoded, Replayed, Listed, Texted, Te
 
 /// That both give the same answers and leave the same in the buffers, and the answers that the sample was made for.
 pub fn agree(sample: &Sample) -> Result<(), String> {
-    let Sample { name, case, assignment, schedule } = sample;
+    let Sample { name, case, assignment, schedule, .. } = sample;
     let failure = |message: String| Err(format!("{name} (R {}, n {}): {message}", sample.records(), sample.switches()));
     let (mut proved_buffers, mut plain_buffers) = (Buffers::new(), Buffers::new());
     let b = &mut proved_buffers;
@@ -56,6 +66,7 @@ pub fn agree(sample: &Sample) -> Result<(), String> {
         menduvo::smt_length(case),
         menduvo::smt_text(case, &mut b.smt),
     );
+    take_lines(sample, b, menduvo::take_line);
     let b = &mut plain_buffers;
     let plain: Answers = (
         plain::accept(case),
@@ -67,13 +78,14 @@ pub fn agree(sample: &Sample) -> Result<(), String> {
         plain::smt_length(case),
         plain::smt_text(case, &mut b.smt),
     );
+    take_lines(sample, b, plain::take_line);
     if proved != plain {
         return failure(format!("the library answers {proved:?}, plain Rust {plain:?}"));
     }
     if proved_buffers != plain_buffers {
         return failure("the library and plain Rust leave different buffers".to_string());
     }
-    if let Err(message) = texts_agree(case) {
+    if let Err(message) = texts_agree(case).and_then(|()| lines_agree(sample)) {
         return failure(message);
     }
     let (_, _, checked, _, replayed, ..) = proved;
@@ -102,8 +114,54 @@ pub fn texts_agree(case: &[u8]) -> Result<(), String> {
     Ok(())
 }
 
-/// The times of the eight calls, in the order of their names. Both write to the same buffers.
-pub fn times(sample: &Sample, buffers: &mut Buffers) -> [Times; 8] {
+/// Takes every line of a sample, each thread's front to back, as a builder hands them on.
+fn take_lines(sample: &Sample, buffers: &mut Buffers, take: impl Fn(u16, u16, u16, &[u16; 8], &mut Held) -> Taken) {
+    let (globals, mutexes) = (sample.globals() as u16, sample.mutexes() as u16);
+    let mut answers = buffers.taken.iter_mut();
+    for (lines, held) in sample.lines.iter().zip(&mut buffers.held) {
+        *held = [0; menduvo::NAMES];
+        for ((number, record), answer) in lines.iter().zip(answers.by_ref()) {
+            *answer = take(globals, mutexes, *number, record, held);
+        }
+    }
+}
+
+/// That both do the same with each line of a sample, and with lines that differ from it in one field, in their number, or in the
+/// number of globals or mutexes: most of these are refused.
+fn lines_agree(sample: &Sample) -> Result<(), String> {
+    for (number, fields) in sample.lines.iter().flatten() {
+        let line = [&[sample.globals() as u16, sample.mutexes() as u16, *number], &fields[..]].concat();
+        for place in 0..line.len() {
+            for value in [line[place], 0, 1, 4, 5, 7, 8, 9, 15, 16, 17, 32, 33, 256, 257, 65_535] {
+                let mut changed = line.clone();
+                changed[place] = value;
+                line_agrees(&changed)?;
+            }
+        }
+    }
+    Ok(())
+}
+
+/// That both do the same with a line: G, M, its number and its fields. What is held is another number for each name.
+fn line_agrees(line: &[u16]) -> Result<(), String> {
+    let (&[globals, mutexes, number], record) = line.split_first_chunk().expect("three numbers stand before the fields");
+    let record = record.try_into().expect("a record has eight fields");
+    let mut proved: Held = std::array::from_fn(|name| 0xA5A5 ^ name as u16);
+    let mut plain = proved;
+    let answers = (
+        menduvo::take_line(globals, mutexes, number, record, &mut proved),
+        plain::take_line(globals, mutexes, number, record, &mut plain),
+    );
+    if answers.0 != answers.1 || proved != plain {
+        return Err(format!(
+            "taking a line with G, M, number and fields {line:?} the library and plain Rust differ: {answers:?}"
+        ));
+    }
+    Ok(())
+}
+
+/// The times of the nine calls, in the order of their names. Both write to the same buffers.
+pub fn times(sample: &Sample, buffers: &mut Buffers) -> [Times; CALLS] {
     let Sample { case, assignment, schedule, .. } = sample;
     [
         compare(buffers, |_| menduvo::accept(black_box(case)), |_| plain::accept(black_box(case))),
@@ -138,6 +196,11 @@ pub fn times(sample: &Sample, buffers: &mut Buffers) -> [Times; 8] {
             |b| menduvo::smt_text(black_box(case), black_box(&mut b.smt)),
             |b| plain::smt_text(black_box(case), black_box(&mut b.smt)),
         ),
+        compare(
+            buffers,
+            |b| take_lines(black_box(sample), black_box(b), menduvo::take_line),
+            |b| take_lines(black_box(sample), black_box(b), plain::take_line),
+        ),
     ]
 }
 
@@ -160,6 +223,8 @@ pub fn call(name: &str, side: &str) -> Option<fn(&Sample, &mut Buffers)> {
         ("smt_length", "plain") => |s, _| done(plain::smt_length(&s.case)),
         ("smt_text", "proved") => |s, b| done(menduvo::smt_text(&s.case, &mut b.smt)),
         ("smt_text", "plain") => |s, b| done(plain::smt_text(&s.case, &mut b.smt)),
+        ("take_line", "proved") => |s, b| take_lines(s, b, menduvo::take_line),
+        ("take_line", "plain") => |s, b| take_lines(s, b, plain::take_line),
         _ => return None,
     };
     Some(call)

@@ -1,6 +1,6 @@
 //! What is printed: tables in Markdown.
 
-use crate::calls::NAMES;
+use crate::calls::{CALLS, NAMES};
 use crate::measure::{Times, SAMPLES};
 use crate::sample::Sample;
 
@@ -8,9 +8,12 @@ pub fn heading() {
     println!("Nanoseconds for one call of the proved library and of plain Rust built for release, on the same input.");
     println!("Each is the median of {SAMPLES} samples, taken in turns; the ratio is that of the medians.");
     println!("Both write to the same buffers, as long as any case needs; they are not cleared between calls.");
+    println!(
+        "In the rows take_line every line of the case is taken, each thread's front to back: as many calls as it has records."
+    );
 }
 
-pub fn sizes(measured: &[(&Sample, [Times; 8])]) {
+pub fn sizes(measured: &[(&Sample, [Times; CALLS])]) {
     println!("\n| case    |   R |  n | items | call       |  proved |   plain | ratio |");
     println!("|:--------|----:|---:|------:|:-----------|--------:|--------:|------:|");
     for (sample, times) in measured {
@@ -23,7 +26,7 @@ pub fn sizes(measured: &[(&Sample, [Times; 8])]) {
 }
 
 /// A line for each call and each side, a column for each sample.
-pub fn growth(title: &str, measured: &[(String, [Times; 8])]) {
+pub fn growth(title: &str, measured: &[(String, [Times; CALLS])]) {
     println!("\n{title}:\n");
     print!("| call       |        |");
     measured.iter().for_each(|(name, _)| print!(" {name:>7} |"));
@@ -37,7 +40,7 @@ pub fn growth(title: &str, measured: &[(String, [Times; 8])]) {
     }
 }
 
-fn growth_line(call: &str, side: &str, measured: &[(String, [Times; 8])], figure: impl Fn(&[Times; 8]) -> String) {
+fn growth_line(call: &str, side: &str, measured: &[(String, [Times; CALLS])], figure: impl Fn(&[Times; CALLS]) -> String) {
     print!("| {call:10} | {side:6} |");
     measured.iter().for_each(|(_, times)| print!(" {:>7} |", figure(times)));
     println!();

@@ -2,13 +2,19 @@
 //! run breaks an assertion.
 
 use crate::made;
+use crate::plain::case::Case;
 
 pub struct Sample {
     pub name: &'static str,
     pub case: Vec<u8>,
     pub assignment: Vec<u16>,
     pub schedule: Vec<u16>,
+    /// For each thread its lines, front to back.
+    pub lines: [Vec<Line>; 4],
 }
+
+/// The number and the fields of a record.
+pub type Line = (u16, [u16; 8]);
 
 /// What a case is made to have.
 #[derive(Clone, Copy)]
@@ -56,17 +62,20 @@ impl Samples {
 impl Sample {
     /// Document 01's case A, with the schedule and the assignment of P1 and P6.
     pub fn small() -> Sample {
-        Sample {
-            name: "small",
-            case: include_bytes!("../../cases/case-a.case").to_vec(),
-            assignment: vec![0, 0, 0, 1, 2, 5, 2, 0, 1, 5, 1, 5],
-            schedule: vec![2, 1, 2],
-        }
+        let case = include_bytes!("../../cases/case-a.case").to_vec();
+        Sample::new("small", case, vec![0, 0, 0, 1, 2, 5, 2, 0, 1, 5, 1, 5], vec![2, 1, 2])
     }
 
     pub fn made(shape: Shape) -> Sample {
         let (case, assignment, schedule) = made::made(shape);
-        Sample { name: shape.name, case, assignment, schedule }
+        Sample::new(shape.name, case, assignment, schedule)
+    }
+
+    fn new(name: &'static str, case: Vec<u8>, assignment: Vec<u16>, schedule: Vec<u16>) -> Sample {
+        let Ok(accepted) = Case::accept(&case) else { unreachable!("every sample is an accepted case") };
+        let chain = |thread| accepted.chain(thread).map(|(number, record)| (number, record.fields()));
+        let lines = std::array::from_fn(|thread| chain(thread).collect());
+        Sample { name, case, assignment, schedule, lines }
     }
 
     fn field(&self, j: usize) -> usize {
@@ -81,7 +90,15 @@ impl Sample {
         self.field(1)
     }
 
+    pub fn globals(&self) -> usize {
+        self.field(2)
+    }
+
+    pub fn mutexes(&self) -> usize {
+        self.field(3)
+    }
+
     pub fn items(&self) -> usize {
-        self.field(2) + self.field(3)
+        self.globals() + self.mutexes()
     }
 }

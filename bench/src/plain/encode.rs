@@ -4,7 +4,7 @@ use super::case::Case;
 use super::record::{Record, ASSERT, ASSUME, COMPUTE, INPUT, LOAD, LOCK, STORE};
 
 /// Names are locals (0 to 15), then items; this one stands for none, and has no copy.
-const NO_NAME: usize = 28;
+const NO_NAME: usize = menduvo::NAMES;
 const FIRST_ITEM: usize = 16;
 
 /// The latest copy of each name in a thread.
@@ -59,7 +59,7 @@ fn put_values(line: u16, record: &Record, globals: usize, latest: &mut Copies, p
     }
 }
 
-fn guard_name(record: &Record) -> usize {
+pub fn guard_name(record: &Record) -> usize {
     match record.guard {
         0 => NO_NAME,
         1..=16 => usize::from(record.guard - 1),
@@ -67,7 +67,7 @@ fn guard_name(record: &Record) -> usize {
     }
 }
 
-fn operand_names(record: &Record) -> (usize, usize) {
+pub fn operand_names(record: &Record) -> (usize, usize) {
     let local = |operand: u16| if operand < 16 { usize::from(operand) } else { NO_NAME };
     match record.kind {
         LOAD => (FIRST_ITEM + usize::from(record.a), NO_NAME),
@@ -77,7 +77,7 @@ fn operand_names(record: &Record) -> (usize, usize) {
     }
 }
 
-fn target_name(record: &Record, globals: usize) -> usize {
+pub fn target_name(record: &Record, globals: usize) -> usize {
     let target = usize::from(record.target);
     match record.kind {
         COMPUTE | LOAD | INPUT => target,

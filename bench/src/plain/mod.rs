@@ -1,8 +1,8 @@
-//! The eight calls in plain Rust, for speed: what the proved library is measured against. Fixed-size arrays, ordinary checked
+//! The nine calls in plain Rust, for speed: what the proved library is measured against. Fixed-size arrays, ordinary checked
 //! indexing, no unsafe code, no heap.
 //!
-//! The calls do what document 01 asks of them, each by itself: checks 1 to 9 come first in every one, and the decoder checks its
-//! assignment. Their answers have the types of the bindings, so that they can be compared.
+//! The calls do what document 01 asks of them, each by itself: checks 1 to 9 come first in every call on a case, and the decoder
+//! checks its assignment. Their answers have the types of the bindings, so that they can be compared.
 
 pub mod case;
 mod check;
@@ -12,9 +12,10 @@ mod listing;
 pub mod record;
 mod replay;
 mod smt;
+mod take;
 
 use case::{refuse_if, Case, Refusal};
-use menduvo::{Checked, Decoded, Encoded, Listed, Replayed, Verdict};
+use menduvo::{Checked, Decoded, Encoded, Listed, Replayed, Taken, Verdict, NAMES};
 use replay::Stop;
 
 // A call of the library is never inlined, so none of these is.
@@ -60,6 +61,12 @@ pub fn smt_length(case: &[u8]) -> Result<usize, menduvo::Refusal> {
 #[inline(never)]
 pub fn smt_text(case: &[u8], text: &mut [u8]) -> Result<usize, menduvo::Refusal> {
     texted(case, text).map_err(|Refusal { number, place }| menduvo::Refusal { number, place })
+}
+
+#[inline(never)]
+pub fn take_line(globals: u16, mutexes: u16, number: u16, record: &[u16; 8], held: &mut [u16; NAMES]) -> Taken {
+    let taken = take::take(globals, mutexes, number, record, held);
+    taken.unwrap_or_else(|Refusal { number, place }| Taken::Refused { number, place })
 }
 
 fn encoded(case: &[u8], table: &mut [u16]) -> Result<Encoded, Refusal> {

@@ -41,6 +41,10 @@ impl Record {
         }
     }
 
+    pub fn of(&[next, kind, guard, target, op, a, b, c]: &[u16; 8]) -> Record {
+        Record { next, kind, guard, target, op, a, b, c }
+    }
+
     pub fn fields(&self) -> [u16; 8] {
         [self.next, self.kind, self.guard, self.target, self.op, self.a, self.b, self.c]
     }
