@@ -1,8 +1,8 @@
 #!/usr/bin/env bash
 # Tests the bindings: from C, every call that bindings/menduvo.h declares on the static library; what header and Rust package
 # have without a library, and that both say the same; and over a library that lies, that the Rust package tells numbers that stand
-# for no answer, the command a reply, items or a failing constraint that its own display does not find, and the comparison with
-# plain Rust other answers.
+# for no answer, in the command and in a builder, the command a reply, items or a failing constraint that its own display does not
+# find, and the comparison with plain Rust other answers.
 set -u
 cd -- "$(dirname -- "${BASH_SOURCE[0]}")/.." || exit
 . tests/counting.sh || exit
@@ -100,6 +100,17 @@ for lie in 'text refused' 'text place' 'text refused, with bytes' 'text longer';
     lies "$lie" 'numbers that stand for no answer' smt cases/case-a.case
 done
 lies 'text bytes' 'an SMT-LIB text that is no text' smt cases/case-a.case
+
+# A builder in Rust, over the same library: numbers about one line.
+run env MENDUVO_LIB_DIR="$scratch" cargo build --offline --quiet --manifest-path examples/rust/Cargo.toml --target-dir "$scratch/built"
+result 'the builder links with it' test "$status" = 0
+run "$scratch/built/debug/builder" "$scratch/built.case"
+result 'no lie, no complaint of the builder' test "$status" = 0
+for lie in 'line refused' 'line refused, with place' 'line refused, with copies' 'line refused elsewhere' 'line taken, with place'; do
+    run env LIE="$lie" "$scratch/built/debug/builder" "$scratch/none.case"
+    result "the lie '$lie' is told" eval '[ "$status" = 101 ] && [[ $out = *"numbers that stand for no answer"* ]]'
+done
+result 'no case is left' test ! -e "$scratch/none.case"
 
 # What is filed names the library that is linked, and this one is another.
 run bin/menduvo file cases/case-a.case "$scratch/filed" --solver-command 'echo unknown'

@@ -6,6 +6,7 @@
 #   NAME.END    a file of this name
 #   text        nothing that is run: a grammar, a list
 # A command may end with exit status 0 or 1, which is a violation found; one before which the document says 'refused' with 2.
+# Then the builders of examples/, in C and in Rust: both say the same, which is the 4s and 6s of the listing of what they build.
 set -u
 cd -- "$(dirname -- "${BASH_SOURCE[0]}")/.." || exit
 . tests/counting.sh || exit
@@ -91,7 +92,37 @@ examples() {
     all=$((all + blocks))
 }
 
+# builders: what they print, held to the listing of the case that they write.
+builders() {
+    local library=${MENDUVO_LIB_DIR:-target/staticlib} language wanted
+    run cc -std=c99 -pedantic -Wall -Wextra -Werror -Ibindings examples/c/build.c "$library/libmenduvo.a" -o "$scratch/builder-c"
+    result 'the builder in C compiles, with nothing to warn of' test "$status" = 0
+    run cargo build --offline --locked --quiet --manifest-path examples/rust/Cargo.toml --target-dir target/examples
+    result 'the builder in Rust compiles' test "$status" = 0
+    cp target/examples/debug/builder "$scratch/builder-rust"
+    for language in c rust; do
+        run "$scratch/builder-$language" "$scratch/$language.case"
+        result "the builder, $language: it builds a case" test "$status" = 0
+        printf '%s\n' "$out" >"$scratch/$language.out"
+        run bin/menduvo list "$scratch/$language.case"
+        result "the builder, $language: the case is accepted" test "$status" = 0
+        result "the builder, $language: its lines are the 4s" cmp -s <(grep '^4 ' <<<"$out") <(grep '^4 ' "$scratch/$language.out")
+        # Thread t has block t, whose 6s have the last copies item by item.
+        wanted=$(awk '$1 == 6 { last[$3] = last[$3] " " $4 } END { print last[0] "\n" last[1] }' <<<"$out")
+        run sed -n 's/^held for the items://p' "$scratch/$language.out"
+        result "the builder, $language: what is held are the last copies" test "$out" = "$wanted"
+        run "$scratch/builder-$language"
+        result "the builder, $language: without a file" test "$status, $out" = '3, builder: usage: builder CASE'
+        run "$scratch/builder-$language" "$scratch/none/built.case"
+        result "the builder, $language: a file that cannot be written" \
+            eval '[ "$status" = 3 ] && [[ $out = *"builder: "*": No such file"* ]]'
+    done
+    result 'the builders print the same' cmp -s "$scratch/c.out" "$scratch/rust.out"
+    result 'the builders build the same' cmp -s "$scratch/c.case" "$scratch/rust.case"
+}
+
 all=0
 for document in README.md docs/*.md cases/*.md; do examples "$document"; done
 result 'the documents have examples' test "$all" -gt 20
+builders
 finish
