@@ -100,19 +100,20 @@ refusal-told (spelleds.Text size) number place some e = absurd (some (sym (ap (�
 refusal-told (spelleds.Refused n p) number place some e = ap₂ spelleds.Refused (ap (λ (x : TextNumbers). x .refusal) e) (ap (λ (x : TextNumbers). x .place) e)
 
 -- A line's copies, or a refusal that has a number.
-Given : Taken → Type 0
+abbrev Given : Taken → Type 0
 Given (takens.Copies guard a b target) = Unit
 Given (takens.Refused number place) = number ≢ 0
 
-given-unless : (test : Bool) {number place : ℕ} {next : Taken} → number ≢ 0 → Given next → Given (unless test (takens.Refused number place) next)
-given-unless true some next = next
-given-unless false some next = some
+given-unless : (test : Bool) (number place : ℕ) (next : Taken) → number ≢ 0 → Given next → Given (unless test (takens.Refused number place) next)
+given-unless true number place next some given = given
+given-unless false number place next some given = some
 
 taken-given : (G M number : ℕ) (fields held : List ℕ) → Given (taken G M number fields held)
 unfolding taken
 taken-given G M number fields held =
-    given-unless (countsOk G M) (λ e. omega (arith, e)) (given-unless (numberOk number) (λ e. omega (arith, e))
-    (given-unless (fieldsOk (getD fields 1 0) G M (handedLine number fields)) (λ e. omega (arith, e)) tt))
+    given-unless (countsOk G M) 4 0 _ (λ e. omega (arith, e))
+    (given-unless (numberOk number) 6 0 _ (λ e. omega (arith, e))
+    (given-unless (fieldsOk (getD fields 1 0) G M (handedLine number fields)) 9 number _ (λ e. omega (arith, e)) tt))
 
 copies-told : (r : Taken) → Given r → (guard a b target : ℕ) → takenNumbers r ≡ takenNumbers (takens.Copies guard a b target)
     → r ≡ takens.Copies guard a b target

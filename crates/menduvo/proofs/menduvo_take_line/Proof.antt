@@ -13,7 +13,7 @@ taken-numbers-requires : tie.Need-taken-numbers-requires
 taken-numbers-requires c κs = search needs
 
 returns : tie.Need-returns
-returns c = let told = @take-line .ensures in (@taken-numbers .ensures ∙ ap takenNumbers (told .0), told .1)
+returns c = let told = c .before .take-line .ensures in (c .taken-numbers .ensures ∙ ap takenNumbers (told .0), told .1)
 
 pub menduvo-take-line-spec : {M : Type 1} → statement M
 menduvo-take-line-spec = tie.close (tie.spec take-line-requires taken-numbers-requires returns)
