@@ -18,7 +18,10 @@ use model::NAMES;
 pub fn copy_of(held: &[u16; NAMES], name: usize) -> u16
     ensures { λ r. ⌜ r ≡ heldCopy (now (held .entry)) name ⌝ }
 {
-    if name < NAMES { held[name] } else { 0 }
+    if NAMES <= name {
+        return 0;
+    }
+    held[name]
 }
 
 // Line k is taken, whose target has this name: it is now the latest copy. The copy before it.
@@ -39,14 +42,12 @@ pub fn take_line(held: &mut [u16; NAMES], globals: usize, l: Record, k: u16) -> 
     ensures { λ r. ⌜ r ≡ copiesBefore globals (now (held .entry)) (asLine l k) ⌝ }
     ensures { λ r. ⌜ now (held .exit) ≡ takeLine globals (now (held .entry)) (asLine l k) ⌝ }
 {
-    let guard = copy_of(held, guard_name(l));
-    let a = copy_of(held, operand_a(l));
-    let b = copy_of(held, operand_b(l));
-    let target = take_copy(held, target_name(globals, l), k);
+    let guard = guard_name(l);
+    let target = target_name(globals, l);
     Copies {
-        guard,
-        a,
-        b,
-        target,
+        guard: copy_of(held, guard),
+        a: copy_of(held, operand_a(l)),
+        b: copy_of(held, operand_b(l)),
+        target: take_copy(held, target, k),
     }
 }

@@ -7,6 +7,9 @@ use Rattle.copies.proofs.take_line.Tie as tie
 guard-name-requires : tie.Need-guard-name-requires
 guard-name-requires c κs = search needs
 
+target-name-requires : tie.Need-target-name-requires
+target-name-requires c κs = search needs
+
 copy-of-requires : tie.Need-copy-of-requires
 copy-of-requires c κs = search needs
 
@@ -22,22 +25,19 @@ operand-b-requires c κs = search needs
 copy-of-requires-3 : tie.Need-copy-of-requires-3
 copy-of-requires-3 c κs = search needs
 
-target-name-requires : tie.Need-target-name-requires
-target-name-requires c κs = search needs
-
 take-copy-requires : tie.Need-take-copy-requires
 take-copy-requires c κs = search needs
 
 returns : tie.Need-returns
 returns c =
     line-taken _ _ _ _ _ _ _ _ _ _ _ _
-    (c .before .before .before .before .before .before .before .before .before .before .guard-name .ensures (c .before .before .before .before .before .before .before .before .before .before .before .before .args .k))
-    (c .before .before .before .before .before .before .before .operand-a .ensures (c .before .before .before .before .before .before .before .before .before .before .before .before .args .k))
-    (c .before .before .before .before .operand-b .ensures (c .before .before .before .before .before .before .before .before .before .before .before .before .args .k))
-    (c .before .target-name .ensures (c .before .before .before .before .before .before .before .before .before .before .before .before .args .k))
-    (c .before .before .before .before .before .before .before .before .before .copy-of .ensures)
-    (c .before .before .before .before .before .before .copy-of2 .ensures)
-    (c .before .before .before .copy-of3 .ensures)
+    (c .before .before .before .before .before .before .before .before .before .before .before .guard-name .ensures (c .before .before .before .before .before .before .before .before .before .before .before .before .args .k))
+    (c .before .before .before .before .before .before .operand-a .ensures (c .before .before .before .before .before .before .before .before .before .before .before .before .args .k))
+    (c .before .before .before .operand-b .ensures (c .before .before .before .before .before .before .before .before .before .before .before .before .args .k))
+    (c .before .before .before .before .before .before .before .before .before .before .target-name .ensures (c .before .before .before .before .before .before .before .before .before .before .before .before .args .k))
+    (c .before .before .before .before .before .before .before .before .copy-of .ensures)
+    (c .before .before .before .before .before .copy-of2 .ensures)
+    (c .before .before .copy-of3 .ensures)
     (c .take-copy .ensures .0)
     (c .take-copy .ensures .1)
 
@@ -46,11 +46,11 @@ take-line-spec =
     tie.close
     (tie.spec
     guard-name-requires
+    target-name-requires
     copy-of-requires
     operand-a-requires
     copy-of-requires-2
     operand-b-requires
     copy-of-requires-3
-    target-name-requires
     take-copy-requires
     returns)

@@ -13,7 +13,7 @@ element-write-previous : tie.Need-element-write-previous
 element-write-previous c = search needs
 
 returns : tie.Need-returns
-returns c = record { notes = rw (c .take-copy .ensures .0); takes = c .take-copy .ensures .1 }
+returns c = record { notes = cc; takes = cc }
 
 pub note-copy-spec : {M : Type 1} → statement M
 note-copy-spec = tie.close (tie.spec take-copy-requires mul-previous element-write-previous returns)
