@@ -1,7 +1,8 @@
 #!/usr/bin/env bash
 # Wrong definitions that the theorems must refuse. Each edit of tests/wrong-definitions changes what
-# a definition of crates/model means, and demand 3 must refuse it; each edit of tests/wrong-texts
-# one of crates/smt or crates/script, and what is proved of the text of a case must refuse it. With
+# a definition of crates/model means, and demand 3 must refuse it; each edit of tests/wrong-walks
+# one of the walk that finds copies, and what is proved of lines that are handed on must; each edit
+# of tests/wrong-texts one of crates/smt or crates/script, and what is proved of the text must. With
 # the edit the definitions must still be proved, and the theorem must not be. A must-fail edit would
 # not do: it is tried on its own crate alone, and here definition and theorem stand in two. The form
 # is the same: a comment, the file, a text that it has exactly once, and the new text.
@@ -117,6 +118,12 @@ fresh model laws correspondence && without "${examples[@]}" laws/{Sizes,RowNumbe
 printf '%s\n' model: 'correspondence: model' >"$unedited/crates.txt"
 files=crates/model crate=correspondence theorem=Demand3.demand-3
 try tests/wrong-definitions
+
+# ---- The walk that finds copies.
+fresh model laws || exit
+printf '%s\n' model: 'laws: model' >"$unedited/crates.txt"
+files=crates/model crate=laws theorem=HandedOn.every-line
+try tests/wrong-walks
 
 # ---- The text of a case. No edit touches the model or demand 3, so these are proved once.
 fresh model laws correspondence smt script reading script_truth &&

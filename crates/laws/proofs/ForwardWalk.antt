@@ -3,10 +3,11 @@
 use mathlib.Core.Path.{_≡_, refl, sym, ap, subst, _∙_}
 use mathlib.Core.Logic.{_≢_}
 use Prim.Native.Nat.{ℕ, _≤_, _<_}
+use mathlib.Core.Bool.{Bool, true, false, cond}
 use mathlib.Core.List.{List, [], _∷_, _++_, append-assoc, reverse, reverse-cons, reverse-reverse}
 use native.Mathlib.Omega.{arith}
 use borrow.Author.Tests.{lt-ltb}
-use lib.ListN.{length, getD, length-set, length-replicate, getD-replicate}
+use lib.ListN.{length, getD, set, length-set, length-replicate, getD-replicate}
 use lib.Seq.{getD-set-same, getD-set-other}
 use Rattle.model.specs.CaseFile.{Line}
 use Rattle.model.specs.Line.{noName, targetName}
@@ -32,18 +33,18 @@ module _ (G : ℕ) where
   pub held-more : (earlier : List Line) (l : Line) → heldAfter G (reverse (l ∷ earlier)) ≡ takeLine G (heldAfter G (reverse earlier)) l
   held-more earlier l = ap (heldAfter G) (reverse-cons l earlier) ∙ one-more-line (reverse earlier) l
 
-  take-size : (held : List ℕ) (name k : ℕ) → length (takeCopy held name k) ≡ length held
+  same-size : (test : Bool) (held : List ℕ) (name k : ℕ) → length (cond test (set held name k) held) ≡ length held
+  same-size true held name k = length-set held name k
+  same-size false held name k = refl
+
+  line-size : (held : List ℕ) (l : Line) → length (takeLine G held l) ≡ length held
   unfolding takeCopy
-  take-size held name k = go (lt-view name noName)
-    where
-      go : LtView name noName → length (takeCopy held name k) ≡ length held
-      go (below h q) = rw q (length-set held name k)
-      go (above h q) = rw q
+  line-size held l = search same-size
 
   walk-size : (held : List ℕ) (front : List Line) → length (walkLines G held front) ≡ length held
   unfolding walkLines
   walk-size held [] = refl
-  walk-size held (l ∷ front) = walk-size (takeLine G held l) front ∙ take-size held (targetName G l) (l .number)
+  walk-size held (l ∷ front) = walk-size (takeLine G held l) front ∙ line-size held l
 
   pub held-size : (front : List Line) → length (heldAfter G front) ≡ noName
   held-size front = walk-size nothingHeld front ∙ length-replicate {A = ℕ} noName 0
