@@ -18,10 +18,7 @@ use model::NAMES;
 pub fn copy_of(held: &[u16; NAMES], name: usize) -> u16
     ensures { λ r. ⌜ r ≡ heldCopy (now (held .entry)) name ⌝ }
 {
-    if NAMES <= name {
-        return 0;
-    }
-    held[name]
+    if name < NAMES { held[name] } else { 0 }
 }
 
 // Line k is taken, whose target has this name: it is now the latest copy. The copy before it.

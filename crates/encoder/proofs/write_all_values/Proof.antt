@@ -26,7 +26,7 @@ mul-write-values : tie.Need-mul-write-values Inv-loop μ-loop
 mul-write-values c = omega (arith, thread-low (c .before .before .before .before .before .before .pre .accepted) (c .before .before .before .threads .ensures) (c .before .loop-test .taken))
 
 index-1-write-values : tie.Need-index-1-write-values Inv-loop μ-loop
-index-1-write-values c = thread-low (c .before .before .before .before .before .before .pre .accepted) (c .before .before .before .threads .ensures) (c .before .loop-test .taken)
+index-1-write-values c = omega (arith, thread-low (c .before .before .before .before .before .before .pre .accepted) (c .before .before .before .threads .ensures) (c .before .loop-test .taken))
 
 write-values-requires : tie.Need-write-values-requires Inv-loop μ-loop
 write-values-requires c κs =

@@ -25,7 +25,7 @@ mul-thread-values : tie.Need-mul-thread-values Inv-loop μ-loop
 mul-thread-values c = omega (arith, all-low (c .before .before .before .before .before .before .pre) _ (c .before .before .before .threads .ensures) (c .before .before .loop .inv) (c .before .loop-test .taken))
 
 index-1-thread-values : tie.Need-index-1-thread-values Inv-loop μ-loop
-index-1-thread-values c = all-low (c .before .before .before .before .before .before .pre) _ (c .before .before .before .threads .ensures) (c .before .before .loop .inv) (c .before .loop-test .taken)
+index-1-thread-values c = omega (arith, all-low (c .before .before .before .before .before .before .pre) _ (c .before .before .before .threads .ensures) (c .before .before .loop .inv) (c .before .loop-test .taken))
 
 thread-values-requires : tie.Need-thread-values-requires Inv-loop μ-loop
 thread-values-requires c κs = all-next (c .before .before .before .before .before .before .before .pre) _ (c .before .before .before .before .threads .ensures) (c .before .before .before .loop .inv) (c .before .before .loop-test .taken)
