@@ -83,7 +83,8 @@ pub fn operand_a(l: Record) -> usize
     }
 }
 
-fn has_expression(kind: u16) -> bool
+// Whether a line of a kind has an expression.
+pub fn has_expression(kind: u16) -> bool
     ensures { λ r. ⌜ r ≡ hasExpression (kindOf kind) ⌝ }
 {
     match kind {

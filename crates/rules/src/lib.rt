@@ -3,15 +3,17 @@ ghost use mathlib.Core.Path.{_≡_};
 ghost use mathlib.Core.Bool.{not, _||_};
 ghost use Prim.Native.Nat.{ℕ};
 ghost use lib.Dec.{eqb};
+ghost use Rattle.model.specs.CaseFile.{kindOf};
 ghost use Rattle.model.specs.Accept.{expressionOk, onlyOperandA, noExpression, fieldsOk, ruleOk, brokenRecord};
 ghost use Rattle.case_file.specs.Records.{asLine};
 ghost use Rattle.laws.specs.Sized.{Sized};
-ghost use Rattle.rules.specs.KindRule.{keepsKindRule, RuleReady};
+ghost use Rattle.rules.specs.KindRule.{targetsAsked, operandsRule, keepsKindRule, RuleReady};
 use case_file::Record;
 use case_file::globals;
 use case_file::mutexes;
 use case_file::record_at;
 use case_file::records;
+use line::has_expression;
 
 // A local is below this, and this as an operand is the constant.
 const LOCALS: u16 = model::LOCALS as u16;
@@ -46,22 +48,42 @@ fn no_expression(l: Record) -> bool
     (l.a == 0) & only_operand_a(l)
 }
 
-// Whether a record has a kind and keeps that kind's rule. Its number makes no difference.
+// How many targets a line of a kind can have; where it has none, the field is 0. What is no kind has none at all.
+fn targets(kind: u16, globals: u16, mutexes: u16) -> u16
+    ensures { λ r. ⌜ r ≡ targetsAsked kind globals mutexes ⌝ }
+{
+    match kind {
+        1 => LOCALS,
+        2 => globals,
+        3 => LOCALS,
+        4 => LOCALS,
+        5 => 1,
+        6 => 1,
+        7 => mutexes,
+        8 => mutexes,
+        _ => 0,
+    }
+}
+
+// Whether the operands are what the kind uses. The record's number makes no difference.
+fn operands_ok(l: Record, globals: u16) -> bool
+    ensures { λ r. ⌜ ((k : ℕ) → r ≡ operandsRule (kindOf (l .kind)) globals (asLine l k)) ⌝ }
+{
+    let kind = l.kind;
+    if has_expression(kind) {
+        return expression_ok(l);
+    }
+    match kind {
+        3 => (l.a < globals) & only_operand_a(l),
+        _ => no_expression(l),
+    }
+}
+
+// Whether a record has a kind and keeps that kind's rule.
 fn kind_rule_ok(l: Record, globals: u16, mutexes: u16) -> bool
     ensures { λ r. ⌜ ((k : ℕ) → r ≡ keepsKindRule (l .kind) globals mutexes (asLine l k)) ⌝ }
 {
-    let kind = l.kind;
-    match kind {
-        1 => (l.target < LOCALS) & expression_ok(l),
-        2 => (l.target < globals) & expression_ok(l),
-        3 => (l.target < LOCALS) & ((l.a < globals) & only_operand_a(l)),
-        4 => (l.target < LOCALS) & no_expression(l),
-        5 => (l.target == 0) & expression_ok(l),
-        6 => (l.target == 0) & expression_ok(l),
-        7 => (l.target < mutexes) & no_expression(l),
-        8 => (l.target < mutexes) & no_expression(l),
-        _ => false,
-    }
+    (l.target < targets(l.kind, globals, mutexes)) & operands_ok(l, globals)
 }
 
 // Whether a record keeps the rules of its fields, in a case with so many globals and mutexes. Its number makes no difference.
