@@ -113,7 +113,7 @@ try() {
 examples=(correspondence/{NoLines,EverySchedule,CaseA,CaseBytes,Examples,StopExamples,Refusals,Conventions,Computing})
 
 # ---- Demand 3.
-fresh model laws correspondence && without "${examples[@]}" laws/{Sizes,RowNumbers} &&
+fresh model laws correspondence && without "${examples[@]}" laws/{Sizes,RowNumbers,ForwardWalk,HandedOn} &&
     joined laws correspondence || exit
 printf '%s\n' model: 'correspondence: model' >"$unedited/crates.txt"
 files=crates/model crate=correspondence theorem=Demand3.demand-3

@@ -1,8 +1,8 @@
 -- What is held of all threads, as the walks over their lines end, and what a look-up gives then.
 -- Assumes nothing. Met again where the encoder writes copies and where the checker goes along a thread.
-use mathlib.Core.Path.{_≡_, refl, sym, ap, _∙_}
-use Prim.Native.Nat.{ℕ, suc, _≤_, _<_}
-use mathlib.Core.List.{List, [], reverse, reverse-reverse}
+use mathlib.Core.Path.{_≡_, ap, _∙_}
+use Prim.Native.Nat.{ℕ, suc, _<_}
+use mathlib.Core.List.{List, [], reverse}
 use native.Mathlib.Omega.{arith}
 use borrow.Author.Tests.{lt-ltb}
 use lib.ListN.{length, getD, set, replicate, length-set, length-replicate, getD-replicate}

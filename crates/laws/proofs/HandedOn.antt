@@ -1,22 +1,16 @@
 -- The lines of an accepted case are taken one by one, and the copies at each are those of the table.
 -- Assumes nothing. Met again in delivered's Delivered.
-use mathlib.Core.Path.{_≡_, refl, sym, ap, subst, _∙_}
-use Prim.Native.Nat.{ℕ, _≤_, _<_}
-use mathlib.Core.Bool.{true, _&&_}
-use mathlib.Core.List.{List, [], _∷_, _++_, reverse, reverse-reverse}
+use mathlib.Core.Path.{_≡_, refl, sym, subst, _∙_}
+use Prim.Native.Nat.{ℕ}
+use mathlib.Core.List.{List, [], _∷_, _++_, reverse}
 use native.Mathlib.Omega.{arith}
 use borrow.Author.Tests.{le-leb}
-use lib.Dec.{leb}
-use lib.ListN.{getD}
 use Rattle.model.specs.Limits.{mostGlobals, mostMutexes, mostRecords}
-use Rattle.model.specs.Lists.{numbersFrom, unless}
-use Rattle.model.specs.CaseFile.{Line, records, globalCount, mutexCount, recordField, lineOf, caseOf, linesOf}
+use Rattle.model.specs.Lists.{numbersFrom}
+use Rattle.model.specs.CaseFile.{Line, records, globalCount, mutexCount, lineOf, caseOf, linesOf}
 use Rattle.model.specs.Line.{guardName, operandA, operandB, targetName}
 use Rattle.model.specs.Copies.{copyOf, heldCopy, takeLine, heldAfter}
-use Rattle.model.specs.Accept.{countsOk, ruleOk, verdict}
-use Rattle.model.specs.Taking.{taken, takenInto, handedLine, copiesAt}
-use Rattle.model.specs.declared.Taken.{Taken}
-use Rattle.model.specs.declared.Taken.the-variants.{Copies, Refused}
+use Rattle.model.specs.Taking.{taken, takenInto, copiesAt}
 use Rattle.laws.specs.RecordNumber.{RecordNumber}
 use Rattle.laws.specs.Accepted.{Accepted}
 use Rattle.laws.specs.Order.{AllLines}

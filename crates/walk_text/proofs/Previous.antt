@@ -1,7 +1,7 @@
 -- What is noted from the 4s of an accepted case's table are the copies before its lines.
 -- Assumes nothing. Met again in `previous_copies`.
 use mathlib.Core.Path.{_≡_, refl, ap, _∙_}
-use Prim.Native.Nat.{ℕ, suc, _+_, _<_}
+use Prim.Native.Nat.{ℕ, suc, _+_}
 use mathlib.Core.List.{List, [], _∷_, reverse, reverseAux}
 use native.Mathlib.Omega.{arith}
 use lib.ListN.{length, getD, replicate}
