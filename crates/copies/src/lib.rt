@@ -39,12 +39,14 @@ pub fn take_line(held: &mut [u16; NAMES], globals: usize, l: Record, k: u16) -> 
     ensures { λ r. ⌜ r ≡ copiesBefore globals (now (held .entry)) (asLine l k) ⌝ }
     ensures { λ r. ⌜ now (held .exit) ≡ takeLine globals (now (held .entry)) (asLine l k) ⌝ }
 {
-    let guard = guard_name(l);
     let target = target_name(globals, l);
+    let a = operand_a(l);
+    let b = operand_b(l);
+    let guard = guard_name(l);
     Copies {
         guard: copy_of(held, guard),
-        a: copy_of(held, operand_a(l)),
-        b: copy_of(held, operand_b(l)),
+        a: copy_of(held, a),
+        b: copy_of(held, b),
         target: take_copy(held, target, k),
     }
 }
