@@ -34,8 +34,8 @@ unrun-small assume = omega arith
 unrun-small lock = omega arith
 unrun-small unlock = omega arith
 
--- An assert has value 1.
-pub unrun-breaks-nothing : (kind : Kind) (l : Line) (reads : Reads) → breaks kind l reads (unrunValue kind) ≡ false
+-- A line that was not run violates nothing: an assert has value 1, and an unlock was not run.
+pub unrun-breaks-nothing : (kind : Kind) (l : Line) (reads : Reads) → breaks false kind l reads (unrunValue kind) ≡ false
 unfolding breaks unrunValue
 unrun-breaks-nothing compute l reads = refl
 unrun-breaks-nothing store l reads = refl

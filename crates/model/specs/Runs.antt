@@ -60,9 +60,9 @@ ends case given s = stops (s .line .kind) (s .line) (readsAt case given s)
 abbrev pub strays : Case → (ℕ → ℕ) → Step → Bool
 strays case given s = strayInput (s .line .kind) (s .line) (readsAt case given s)
 
--- "A run breaks an assertion when a guarded-in assert of it is zero."
+-- What violates at a step: "a guarded-in assert of it is zero", or, since Four, its line unlocks what its thread does not hold.
 abbrev pub broken : Case → (ℕ → ℕ) → Step → Bool
-broken case given s = breaks (s .line .kind) (s .line) (readsAt case given s) (valueOf (s .line) (readsAt case given s))
+broken case given s = breaks true (s .line .kind) (s .line) (readsAt case given s) (valueOf (s .line) (readsAt case given s))
 
 -- The steps before the first that has the test.
 abbrev pub upToFirst : (Step → Bool) → List Step → List Step
@@ -105,7 +105,8 @@ linesRun case t (s ∷ steps) = cond (eqb t (s .block % case .T)) (s .line ∷ l
 abbrev pub Legal : Case → List ℕ → Type 0
 Legal case schedule = None (ends case (givenIn case schedule)) (courseOf case schedule)
 
--- The run's first zero assert is that of record k; it has none; and this is the first step whose assume or lock fails.
+-- The run's first line that violates is that of record k ("the first of either sort"); it has none; and this is the first step whose
+-- assume or lock fails.
 abbrev pub FirstBroken : Case → List ℕ → ℕ → Type 0
 FirstBroken case schedule k = FirstAt (broken case (givenIn case schedule)) (runSteps case schedule) k
 
@@ -136,7 +137,8 @@ pub data Meets14 (case : Case) (schedule : List ℕ) (k : ℕ) : Type 0 where
   on-the-way : FirstStray case schedule k → Meets14 case schedule k
   after-the-last-step : NoneStrays case schedule → Legal case schedule → 0 < k → unrunInput case schedule ≡ k → Meets14 case schedule k
 
--- Two: "and violates when it also contains a zero assert"
+-- Two: "and violates when it also contains a zero assert", or, since Four, an unlock by a stranger: "whoever reads in a demand that a run
+-- breaks an assertion .. now reads that it violates".
 pub record Violates (case : Case) (schedule : List ℕ) : Type 0 where
   pub legal : Legal case schedule
   pub some-broken : (k : ℕ) × FirstBroken case schedule k

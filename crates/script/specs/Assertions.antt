@@ -8,9 +8,10 @@ use lib.Dec.{eqb, ltb, leb}
 use lib.ListN.{getD}
 use Rattle.model.specs.Limits.{localCount}
 use Rattle.model.specs.CaseFile.{Kind, compute, store, load, input, assert, assume, lock, unlock, Line, Case, itemCount, linesOf, lineAt}
-use Rattle.model.specs.Line.{itemName, operandA, targetName, unrunValue, isInput}
+use Rattle.model.specs.Line.{itemName, guardName, operandA, targetName, holder, unrunValue, isInput}
 use Rattle.model.specs.Table.{Row, table}
 use Rattle.model.specs.Assignment.{variables}
+use Rattle.model.specs.Copies.{copyOf}
 use Rattle.model.specs.Holds.{fromRecord}
 use Rattle.smt.specs.Term.{Operation, bvadd, bvsub, bvand, bvor, bvurem, Test, equals, bvult, bvule, conjunction, disjunction, exclusion, implication, Term, variable, constant, choice, apply, Formula, truth, test, negation, join, select}
 use Rattle.smt.specs.Script.{Script}
@@ -155,7 +156,7 @@ guardedIn load case sources l a b = readName case sources (valueOf (l .number)) 
 guardedIn input case sources l a b = truth true
 guardedIn assert case sources l a b = operandsOf (isTruth sources (valueOf (l .number)) (l .op)) l a b
 guardedIn assume case sources l a b = operandsOf (isTruth sources (valueOf (l .number)) (l .op)) l a b
-guardedIn lock case sources l a b = equal (valueOf (l .number)) (constant 1)
+guardedIn lock case sources l a b = equal (valueOf (l .number)) (constant (holder l))
 guardedIn unlock case sources l a b = equal (valueOf (l .number)) (constant 0)
 
 abbrev pub oldTarget : Case → List ℕ → Line → ℕ → Formula
@@ -185,10 +186,11 @@ unfoldable pub valueAssertion : Case → List ℕ → ℕ → ℕ → ℕ → �
 valueAssertion case sources k guard a b target =
     select (notRun case k) (equal (valueOf k) (constant (unrunValue (lineAt case k .kind)))) (lineAssertion case sources (lineAt case k) guard a b target)
 
-unfoldable pub mutexFree : Case → List ℕ → Line → ℕ → ℕ → Formula
-mutexFree case sources l guard target =
-    cond (eqb (l .guard) 0) (readName case sources (constant 0) l (targetName (case .G) l) target)
-    (join implication (guardTrue l guard) (readName case sources (constant 0) l (targetName (case .G) l) target))
+-- Where its guard is true, line l reads x of its mutex.
+unfoldable pub mutexReads : Case → List ℕ → Term → Line → ℕ → ℕ → Formula
+mutexReads case sources x l guard target =
+    cond (eqb (l .guard) 0) (readName case sources x l (targetName (case .G) l) target)
+    (join implication (guardTrue l guard) (readName case sources x l (targetName (case .G) l) target))
 
 unfoldable pub demandAssertion : Kind → Case → List ℕ → Line → ℕ → ℕ → Formula
 demandAssertion compute case sources l guard target = truth true
@@ -197,7 +199,7 @@ demandAssertion load case sources l guard target = truth true
 demandAssertion input case sources l guard target = truth true
 demandAssertion assert case sources l guard target = truth true
 demandAssertion assume case sources l guard target = equal (valueOf (l .number)) (constant 1)
-demandAssertion lock case sources l guard target = mutexFree case sources l guard target
+demandAssertion lock case sources l guard target = mutexReads case sources (constant 0) l guard target
 demandAssertion unlock case sources l guard target = truth true
 
 unfoldable pub walkBack : Case → List ℕ → ℕ → ℕ → List Line → Formula
@@ -207,24 +209,31 @@ walkBack case sources i g (l ∷ earlier) =
     (select (equal (blockOf (l .number)) (constant i)) (same sources (blockValue case i g) (valueOf (l .number))) (walkBack case sources i g earlier))
     (walkBack case sources i g earlier)
 
--- A 7: "some assert has value 0".
-unfoldable pub orBreaks : Kind → Line → Formula → Formula
-orBreaks compute l others = others
-orBreaks store l others = others
-orBreaks load l others = others
-orBreaks input l others = others
-orBreaks assert l others = join disjunction (isZero (valueOf (l .number))) others
-orBreaks assume l others = others
-orBreaks lock l others = others
-orBreaks unlock l others = others
+-- Line l unlocks what its thread does not hold: it was run, and where its guard is true it does not read its thread as holder.
+unfoldable pub unlocksAsStranger : Case → List ℕ → Line → ℕ → ℕ → Formula
+unlocksAsStranger case sources l guard target =
+    negation (join disjunction (notRun case (l .number)) (mutexReads case sources (constant (holder l)) l guard target))
 
-unfoldable pub someBreaks : List Line → Formula → Formula
-someBreaks [] others = others
-someBreaks (l ∷ ls) others = orBreaks (l .kind) l (someBreaks ls others)
+-- A 7: "some assert has value 0", or, since Four, some line unlocks what its thread does not hold; or else others do. The earlier lines
+-- of the thread are given latest first.
+unfoldable pub orBreaks : Kind → Case → List ℕ → List Line → Line → Formula → Formula
+orBreaks compute case sources earlier l others = others
+orBreaks store case sources earlier l others = others
+orBreaks load case sources earlier l others = others
+orBreaks input case sources earlier l others = others
+orBreaks assert case sources earlier l others = join disjunction (isZero (valueOf (l .number))) others
+orBreaks assume case sources earlier l others = others
+orBreaks lock case sources earlier l others = others
+orBreaks unlock case sources earlier l others =
+    join disjunction (unlocksAsStranger case sources l (copyOf (case .G) (guardName l) earlier) (copyOf (case .G) (targetName (case .G) l) earlier)) others
 
-unfoldable pub someThreadBreaks : List (List Line) → Formula
-someThreadBreaks [] = truth false
-someThreadBreaks (ls ∷ threads) = someBreaks ls (someThreadBreaks threads)
+unfoldable pub someBreaks : Case → List ℕ → List Line → List Line → Formula → Formula
+someBreaks case sources earlier [] others = others
+someBreaks case sources earlier (l ∷ ls) others = orBreaks (l .kind) case sources earlier l (someBreaks case sources (l ∷ earlier) ls others)
+
+unfoldable pub someThreadBreaks : Case → List ℕ → List (List Line) → Formula
+someThreadBreaks case sources [] = truth false
+someThreadBreaks case sources (ls ∷ threads) = someBreaks case sources [] ls (someThreadBreaks case sources threads)
 
 -- The assertion of a row, by its kind.
 unfoldable pub assertionOf : Case → List ℕ → Row → Formula
@@ -235,7 +244,7 @@ assertionOf case sources w =
     (cond (eqb (w .kind) 4) (valueAssertion case sources (w .one) (w .two) (w .three) (w .four) (w .five))
     (cond (eqb (w .kind) 5) (join disjunction (notRun case (w .one)) (demandAssertion (lineAt case (w .one) .kind) case sources (lineAt case (w .one)) (w .two) (w .three)))
     (cond (eqb (w .kind) 6) (walkBack case sources (w .two) (w .one) (fromRecord (w .three) (reverse (linesOf case (w .two % case .T)))))
-    (cond (eqb (w .kind) 7) (someThreadBreaks (case .threads)) (truth false)))))))
+    (cond (eqb (w .kind) 7) (someThreadBreaks case sources (case .threads)) (truth false)))))))
 
 -- One assertion for each row, in the table's order; the script of a case.
 unfoldable pub assertionsOf : Case → List ℕ → List Row → List Formula
