@@ -21,6 +21,7 @@ pub mod OnCase
 pub mod RowNumbers
 -- Lines, copies and rows
 pub mod Unrun
+pub mod Breaking
 pub mod AllLines
 pub mod LineFound
 pub mod Copies

@@ -1,13 +1,13 @@
 -- Lines that were not run: which block numbers tell them, and what their values are.
 -- Assumes nothing. Met again wherever "was it run" is asked.
-use mathlib.Core.Path.{_≡_, refl, ap}
+use mathlib.Core.Path.{_≡_, ap}
 use Prim.Native.Nat.{ℕ, suc, _≤_, _<_}
 use mathlib.Core.Bool.{true, false, not}
 use native.Mathlib.Omega.{arith}
 use borrow.Author.Tests.{eq-eqb, eqb-false, ne-eqb, not-true}
 use Rattle.model.specs.Word.{wordSize}
-use Rattle.model.specs.CaseFile.{Kind, compute, store, load, input, assert, assume, lock, unlock, Line, Case}
-use Rattle.model.specs.Line.{Reads, unrunValue, breaks}
+use Rattle.model.specs.CaseFile.{Kind, compute, store, load, input, assert, assume, lock, unlock, Case}
+use Rattle.model.specs.Line.{unrunValue}
 use Rattle.model.specs.Assignment.{wasRun}
 
 module _ (case : Case) (x : ℕ) where
@@ -33,15 +33,3 @@ unrun-small assert = omega arith
 unrun-small assume = omega arith
 unrun-small lock = omega arith
 unrun-small unlock = omega arith
-
--- A line that was not run violates nothing: an assert has value 1, and an unlock was not run.
-pub unrun-breaks-nothing : (kind : Kind) (l : Line) (reads : Reads) → breaks false kind l reads (unrunValue kind) ≡ false
-unfolding breaks unrunValue
-unrun-breaks-nothing compute l reads = refl
-unrun-breaks-nothing store l reads = refl
-unrun-breaks-nothing load l reads = refl
-unrun-breaks-nothing input l reads = refl
-unrun-breaks-nothing assert l reads = refl
-unrun-breaks-nothing assume l reads = refl
-unrun-breaks-nothing lock l reads = refl
-unrun-breaks-nothing unlock l reads = refl

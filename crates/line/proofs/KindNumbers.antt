@@ -9,7 +9,7 @@ use borrow.Author.Tests.{ne-eqb, not-true, not-false}
 use Rattle.laws.specs.RowCounts.{valueRowCount}
 use Rattle.laws.proofs.Views.{EqView, same, diff, eq-view}
 use Rattle.model.specs.CaseFile.{Kind, compute, store, load, input, assert, assume, lock, unlock, Line, kindOf}
-use Rattle.model.specs.Line.{Reads, noName, itemName, localName, nameOfA, hasExpression, nameOfB, nameOfTarget, unrunValue, breaks, isInput}
+use Rattle.model.specs.Line.{Reads, noName, itemName, localName, nameOfA, hasExpression, nameOfB, nameOfTarget, guardTrue, holder, unrunValue, breaks, isInput}
 
 -- A kind of number k: one of 1 to 7, or an unlock, which every other number gives.
 pub data KindView (k : ℕ) : Kind → Type 0 where
@@ -161,27 +161,11 @@ unrun-other k n = go (kindOf k) (kind-view k)
     go lock v = refl
     go unlock v = refl
 
-pub breaks-assert : (k : ℕ) (l : Line) (reads : Reads) (value : ℕ) → k ≡ 5 → eqb value 0 ≡ breaks (kindOf k) l reads value
+-- An unlock with a true guard violates where its mutex does not read its thread as holder.
+pub breaks-unlock : (k : ℕ) (l : Line) (reads : Reads) (value x y : ℕ) → Not6 k × k ≢ 7 → guardTrue l reads ≡ true → x ≡ reads .target → y ≡ holder l
+    → not (eqb x y) ≡ breaks true (kindOf k) l reads value
 unfolding breaks
-breaks-assert k l reads value e = rw (kind-5 k e)
-
-pub breaks-other : (k : ℕ) (l : Line) (reads : Reads) (value : ℕ) → Unit {0} × k ≢ 5 → false ≡ breaks (kindOf k) l reads value
-unfolding breaks
-breaks-other k l reads value n = go (kindOf k) (kind-view k)
-  where
-    go : (κ : Kind) → KindView k κ → false ≡ breaks κ l reads value
-    go compute v = refl
-    go store v = refl
-    go load v = refl
-    go input v = refl
-    go assert (is5 e) = absurd (n .1 e)
-    go assume v = refl
-    go lock v = refl
-    go unlock v = refl
-
-pub breaks-kind : (l : Line) (reads : Reads) (κ : Kind) → l .kind ≡ κ → (broken : Bool) (value : ℕ) → broken ≡ breaks (l .kind) l reads value
-    → broken ≡ breaks κ l reads value
-breaks-kind l reads κ kind broken value is = is ∙ ap (λ (x : Kind). breaks x l reads value) kind
+breaks-unlock k l reads value x y n on ex ey = rw (unlock-other k n, on, ex, ey)
 
 pub input-other : (k : ℕ) → Unit {0} × k ≢ 4 → isInput (kindOf k) ≡ false
 input-other k n = go (kindOf k) (kind-view k)

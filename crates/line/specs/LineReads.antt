@@ -2,12 +2,12 @@
 -- Assumes nothing.
 use mathlib.Core.Path.{_≡_}
 use Prim.Native.Nat.{ℕ, _≤_}
-use mathlib.Core.Bool.{true}
+use mathlib.Core.Bool.{Bool, true}
 use mathlib.Core.List.{List}
 use lib.ListN.{take}
 use Rattle.model.specs.Limits.{mostItems}
 use Rattle.model.specs.CaseFile.{Line, kindOf}
-use Rattle.model.specs.Line.{Reads, readsOf, hasExpression, expression}
+use Rattle.model.specs.Line.{Reads, readsOf, guardTrue, hasExpression, expression, breaks}
 use Rattle.model.specs.Machine.{Memory, look}
 use Rattle.case_file.specs.declared.Record.{Record}
 use Rattle.case_file.specs.Records.{asLine}
@@ -29,3 +29,8 @@ readsBy counts given locals items l = readsFrom (counts .globals) (counts .items
 abbrev pub Expressed : List ℕ → Record → ℕ → Type 0
 Expressed locals l r = (G count given : ℕ) (items : List ℕ) (k : ℕ) → count ≤ mostItems → hasExpression (kindOf (l .kind)) ≡ true
     → r ≡ expression (asLine l k) (readsFrom G count given locals items (asLine l k))
+
+-- Whether a record that is run with a true guard and has this value violates: what it reads of the items decides.
+abbrev pub Breaks : Counts → List ℕ → Record → ℕ → Bool → Type 0
+Breaks counts items l value r = (given k : ℕ) (locals : List ℕ) → guardTrue (asLine l k) (readsBy counts given locals items (asLine l k)) ≡ true
+    → r ≡ breaks true (kindOf (l .kind)) (asLine l k) (readsBy counts given locals items (asLine l k)) value

@@ -1,12 +1,12 @@
 // What one line names, reads and does. A record knows its thread; its number makes no difference here, and the contracts are for all.
 ghost use mathlib.Core.Path.{_≡_};
-ghost use Prim.Native.Nat.{ℕ, _≤_};
+ghost use Prim.Native.Nat.{ℕ, _≤_, _<_};
 ghost use mathlib.Core.Bool.{true, cond};
 ghost use mathlib.Core.List.{List};
 ghost use lib.Dec.{eqb};
 ghost use lib.ListN.{take};
 ghost use Rattle.model.specs.Word.{bit};
-ghost use Rattle.model.specs.Limits.{mostGlobals, mostItems};
+ghost use Rattle.model.specs.Limits.{mostThreads, mostGlobals, mostItems};
 ghost use Rattle.model.specs.CaseFile.{kindOf};
 ghost use Rattle.model.specs.Line.{localName, itemName, guardName, operandA, hasExpression, operandB, targetName, guardTrue, unrunValue, operandValue};
 ghost use Rattle.model.specs.Line as model;
@@ -14,8 +14,8 @@ ghost use Rattle.model.specs.Machine.{look, putLocal, putItem};
 ghost use Rattle.laws.specs.Accepted.{Accepted};
 ghost use Rattle.laws.specs.RowCounts.{valueRowCount};
 ghost use Rattle.case_file.specs.Records.{asLine};
-ghost use Rattle.line.specs.LineReads.{memory, readsFrom, readsBy, Expressed};
-ghost use Rattle.line.specs.CaseCounts.{HasCounts};
+ghost use Rattle.line.specs.LineReads.{memory, readsFrom, Expressed, Breaks};
+ghost use Rattle.line.specs.CaseCounts.{HasCounts, OfCase};
 use case_file::Record;
 use model::ITEMS;
 use model::LOCALS;
@@ -224,24 +224,36 @@ pub fn expression_of(locals: &[u16; LOCALS], l: Record) -> u16
     apply(l.op, x, y)
 }
 
-// Whether the line, with this value, breaks an assertion.
-pub fn breaks<'a>(
-    locals: &'a [u16; LOCALS],
-    items: &'a [u16; ITEMS],
-    counts: Counts,
-    l: Record,
-    value: u16,
-) -> bool
-    ensures { λ r. ⌜ ((given k : ℕ) → r ≡ model.breaks (kindOf (l .kind)) (asLine l k) (readsBy counts given (now (locals .entry)) (now (items .entry)) (asLine l k)) value) ⌝ }
+// What a mutex reads that the line's thread holds.
+pub fn holder(l: Record) -> u16
+    requires { ⌜ l .thread < mostThreads ⌝ }
+    ensures { λ r. ⌜ ((k : ℕ) → r ≡ model.holder (asLine l k)) ⌝ }
+{
+    l.thread + 1
+}
+
+// Whether the line, run with a true guard and with this value, violates.
+pub fn breaks(items: &[u16; ITEMS], counts: Counts, l: Record, value: u16) -> bool
+    requires { ⌜ OfCase counts l ⌝ }
+    ensures { λ r. ⌜ Breaks counts (now (items .entry)) l value r ⌝ }
 {
     let kind = l.kind;
     match kind {
+        1 => false,
+        2 => false,
+        3 => false,
+        4 => false,
         5 => value == 0,
-        _ => false,
+        6 => false,
+        7 => false,
+        _ => {
+            let g = counts.globals + l.target as usize;
+            item_at(items, counts.items, g) != holder(l)
+        }
     }
 }
 
-// The record of the first line that breaks an assertion, after record k, which may be the first; 0 while there is none.
+// The record of the first line that violates, after record k, which may be the first; 0 while there is none.
 pub fn noted(note: u16, k: u16, broken: bool) -> u16
     ensures { λ r. ⌜ r ≡ cond (eqb note 0) (cond broken k 0) note ⌝ }
 {
