@@ -144,7 +144,16 @@ fn put_assertions(text: &mut [u8], start: usize, case: &[u8], table: &[u16], cou
     while j < count {
         let w = row_at(table, j);
         place = put_assertion(
-            text, place, shape, sources, case, table, count, &previous, &threads, w,
+            text,
+            place,
+            shape,
+            sources,
+            case,
+            table,
+            count,
+            &previous,
+            &threads,
+            w,
         );
         j += 1;
     }
@@ -169,7 +178,16 @@ fn put_assertion(
 {
     let mut place = put(text, start, b"(assert ");
     place = put_row(
-        text, place, shape, sources, case, table, count, previous, threads, w,
+        text,
+        place,
+        shape,
+        sources,
+        case,
+        table,
+        count,
+        previous,
+        threads,
+        w,
     );
     put(text, place, b")\n")
 }
