@@ -25,7 +25,7 @@ use Rattle.model.specs.Runs.{memoryAfter, endMemory, nextState}
 use Rattle.correspondence.specs.Trace.{Event, blockEvents, leftEvents, allLeftEvents, events, snapshots}
 use Rattle.laws.proofs.Schedules.{lines-in-block-few}
 use Rattle.correspondence.specs.Fill.{blockIn, valueIn, traced, recordNumbers, blockNumbers, numbersOfAssignment, tracedRun}
-use Rattle.laws.proofs.AllLines.{all-dropped}
+use Rattle.laws.proofs.AllLines.{all-dropped, each-after-set}
 use Rattle.laws.proofs.Unrun.{unrun-small}
 use Rattle.correspondence.proofs.Blocks.{turn}
 
@@ -43,15 +43,6 @@ each-small-replicate : (many : ℕ) (xs : List ℕ) → Small xs → EachSmall (
 each-small-replicate zero xs h j = tt
 each-small-replicate (suc many) xs h zero = h
 each-small-replicate (suc many) xs h (suc j) = each-small-replicate many xs h j
-
--- What each of a list has, each has after a change of one to another that has it.
-each-after-set : {A : Type 0} (P : A → Type 0) (default : A) (xs : List A) (t : ℕ) (x : A) → ((j : ℕ) → P (getD xs j default)) → P x
-    → (j : ℕ) → P (getD (set xs t x) j default)
-each-after-set P default [] t x h p j = h j
-each-after-set P default (y ∷ xs) zero x h p zero = p
-each-after-set P default (y ∷ xs) zero x h p (suc j) = h (suc j)
-each-after-set P default (y ∷ xs) (suc t) x h p zero = h 0
-each-after-set P default (y ∷ xs) (suc t) x h p (suc j) = each-after-set P default xs t x (λ i. h (suc i)) p j
 
 -- What both have, the one that a test takes has.
 either : {A : Type 0} (P : A → Type 0) (q : Bool) (x y : A) → P x → P y → P (cond q x y)
@@ -190,9 +181,9 @@ module _ (case : Case) (given : ℕ → ℕ) (small-given : (k : ℕ) → given 
   small-next i len s h =
       let end = small-steps len (restIn case i s) (memoryIn case i s) (h .lines (i % case .T)) (small-memory i s h) in
       record {
-        lines = each-after-set SmallLines [] (s .rests) (i % case .T) (drop len (restIn case i s)) (h .lines)
+        lines = each-after-set (λ j. SmallLines) [] (s .rests) (i % case .T) (drop len (restIn case i s)) (h .lines)
             (all-dropped SmallLine len (restIn case i s) (h .lines (i % case .T)));
-        locals = each-after-set Small [] (s .locals) (i % case .T) (endMemory case given i len s .locals) (h .locals) (end .locals);
+        locals = each-after-set (λ j. Small) [] (s .locals) (i % case .T) (endMemory case given i len s .locals) (h .locals) (end .locals);
         items = end .items;
       }
 

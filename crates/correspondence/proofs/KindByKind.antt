@@ -1,26 +1,30 @@
 -- The machine's step is document 01's, kind by kind, for lines that obey check 9: so for every line of an accepted case.
--- Assumes nothing. Stands beside specs/KindByKind.antt; no other proof uses it.
-use mathlib.Core.Path.{_≡_, refl, sym}
-use Prim.Native.Nat.{ℕ, _+_, _-_, _≤_, _<_}
+-- Assumes nothing. Met again in Demand3.
+use mathlib.Core.Path.{_≡_, refl, sym, _∙_}
+use Prim.Native.Nat.{ℕ, zero, suc, _+_, _-_, _%_, _≤_, _<_}
 use mathlib.Core.Bool.{Bool, true, false, cond, not, _&&_}
-use mathlib.Core.List.{List}
+use mathlib.Core.List.{List, [], _∷_, _++_}
 use native.Mathlib.Omega.{arith}
 use borrow.Author.Tests.{leb-true, ltb-true, lt-ltb, le-ltb, ne-eqb}
 use lib.Dec.{eqb, leb, ltb}
-use lib.ListN.{length}
+use lib.ListN.{getD, length, drop}
 use lib.Seq.{set-out}
 use Rattle.model.specs.Word.{bit, nonzero}
 use Rattle.model.specs.Limits.{localCount, mostGlobals, mostMutexes, highestGuard}
 use Rattle.model.specs.CaseFile.{Kind, compute, store, load, input, assert, assume, lock, unlock, Line, Case, itemCount, records, threadCount, lineOf, caseOf, linesOf}
 use Rattle.model.specs.Accept.{expressionOk, kindRule}
 use Rattle.model.specs.Line.{noName, localName, itemName, guardName, nameOfA, nameOfB, nameOfTarget, Reads, guardTrue, apply, operandValue, expression, holder, guardedInValue, guardedOutValue, valueBy, stops, breaks, strayInput}
-use Rattle.model.specs.Machine.{Memory, look, putLocal, putItem, stepped}
+use Rattle.model.specs.Machine.{Memory, State, look, putLocal, putItem, stepped, start, restIn, memoryIn}
+use Rattle.model.specs.Schedule.{blockLengths, givenIn}
+use Rattle.model.specs.Runs.{Step, blockSteps, memoryAfter, nextState, course}
 use Rattle.laws.specs.Accepted.{Accepted}
 use Rattle.laws.proofs.Views.{EqView, same, diff, eq-view, LtView, below, above, lt-view, LeView, within, beyond, le-view, and-true, and-false}
 use Rattle.laws.proofs.Rules.{records-obey}
 use Rattle.laws.specs.Order.{AllLines}
-use Rattle.correspondence.specs.KindByKind.{localIn, globalIn, localGets, globalGets, guardHolds, operandIn, expressionIn, doneByKind, stepByKind, endsByKind, notedByKind, refusedByKind, DoneAsSaid}
+use Rattle.correspondence.specs.KindByKind.{localIn, globalIn, localGets, globalGets, guardHolds, operandIn, expressionIn, doneByKind, stepByKind, endsByKind, notedByKind, refusedByKind, DoneAsSaid, EachStep, StepsAsSaid}
+use Rattle.correspondence.specs.Meaning.{WellFormed}
 use Rattle.correspondence.proofs.WellFormed.{all-lines-by}
+use Rattle.laws.proofs.AllLines.{all-dropped, each-after-set}
 use Rattle.laws.proofs.Copies.{item-of-name}
 use Rattle.laws.proofs.Memory.{put}
 use Rattle.correspondence.proofs.Step.{length-putItem}
@@ -192,3 +196,52 @@ lines-are-done-as-said bytes ok t = all-lines-by bytes ok _ t each
     each k thread low high given m h =
         let rule = records-obey bytes ok t k low high in
         line-is-done-as-said (caseOf bytes) t given (lineOf bytes t k) refl m (rule .guard) (rule .kind-rule) (omega (arith, h, ok .few-globals, ok .few-mutexes))
+
+-- ---- Along the steps of a run.
+each-step-append : (P : Step → Type 0) (steps more : List Step) → EachStep P steps → EachStep P more → EachStep P (steps ++ more)
+each-step-append P [] more all rest = rest
+each-step-append P (s ∷ steps) more all rest = (all .0, each-step-append P steps more (all .1) rest)
+
+module _ (bytes : List ℕ) (given : ℕ → ℕ) where
+  abbrev case : Case
+  case = caseOf bytes
+
+  abbrev Whole : List ℕ → Type 0
+  Whole items = length items ≡ itemCount case
+
+  abbrev Said : ℕ → Line → Type 0
+  Said t l = (given : ℕ → ℕ) (m : Memory) → Whole (m .items) → DoneAsSaid case t given l m
+
+  abbrev StepSaid : Step → Type 0
+  StepSaid s = DoneAsSaid case (s .block % case .T) given (s .line) (s .memory)
+
+  block-as-said : (i steps : ℕ) (ls : List Line) (m : Memory) → AllLines (Said (i % case .T)) ls → Whole (m .items)
+      → EachStep StepSaid (blockSteps case given i steps ls m)
+  block-as-said i zero ls m all whole = tt
+  block-as-said i (suc steps) [] m all whole = tt
+  block-as-said i (suc steps) (l ∷ ls) m all whole =
+      (all .0 given m whole, block-as-said i steps ls (stepped case given l m) (all .1) (step-keeps-item-count case given l m ∙ whole))
+
+  block-keeps-item-count : (steps : ℕ) (ls : List Line) (m : Memory) → Whole (m .items) → Whole (memoryAfter case given steps ls m .items)
+  block-keeps-item-count zero ls m whole = whole
+  block-keeps-item-count (suc steps) [] m whole = whole
+  block-keeps-item-count (suc steps) (l ∷ ls) m whole =
+      block-keeps-item-count steps ls (stepped case given l m) (step-keeps-item-count case given l m ∙ whole)
+
+  course-as-said : (i : ℕ) (lens : List ℕ) (s : State) → ((t : ℕ) → AllLines (Said t) (getD (s .rests) t [])) → Whole (s .items)
+      → EachStep StepSaid (course case given i lens s)
+  course-as-said i [] s all whole = tt
+  course-as-said i (len ∷ lens) s all whole =
+      let t = i % case .T in
+      let rest = restIn case i s in
+      let after = nextState case given i len s in
+      each-step-append StepSaid (blockSteps case given i len rest (memoryIn case i s)) (course case given (suc i) lens after)
+      (block-as-said i len rest (memoryIn case i s) (all t) whole)
+      (course-as-said (suc i) lens after
+      (each-after-set (λ u. AllLines (Said u)) [] (s .rests) t (drop len rest) all (all-dropped (Said t) len rest (all t)))
+      (block-keeps-item-count len rest (memoryIn case i s) whole))
+
+pub steps-as-said : (bytes : List ℕ) → Accepted bytes → WellFormed (caseOf bytes) → (schedule : List ℕ) → StepsAsSaid (caseOf bytes) schedule
+steps-as-said bytes ok wf schedule =
+    course-as-said bytes (givenIn (caseOf bytes) schedule) 0 (blockLengths (caseOf bytes) schedule) (start (caseOf bytes))
+    (lines-are-done-as-said bytes ok) (wf .item-count)

@@ -1,5 +1,5 @@
--- The rows of the table hold just when the assignment meets constraints 1 to 6 as `Meets` says them and some line breaks an
--- assertion. Rows 1 to 5 are in OrderRows.antt and ValueRows.antt, rows 6 and 7 here.
+-- The rows of the table hold just when the assignment meets constraints 1 to 6 as `Meets` says them and some line
+-- violates. Rows 1 to 5 are in OrderRows.antt and ValueRows.antt, rows 6 and 7 here.
 -- Assumes nothing. Met again in Demand3.
 use mathlib.Core.Path.{_≡_, refl, sym, _∙_, subst}
 use mathlib.Core.Logic.{_≢_}

@@ -2,15 +2,18 @@
 -- every line of every thread of an accepted case is proofs/KindByKind.antt.
 -- Assumes nothing.
 use mathlib.Core.Path.{_≡_}
-use Prim.Native.Nat.{ℕ, suc, _+_, _-_}
+use Prim.Native.Nat.{ℕ, suc, _+_, _-_, _%_}
 use mathlib.Core.Bool.{Bool, true, false, cond, not, _&&_}
 use lib.Dec.{eqb, leb, ltb}
+use mathlib.Core.List.{List, [], _∷_}
 use lib.ListN.{getD, set}
 use Rattle.model.specs.Word.{nonzero}
 use Rattle.model.specs.Limits.{localCount}
 use Rattle.model.specs.CaseFile.{Kind, compute, store, load, input, assert, assume, lock, unlock, Line, Case}
 use Rattle.model.specs.Line.{apply, valueOf, stops, breaks, strayInput}
 use Rattle.model.specs.Machine.{Memory, readsIn, stepped}
+use Rattle.model.specs.Schedule.{givenIn}
+use Rattle.model.specs.Runs.{Step, courseOf}
 
 -- A local, a global, and a mutex: "globals first, then mutexes".
 abbrev pub localIn : Memory → ℕ → ℕ
@@ -114,3 +117,12 @@ pub record DoneAsSaid (case : Case) (t : ℕ) (given : ℕ → ℕ) (l : Line) (
   pub end : stops (l .kind) l (readsIn case given l m) ≡ endsRun case l m
   pub note : breaks true (l .kind) l (readsIn case given l m) (valueOf l (readsIn case given l m)) ≡ isNoted case t l m
   pub refusal : strayInput (l .kind) l (readsIn case given l m) ≡ isRefused given l m
+
+-- Of every step that a schedule's blocks have: "Block i (0 to n) belongs to thread i modulo T".
+abbrev pub EachStep : (Step → Type 0) → List Step → Type 0
+EachStep P [] = Unit
+EachStep P (s ∷ steps) = P s × EachStep P steps
+
+abbrev pub StepsAsSaid : Case → List ℕ → Type 0
+StepsAsSaid case schedule =
+    EachStep (λ s. DoneAsSaid case (s .block % case .T) (givenIn case schedule) (s .line) (s .memory)) (courseOf case schedule)
