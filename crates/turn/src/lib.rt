@@ -56,6 +56,19 @@ fn put(name: usize, value: u16) -> Effect
     }
 }
 
+// A mutex is freed, by a stranger or by its holder.
+fn free(mutex: usize, stranger: bool) -> Effect
+    ensures { λ r. ⌜ r ≡ record { strays = false; stops = false; breaks = stranger; name = mutex; value = 0 } ⌝ }
+{
+    Effect {
+        strays: false,
+        stops: false,
+        breaks: stranger,
+        name: mutex,
+        value: 0,
+    }
+}
+
 // What a line with a true guard does, by its kind: compute, store, load, input, assert, assume, lock, unlock.
 fn effect_in<'a>(
     locals: &'a [u16; LOCALS],
@@ -104,13 +117,10 @@ fn effect_in<'a>(
             name: LOCALS + (counts.globals + target),
             value: line::holder(l),
         },
-        _ => Effect {
-            strays: false,
-            stops: false,
-            breaks: line::breaks(items, counts, l, 0),
-            name: LOCALS + (counts.globals + target),
-            value: 0,
-        },
+        _ => {
+            let stranger = line::breaks(items, counts, l, 0);
+            free(LOCALS + (counts.globals + target), stranger)
+        }
     }
 }
 

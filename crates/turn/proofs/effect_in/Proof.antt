@@ -71,11 +71,11 @@ add-item-at c = search needs
 item-at-requires-2 : tie.Need-item-at-requires-2
 item-at-requires-2 c κs = search needs
 
-add-t27 : tie.Need-add-t27
-add-t27 c = search needs
-
 add-t28 : tie.Need-add-t28
 add-t28 c = search needs
+
+add-t29 : tie.Need-add-t29
+add-t29 c = search needs
 
 holder-requires : tie.Need-holder-requires
 holder-requires c κs = search needs
@@ -83,11 +83,14 @@ holder-requires c κs = search needs
 breaks-requires-2 : tie.Need-breaks-requires-2
 breaks-requires-2 c κs = search needs
 
-add-t31 : tie.Need-add-t31
-add-t31 c = search needs
+add-free : tie.Need-add-free
+add-free c = search needs
 
-add-t32 : tie.Need-add-t32
-add-t32 c = search needs
+add-free-2 : tie.Need-add-free-2
+add-free-2 c = search needs
+
+free-requires : tie.Need-free-requires
+free-requires c κs = search needs
 
 returns : tie.Need-returns
 unfolding stops breaks guardedInValue nameOfTarget
@@ -126,9 +129,9 @@ returns-7 c =
 returns-8 : tie.Need-returns-8
 unfolding stops guardedInValue nameOfTarget
 returns-8 c =
-    let start = c .before .before .before .before in
-    let kind = unlock-other _ (c .before .before .match .rest) in
-    λ k on. in-does _ _ _ _ on unlock kind refl refl (breaks-kind _ _ unlock kind _ _ (c .before .breaks2 .ensures (start .args .given) k (start .args .locals .now) on)) refl refl
+    let start = c .before .before .before .before .before in
+    let kind = unlock-other _ (c .before .before .before .match .rest) in
+    λ k on. rw (c .free .ensures) (in-does _ _ _ _ on unlock kind refl refl (breaks-kind _ _ unlock kind _ _ (c .before .before .breaks2 .ensures (start .args .given) k (start .args .locals .now) on)) refl refl)
 
 pub effect-in-spec : {M : Type 1} → statement M
 effect-in-spec =
@@ -154,12 +157,13 @@ effect-in-spec =
     bit-of-requires-2
     add-item-at
     item-at-requires-2
-    add-t27
     add-t28
+    add-t29
     holder-requires
     breaks-requires-2
-    add-t31
-    add-t32
+    add-free
+    add-free-2
+    free-requires
     returns
     returns-2
     returns-3
