@@ -44,7 +44,7 @@ pub fn check_accepted(case: &[u8], assignment: &[u16]) -> Checked
     Checked::Fails(constraint)
 }
 
-// The constraints but for the goal, from number 1 on, with the record of the first line that breaks an assertion.
+// The constraints but for the goal, from number 1 on, with the record of the first line that violates.
 fn run_failing(case: &[u8], assignment: &[u16]) -> Walk
     requires { ⌜ Accepted (now case) ⌝ }
     ensures { λ r. ⌜ RunSearched (now (case .entry)) (now (assignment .entry)) r ⌝ }
@@ -72,7 +72,7 @@ fn run_failing(case: &[u8], assignment: &[u16]) -> Walk
 }
 
 // The first constraint of an accepted case that fails, counted from 1; 0 if all hold. The goal comes last, and holds where some line
-// breaks an assertion.
+// violates.
 fn failed(case: &[u8], assignment: &[u16]) -> u16
     requires { ⌜ Accepted (now case) ⌝ }
     ensures { λ r. ⌜ r ≡ failedIn (now (case .entry)) (now (assignment .entry)) ⌝ }

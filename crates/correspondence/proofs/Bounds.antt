@@ -20,12 +20,12 @@ use Rattle.model.specs.Copies.{readsAfter}
 use Rattle.model.specs.Machine.{Memory, State, look, putLocal, putItem, readsIn, stepped, start, restIn, memoryIn}
 use Rattle.model.specs.Schedule.{allInputLines, valueGiven, countedLengths, decodedValues, allDecodedValues, decode}
 use Rattle.laws.specs.Order.{AllLines}
-use Rattle.correspondence.specs.Meaning.{WellFormed}
+use Rattle.correspondence.specs.Meaning.{SmallLine, WellFormed}
 use Rattle.model.specs.Runs.{memoryAfter, endMemory, nextState}
 use Rattle.correspondence.specs.Trace.{Event, blockEvents, leftEvents, allLeftEvents, events, snapshots}
 use Rattle.laws.proofs.Schedules.{lines-in-block-few}
 use Rattle.correspondence.specs.Fill.{blockIn, valueIn, traced, recordNumbers, blockNumbers, numbersOfAssignment, tracedRun}
-use Rattle.laws.proofs.AllLines.{all-dropped}
+use Rattle.laws.proofs.AllLines.{all-dropped, each-after-set}
 use Rattle.laws.proofs.Unrun.{unrun-small}
 use Rattle.correspondence.proofs.Blocks.{turn}
 
@@ -43,15 +43,6 @@ each-small-replicate : (many : ℕ) (xs : List ℕ) → Small xs → EachSmall (
 each-small-replicate zero xs h j = tt
 each-small-replicate (suc many) xs h zero = h
 each-small-replicate (suc many) xs h (suc j) = each-small-replicate many xs h j
-
--- What each of a list has, each has after a change of one to another that has it.
-each-after-set : {A : Type 0} (P : A → Type 0) (default : A) (xs : List A) (t : ℕ) (x : A) → ((j : ℕ) → P (getD xs j default)) → P x
-    → (j : ℕ) → P (getD (set xs t x) j default)
-each-after-set P default [] t x h p j = h j
-each-after-set P default (y ∷ xs) zero x h p zero = p
-each-after-set P default (y ∷ xs) zero x h p (suc j) = h (suc j)
-each-after-set P default (y ∷ xs) (suc t) x h p zero = h 0
-each-after-set P default (y ∷ xs) (suc t) x h p (suc j) = each-after-set P default xs t x (λ i. h (suc i)) p j
 
 -- What both have, the one that a test takes has.
 either : {A : Type 0} (P : A → Type 0) (q : Bool) (x y : A) → P x → P y → P (cond q x y)
@@ -85,16 +76,16 @@ unfolding expression
 below-expression l reads c h = below-apply (l .op) _ _
     (either IsWord (eqb (l .a) localCount) (l .c) (reads .a) c (h .a)) (either IsWord (eqb (l .b) localCount) (l .c) (reads .b) c (h .b))
 
-below-guarded-in : (kind : Kind) (l : Line) (reads : Reads) → l .c < wordSize → SmallReads reads → guardedInValue kind l reads < wordSize
+below-guarded-in : (kind : Kind) (l : Line) (reads : Reads) → SmallLine l → SmallReads reads → guardedInValue kind l reads < wordSize
 unfolding guardedInValue
-below-guarded-in compute l reads c h = below-expression l reads c h
-below-guarded-in store l reads c h = below-expression l reads c h
-below-guarded-in load l reads c h = h .a
-below-guarded-in input l reads c h = h .given
-below-guarded-in assert l reads c h = below-bit (nonzero (expression l reads))
-below-guarded-in assume l reads c h = below-bit (nonzero (expression l reads))
-below-guarded-in lock l reads c h = omega arith
-below-guarded-in unlock l reads c h = omega arith
+below-guarded-in compute l reads own h = below-expression l reads (own .constant) h
+below-guarded-in store l reads own h = below-expression l reads (own .constant) h
+below-guarded-in load l reads own h = h .a
+below-guarded-in input l reads own h = h .given
+below-guarded-in assert l reads own h = below-bit (nonzero (expression l reads))
+below-guarded-in assume l reads own h = below-bit (nonzero (expression l reads))
+below-guarded-in lock l reads own h = own .holding
+below-guarded-in unlock l reads own h = omega arith
 
 below-guarded-out : (kind : Kind) (reads : Reads) → SmallReads reads → guardedOutValue kind reads < wordSize
 unfolding guardedOutValue
@@ -107,10 +98,10 @@ below-guarded-out assume reads h = omega arith
 below-guarded-out lock reads h = h .target
 below-guarded-out unlock reads h = h .target
 
-below-value : (l : Line) (reads : Reads) → l .c < wordSize → SmallReads reads → valueOf l reads < wordSize
+below-value : (l : Line) (reads : Reads) → SmallLine l → SmallReads reads → valueOf l reads < wordSize
 unfolding valueBy
-below-value l reads c h =
-    either IsWord (guardTrue l reads) _ _ (below-guarded-in (l .kind) l reads c h) (below-guarded-out (l .kind) reads h)
+below-value l reads own h =
+    either IsWord (guardTrue l reads) _ _ (below-guarded-in (l .kind) l reads own h) (below-guarded-out (l .kind) reads h)
 
 -- The machine.
 record SmallMemory (m : Memory) : Type 0 where
@@ -132,8 +123,8 @@ unfolding putItem
 small-put-item on name x xs h small =
     either Small (on && not (ltb name localCount)) (set xs (name - localCount) x) xs (all-below-set wordSize xs (name - localCount) x h small) h
 
-abbrev SmallConstants : List Line → Type 0
-SmallConstants ls = AllLines (λ l. l .c < wordSize) ls
+abbrev SmallLines : List Line → Type 0
+SmallLines ls = AllLines SmallLine ls
 
 abbrev SmallEvents : List Event → Type 0
 SmallEvents [] = Unit
@@ -152,31 +143,31 @@ small-all-left i [] h = tt
 small-all-left i (ls ∷ rests) h = small-events-append (leftEvents i ls) (allLeftEvents i rests) (small-left i ls h) (small-all-left i rests h)
 
 record SmallState (s : State) : Type 0 where
-  constants : (j : ℕ) → SmallConstants (getD (s .rests) j [])
+  lines : (j : ℕ) → SmallLines (getD (s .rests) j [])
   locals : EachSmall (s .locals)
   items : Small (s .items)
 
 module _ (case : Case) (given : ℕ → ℕ) (small-given : (k : ℕ) → given k < wordSize) where
-  below-line : (l : Line) (m : Memory) → l .c < wordSize → SmallMemory m → valueOf l (readsIn case given l m) < wordSize
-  below-line l m c h = below-value l (readsIn case given l m) c (record {
+  below-line : (l : Line) (m : Memory) → SmallLine l → SmallMemory m → valueOf l (readsIn case given l m) < wordSize
+  below-line l m own h = below-value l (readsIn case given l m) own (record {
     a = below-look m (operandA l) h;
     b = below-look m (operandB l) h;
     target = below-look m (targetName (case .G) l) h;
     given = small-given (l .number);
   })
 
-  small-step : (l : Line) (m : Memory) → l .c < wordSize → SmallMemory m → SmallMemory (stepped case given l m)
-  small-step l m c h = record {
-    locals = small-put-local _ (targetName (case .G) l) _ (m .locals) (h .locals) (below-line l m c h);
-    items = small-put-item _ (targetName (case .G) l) _ (m .items) (h .items) (below-line l m c h);
+  small-step : (l : Line) (m : Memory) → SmallLine l → SmallMemory m → SmallMemory (stepped case given l m)
+  small-step l m own h = record {
+    locals = small-put-local _ (targetName (case .G) l) _ (m .locals) (h .locals) (below-line l m own h);
+    items = small-put-item _ (targetName (case .G) l) _ (m .items) (h .items) (below-line l m own h);
   }
 
-  small-steps : (steps : ℕ) (ls : List Line) (m : Memory) → SmallConstants ls → SmallMemory m → SmallMemory (memoryAfter case given steps ls m)
+  small-steps : (steps : ℕ) (ls : List Line) (m : Memory) → SmallLines ls → SmallMemory m → SmallMemory (memoryAfter case given steps ls m)
   small-steps zero ls m c h = h
   small-steps (suc steps) [] m c h = h
   small-steps (suc steps) (l ∷ ls) m c h = small-steps steps ls (stepped case given l m) (c .1) (small-step l m (c .0) h)
 
-  small-block : (i steps : ℕ) (ls : List Line) (m : Memory) → i < wordSize → SmallConstants ls → SmallMemory m
+  small-block : (i steps : ℕ) (ls : List Line) (m : Memory) → i < wordSize → SmallLines ls → SmallMemory m
       → SmallEvents (blockEvents case given i steps ls m)
   small-block i zero ls m few c h = tt
   small-block i (suc steps) [] m few c h = tt
@@ -188,11 +179,11 @@ module _ (case : Case) (given : ℕ → ℕ) (small-given : (k : ℕ) → given 
 
   small-next : (i len : ℕ) (s : State) → SmallState s → SmallState (nextState case given i len s)
   small-next i len s h =
-      let end = small-steps len (restIn case i s) (memoryIn case i s) (h .constants (i % case .T)) (small-memory i s h) in
+      let end = small-steps len (restIn case i s) (memoryIn case i s) (h .lines (i % case .T)) (small-memory i s h) in
       record {
-        constants = each-after-set SmallConstants [] (s .rests) (i % case .T) (drop len (restIn case i s)) (h .constants)
-            (all-dropped (λ l. l .c < wordSize) len (restIn case i s) (h .constants (i % case .T)));
-        locals = each-after-set Small [] (s .locals) (i % case .T) (endMemory case given i len s .locals) (h .locals) (end .locals);
+        lines = each-after-set (λ j. SmallLines) [] (s .rests) (i % case .T) (drop len (restIn case i s)) (h .lines)
+            (all-dropped SmallLine len (restIn case i s) (h .lines (i % case .T)));
+        locals = each-after-set (λ j. Small) [] (s .locals) (i % case .T) (endMemory case given i len s .locals) (h .locals) (end .locals);
         items = end .items;
       }
 
@@ -200,7 +191,7 @@ module _ (case : Case) (given : ℕ → ℕ) (small-given : (k : ℕ) → given 
   small-events i [] s few h = small-all-left i (s .rests) (omega arith)
   small-events i (len ∷ lens) s few h =
       small-events-append (blockEvents case given i len (restIn case i s) (memoryIn case i s)) (events case given (suc i) lens (nextState case given i len s))
-      (small-block i len (restIn case i s) (memoryIn case i s) (omega arith) (h .constants (i % case .T)) (small-memory i s h))
+      (small-block i len (restIn case i s) (memoryIn case i s) (omega arith) (h .lines (i % case .T)) (small-memory i s h))
       (small-events (suc i) lens (nextState case given i len s) (omega arith) (small-next i len s h))
 
   small-snapshots : (i : ℕ) (lens : List ℕ) (s : State) → SmallState s → EachSmall (snapshots case given i lens s)
@@ -252,7 +243,7 @@ module _ (case : Case) (wf : WellFormed case) where
       let given = valueGiven (allInputLines (case .threads)) values in
       let small-given : (k : ℕ) → given k < wordSize = λ k. below-given (allInputLines (case .threads)) values k h in
       let begin : SmallState (start case) = record {
-        constants = wf .small-constants;
+        lines = wf .small-lines;
         locals = each-small-replicate (case .T) (replicate localCount 0) (all-below-replicate wordSize localCount 0 (omega arith));
         items = wf .small-initial;
       } in

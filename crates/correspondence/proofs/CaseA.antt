@@ -117,7 +117,7 @@ scheduleP2 = 0 ∷ 1 ∷ 4 ∷ []
 abbrev pub OneOfTheTwo : List ℕ → Type 0
 OneOfTheTwo schedule = (schedule ≡ scheduleP1) ⊎ (schedule ≡ scheduleP2)
 
--- "every run is clean": none is cut off or breaks an assertion, and every schedule that is not refused is answered with clean.
+-- "every run is clean": none is cut off or violates, and every schedule that is not refused is answered with clean.
 pub record EveryRunIsClean (bytes : List ℕ) : Type 0 where
   pub runs : (schedule : List ℕ) → InBlocks (caseOf bytes) schedule → Legal (caseOf bytes) schedule × NoneBroken (caseOf bytes) schedule
   pub answers : (schedule : List ℕ) (room : ℕ) → NotRefused (replayed bytes schedule room) → replayed bytes schedule room ≡ Clean

@@ -1,5 +1,5 @@
--- Demand 3 over well-formed cases: assignments that meet the constraints and schedules whose runs finish and break an
--- assertion, each the other's. `decode-of-fill` and `fill-of-decode` are the two laws of the filled assignment.
+-- Demand 3 over well-formed cases: assignments that meet the constraints and schedules whose runs finish and
+-- violate, each the other's. `decode-of-fill` and `fill-of-decode` are the two laws of the filled assignment.
 -- Assumes nothing. Met again in Demand3.
 use mathlib.Core.Path.{_≡_, sym, ap₂, _∙_}
 use Prim.Native.Nat.{ℕ, suc, _+_}

@@ -1,5 +1,5 @@
 -- The machine goes along the steps of a run: its answer is made by the first step that ends the run or strays, or, where there is
--- none, by the lines that are left and the first step that breaks an assertion.
+-- none, by the lines that are left and the first step that violates.
 -- Assumes nothing. Met again in Endings and RunEnds.
 use mathlib.Core.Path.{_≡_, refl, sym, ap, _∙_}
 use Prim.Native.Nat.{ℕ, zero, suc, _<_}
@@ -63,7 +63,7 @@ module _ (test : Step → Bool) where
   up-to-none [] none = refl
   up-to-none (s ∷ steps) none = rw (none .0) (ap (λ (rest : List Step). s ∷ rest) (up-to-none steps (none .1)))
 
--- ---- Along the steps, with tests that stand for straying, ending the run and breaking an assertion.
+-- ---- Along the steps, with tests that stand for straying, ending the run and violating.
 
 -- Record numbers count from 1.
 abbrev pub Numbered : List Step → Type 0
@@ -104,7 +104,7 @@ module _ (stray end break : Step → Bool) where
   note-stays note [] h = refl
   note-stays note (s ∷ steps) h = rw (ne-eqb note 0 (λ p. omega arith)) (note-stays note steps h)
 
-  -- The note is the first step that breaks an assertion.
+  -- The note is the first step that violates.
   pub data Notes (steps : List Step) : Type 0 where
     quiet : None break steps → noteOver 0 steps ≡ 0 → Notes steps
     loud : (s : Step) → First break steps s → 0 < s .line .number → noteOver 0 steps ≡ s .line .number → Notes steps

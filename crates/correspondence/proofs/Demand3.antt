@@ -29,6 +29,7 @@ use Rattle.laws.specs.AllHold.{AllHold}
 use Rattle.correspondence.specs.ReadBack.{rowsOf}
 use Rattle.correspondence.specs.Agreement.{brokenIn}
 use Rattle.correspondence.specs.Demand3.{tableRoom, scheduleRoom, itemRoom, writtenRows, Yes, DecodedAs, counted, AnsweredViolated, ViolatingRun, Demand3, ForEveryAcceptedCase}
+use Rattle.correspondence.proofs.KindByKind.{steps-as-said}
 use Rattle.correspondence.proofs.WellFormed.{well-formed}
 use Rattle.correspondence.proofs.Replies.{PassesCheck, passes-of-meets, meets-of-passes, encoded-with-room, encoded-short, encoded-into, decoded-with-room, decoded-short, decoded-into, replayed-short}
 use Rattle.correspondence.proofs.Rows.{meets-of-table, table-of-meets}
@@ -47,7 +48,7 @@ written-whole : (result slice : List ℕ) → length result ≡ length slice →
 unfolding writtenOver
 written-whole result slice h = ap (λ (k : ℕ). result ++ drop k slice) h ∙ ap (λ (xs : List ℕ). result ++ xs) (drop-length slice) ∙ append-nil result
 
--- A schedule whose run finishes and breaks an assertion, as the trace has it.
+-- A schedule whose run finishes and violates, as the trace has it.
 record Breaking (case : Case) (schedule : List ℕ) : Type 0 where
   numbers : AllBelow wordSize schedule
   has-size : length schedule ≡ scheduleSize case
@@ -235,6 +236,7 @@ module _ (bytes : List ℕ) (small : AllBelow 256 bytes) (accepted : verdict byt
       run-of-14 bytes accepted wf schedule room h k,
       (λ run. refused-14-of-run bytes accepted wf schedule room h k (run .0) (run .1) (run .2)),
     );
+    steps-as-said = steps-as-said bytes (accepted-of bytes accepted) wf;
     legal-runs-the-first-lines = λ schedule takes legal t ht. first-lines-of-legal case wf schedule legal t;
     values-at-the-end = values-of-legal bytes accepted wf;
     values-at-the-cut-off = values-of-cut-off bytes accepted wf;

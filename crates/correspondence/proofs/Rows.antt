@@ -1,5 +1,5 @@
--- The rows of the table hold just when the assignment meets constraints 1 to 6 as `Meets` says them and some line breaks an
--- assertion. Rows 1 to 5 are in OrderRows.antt and ValueRows.antt, rows 6 and 7 here.
+-- The rows of the table hold just when the assignment meets constraints 1 to 6 as `Meets` says them and some line
+-- violates. Rows 1 to 5 are in OrderRows.antt and ValueRows.antt, rows 6 and 7 here.
 -- Assumes nothing. Met again in Demand3.
 use mathlib.Core.Path.{_≡_, refl, sym, _∙_, subst}
 use mathlib.Core.Logic.{_≢_}
@@ -14,11 +14,11 @@ use borrow.Author.Tests.{eqb-true, eq-eqb}
 use Rattle.laws.proofs.Views.{EqView, same, diff, eq-view}
 use Rattle.model.specs.Word.{bit}
 use Rattle.model.specs.CaseFile.{Line, Case, linesOf, itemCount}
-use Rattle.model.specs.Line.{itemName, targetName, breaks}
+use Rattle.model.specs.Line.{itemName, targetName}
 use Rattle.model.specs.Assignment.{Assignment}
 use Rattle.model.specs.Copies.{latest, readsAfter, walkBack}
 use Rattle.model.specs.Table.{row, itemRows, blockRows, allOrderRows, allValueRows, runRows, goalRow, table}
-use Rattle.model.specs.Holds.{fromRecord, someBreaks, someThreadBreaks, holds7, holds}
+use Rattle.model.specs.Holds.{fromRecord, breaksAfter, someBreaks, someThreadBreaks, holds7, holds}
 use Rattle.correspondence.specs.Meaning.{WellFormed, BlockMet, Meets, breaksIn, breakCount}
 use Rattle.laws.specs.AllHold.{AllHold}
 use Rattle.correspondence.proofs.Sums.{SomeBelow, some-of-sum, sum-of-some}
@@ -107,13 +107,13 @@ module _ (case : Case) (α : Assignment) where
   count-of-breaks : (earlier ls : List Line) → someBreaks case α earlier ls ≡ true → 0 < breaksIn case α earlier ls
   unfolding someBreaks
   count-of-breaks earlier [] h = absurd (true≢false (sym h))
-  count-of-breaks earlier (l ∷ ls) h = count-of-or (breaks (l .kind) l (readsAfter case α earlier l) (α .value (l .number)))
+  count-of-breaks earlier (l ∷ ls) h = count-of-or (breaksAfter case α earlier l)
       (someBreaks case α (l ∷ earlier) ls) (breaksIn case α (l ∷ earlier) ls) (count-of-breaks (l ∷ earlier) ls) h
 
   breaks-of-count : (earlier ls : List Line) → 0 < breaksIn case α earlier ls → someBreaks case α earlier ls ≡ true
   unfolding someBreaks
   breaks-of-count earlier [] h = absurd (omega arith)
-  breaks-of-count earlier (l ∷ ls) h = or-of-count (breaks (l .kind) l (readsAfter case α earlier l) (α .value (l .number)))
+  breaks-of-count earlier (l ∷ ls) h = or-of-count (breaksAfter case α earlier l)
       (someBreaks case α (l ∷ earlier) ls) (breaksIn case α (l ∷ earlier) ls) (breaks-of-count (l ∷ earlier) ls) h
 
   count-of-thread-breaks : (threads : List (List Line)) → someThreadBreaks case α threads ≡ true

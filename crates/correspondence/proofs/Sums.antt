@@ -1,5 +1,5 @@
 -- Sums of f 0, f 1, .. : where two are equal, where they differ at one number, and where one is positive.
--- Assumes nothing. Met again in Breaks and Rows, where lines that break an assertion are counted.
+-- Assumes nothing. Met again in Breaks and Rows, where lines that violate are counted.
 use mathlib.Core.Path.{_≡_, refl, ap}
 use mathlib.Core.Logic.{_≢_}
 use Prim.Native.Nat.{ℕ, zero, suc, _+_, _<_}

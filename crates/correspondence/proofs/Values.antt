@@ -174,7 +174,7 @@ module _ (case : Case) (wf : WellFormed case) (α : Assignment) (i : ℕ) (s : S
 
 module _ (case : Case) (wf : WellFormed case) (given : ℕ → ℕ) (α : Assignment) where
   -- After all blocks, what is left has block number n + 1.
-  left-past-blocks : (i : ℕ) (rests : List (List Line)) → i + 0 ≡ suc (case .n) → BlocksNext case α i [] rests
+  pub left-past-blocks : (i : ℕ) (rests : List (List Line)) → i + 0 ≡ suc (case .n) → BlocksNext case α i [] rests
       → (t : ℕ) → AllLines (HasBlock (α .block) (suc (case .n))) (getD rests t [])
   left-past-blocks i rests last blocks =
       each-thread (HasBlock (α .block) (suc (case .n))) rests

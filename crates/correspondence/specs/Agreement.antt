@@ -14,7 +14,7 @@ use Rattle.model.specs.Runs.{nextState}
 use Rattle.laws.specs.Order.{AllThreads}
 use Rattle.correspondence.specs.Trace.{Event}
 
--- How many events break an assertion; a weight of each line added up over the events.
+-- How many events violate; a weight of each line added up over the events.
 abbrev pub brokenIn : List Event → ℕ
 brokenIn [] = 0
 brokenIn (e ∷ es) = bit (e .broken) + brokenIn es

@@ -25,6 +25,7 @@ use Rattle.model.specs.declared.Replayed.{Replayed}
 use Rattle.model.specs.declared.Replayed.the-variants as replayeds
 use Rattle.laws.specs.AllHold.{AllHold}
 use Rattle.correspondence.specs.ReadBack.{rowsOf, FirstFails}
+use Rattle.correspondence.specs.KindByKind.{StepsAsSaid}
 use Rattle.correspondence.specs.Fill.{fill}
 
 -- How many numbers the slices lent to the encoder, the decoder and the replayer must hold.
@@ -66,7 +67,8 @@ NotRefused (replayeds.Refused number place) = ⊥
 abbrev pub Leaves : List ℕ → List ℕ → List ℕ → Type 0
 Leaves bytes schedule items = (slice : List ℕ) → itemRoom bytes ≤ length slice → replayedInto bytes schedule slice ≡ writtenOver items slice
 
--- "the schedule replays to a broken assertion when the reply is violated": with room, it is, at one record whatever the room.
+-- Four: "whoever reads .. that a schedule replays to a broken one, now reads that it violates": with room, the reply is violated, at one
+-- record whatever the room.
 abbrev pub AnsweredViolated : List ℕ → List ℕ → Type 0
 AnsweredViolated bytes schedule =
     AllBelow wordSize schedule × ((k : ℕ) × ((room : ℕ) → itemRoom bytes ≤ room → replayed bytes schedule room ≡ replayeds.Violated k))
@@ -102,11 +104,12 @@ pub record Demand3 (bytes : List ℕ) : Type 0 where
   -- With room for the items, the replayer takes a schedule exactly where it gives no refusal.
   pub takes-is-no-refusal : (schedule : List ℕ) (room : ℕ) → itemRoom bytes ≤ room →
       Takes (caseOf bytes) schedule ↔ NotRefused (replayed bytes schedule room)
-  -- Violated: taken, and the run violates; the record is that of the first zero assert in running order.
+  -- Violated: taken, and the run violates; the record is that of its first line that does in running order, a zero assert or an unlock by
+  -- a stranger.
   pub violated-names-the-first : (schedule : List ℕ) (room : ℕ) → itemRoom bytes ≤ room → (k : ℕ) →
       (replayed bytes schedule room ≡ replayeds.Violated k)
       ↔ (Takes (caseOf bytes) schedule × Violates (caseOf bytes) schedule × FirstBroken (caseOf bytes) schedule k)
-  -- Clean: taken, legal, and nothing broken.
+  -- Clean: taken, legal, and no line violates.
   pub clean-is-nothing-broken : (schedule : List ℕ) (room : ℕ) → itemRoom bytes ≤ room →
       (replayed bytes schedule room ≡ replayeds.Clean)
       ↔ (Takes (caseOf bytes) schedule × Legal (caseOf bytes) schedule × NoneBroken (caseOf bytes) schedule)
@@ -121,6 +124,9 @@ pub record Demand3 (bytes : List ℕ) : Type 0 where
       (replayed bytes schedule room ≡ replayeds.Refused 14 k)
       ↔ ((length schedule ≡ scheduleSize (caseOf bytes)) × (lengthsFit (caseOf bytes) (blockLengths (caseOf bytes) schedule) ≡ true)
       × Meets14 (caseOf bytes) schedule k)
+  -- Every step is one of the thread of its block, and does what the documents say of a line of that thread, kind by kind: what it
+  -- changes, whether it ends the run, whether it violates, whether refusal 14 meets it.
+  pub steps-as-said : (schedule : List ℕ) → StepsAsSaid (caseOf bytes) schedule
   -- A legal run of a schedule that is taken runs of each thread the first lines, in chain order, as many as the thread's block lengths
   -- add up to.
   pub legal-runs-the-first-lines : (schedule : List ℕ) → Takes (caseOf bytes) schedule → Legal (caseOf bytes) schedule

@@ -1,16 +1,19 @@
 -- A step of the machine as document 01 says it under "Kinds" and "Runs", kind by kind. That the machine's step is this for
--- every line of an accepted case is proofs/KindByKind.antt.
+-- every line of every thread of an accepted case is proofs/KindByKind.antt.
 -- Assumes nothing.
 use mathlib.Core.Path.{_≡_}
-use Prim.Native.Nat.{ℕ, _+_, _-_}
+use Prim.Native.Nat.{ℕ, suc, _+_, _-_, _%_}
 use mathlib.Core.Bool.{Bool, true, false, cond, not, _&&_}
 use lib.Dec.{eqb, leb, ltb}
+use mathlib.Core.List.{List, [], _∷_}
 use lib.ListN.{getD, set}
 use Rattle.model.specs.Word.{nonzero}
 use Rattle.model.specs.Limits.{localCount}
 use Rattle.model.specs.CaseFile.{Kind, compute, store, load, input, assert, assume, lock, unlock, Line, Case}
 use Rattle.model.specs.Line.{apply, valueOf, stops, breaks, strayInput}
 use Rattle.model.specs.Machine.{Memory, readsIn, stepped}
+use Rattle.model.specs.Schedule.{givenIn}
+use Rattle.model.specs.Runs.{Step, courseOf}
 
 -- A local, a global, and a mutex: "globals first, then mutexes".
 abbrev pub localIn : Memory → ℕ → ℕ
@@ -49,20 +52,21 @@ expressionIn l m = apply (l .op) (operandIn m (l .c) (l .a)) (operandIn m (l .c)
 
 -- "Guard true: compute, store, load, lock and unlock do what Kinds says, an input puts its schedule value in its target, an
 -- assert that is zero is noted and changes nothing." Kinds: "compute: local target gets the expression"; "store: global target
--- gets the expression"; "load: local target gets global a"; "lock, unlock: mutex target becomes 1 or 0".
-abbrev pub doneByKind : Kind → Case → (ℕ → ℕ) → Line → Memory → Memory
-doneByKind compute case given l m = localGets (l .target) (expressionIn l m) m
-doneByKind store case given l m = globalGets (l .target) (expressionIn l m) m
-doneByKind load case given l m = localGets (l .target) (globalIn m (l .a)) m
-doneByKind input case given l m = localGets (l .target) (given (l .number)) m
-doneByKind assert case given l m = m
-doneByKind assume case given l m = m
-doneByKind lock case given l m = mutexGets case (l .target) 1 m
-doneByKind unlock case given l m = mutexGets case (l .target) 0 m
+-- gets the expression"; "load: local target gets global a"; "lock, unlock: mutex target becomes .. 0". Four: "A lock by thread t now puts
+-- t + 1 in the mutex".
+abbrev pub doneByKind : Kind → Case → ℕ → (ℕ → ℕ) → Line → Memory → Memory
+doneByKind compute case t given l m = localGets (l .target) (expressionIn l m) m
+doneByKind store case t given l m = globalGets (l .target) (expressionIn l m) m
+doneByKind load case t given l m = localGets (l .target) (globalIn m (l .a)) m
+doneByKind input case t given l m = localGets (l .target) (given (l .number)) m
+doneByKind assert case t given l m = m
+doneByKind assume case t given l m = m
+doneByKind lock case t given l m = mutexGets case (l .target) (suc t) m
+doneByKind unlock case t given l m = mutexGets case (l .target) 0 m
 
 -- "Guard false: no local, global or mutex changes"
-abbrev pub stepByKind : Case → (ℕ → ℕ) → Line → Memory → Memory
-stepByKind case given l m = cond (guardHolds l m) (doneByKind (l .kind) case given l m) m
+abbrev pub stepByKind : Case → ℕ → (ℕ → ℕ) → Line → Memory → Memory
+stepByKind case t given l m = cond (guardHolds l m) (doneByKind (l .kind) case t given l m) m
 
 -- "But with a true guard, an assume that is zero or a lock whose mutex is not 0 ends the run there"
 abbrev pub endsByKind : Kind → Case → Line → Memory → Bool
@@ -78,19 +82,20 @@ endsByKind unlock case l m = false
 abbrev pub endsRun : Case → Line → Memory → Bool
 endsRun case l m = guardHolds l m && endsByKind (l .kind) case l m
 
--- "Guard true: .. an assert that is zero is noted"
-abbrev pub notedByKind : Kind → Line → Memory → Bool
-notedByKind compute l m = false
-notedByKind store l m = false
-notedByKind load l m = false
-notedByKind input l m = false
-notedByKind assert l m = eqb (expressionIn l m) 0
-notedByKind assume l m = false
-notedByKind lock l m = false
-notedByKind unlock l m = false
+-- "Guard true: .. an assert that is zero is noted". Four: "a run line that unlocks with its guard true while the mutex does not read t + 1
+-- is a violation"
+abbrev pub notedByKind : Kind → Case → ℕ → Line → Memory → Bool
+notedByKind compute case t l m = false
+notedByKind store case t l m = false
+notedByKind load case t l m = false
+notedByKind input case t l m = false
+notedByKind assert case t l m = eqb (expressionIn l m) 0
+notedByKind assume case t l m = false
+notedByKind lock case t l m = false
+notedByKind unlock case t l m = not (eqb (mutexIn case m (l .target)) (suc t))
 
-abbrev pub isNoted : Line → Memory → Bool
-isNoted l m = guardHolds l m && notedByKind (l .kind) l m
+abbrev pub isNoted : Case → ℕ → Line → Memory → Bool
+isNoted case t l m = guardHolds l m && notedByKind (l .kind) case t l m
 
 -- "Guard false: .. an input's schedule value must be 0 (else refusal 14)"
 abbrev pub refusedByKind : Kind → (ℕ → ℕ) → Line → Bool
@@ -106,9 +111,18 @@ refusedByKind unlock given l = false
 abbrev pub isRefused : (ℕ → ℕ) → Line → Memory → Bool
 isRefused given l m = not (guardHolds l m) && refusedByKind (l .kind) given l
 
--- What the machine does at a line in this memory is what the document says.
-pub record DoneAsSaid (case : Case) (given : ℕ → ℕ) (l : Line) (m : Memory) : Type 0 where
-  pub memory : stepped case given l m ≡ stepByKind case given l m
+-- What the machine does at a line of thread t in this memory is what the document says.
+pub record DoneAsSaid (case : Case) (t : ℕ) (given : ℕ → ℕ) (l : Line) (m : Memory) : Type 0 where
+  pub memory : stepped case given l m ≡ stepByKind case t given l m
   pub end : stops (l .kind) l (readsIn case given l m) ≡ endsRun case l m
-  pub note : breaks (l .kind) l (readsIn case given l m) (valueOf l (readsIn case given l m)) ≡ isNoted l m
+  pub note : breaks true (l .kind) l (readsIn case given l m) (valueOf l (readsIn case given l m)) ≡ isNoted case t l m
   pub refusal : strayInput (l .kind) l (readsIn case given l m) ≡ isRefused given l m
+
+-- Of every step that a schedule's blocks have: "Block i (0 to n) belongs to thread i modulo T".
+abbrev pub EachStep : (Step → Type 0) → List Step → Type 0
+EachStep P [] = Unit
+EachStep P (s ∷ steps) = P s × EachStep P steps
+
+abbrev pub StepsAsSaid : Case → List ℕ → Type 0
+StepsAsSaid case schedule =
+    EachStep (λ s. DoneAsSaid case (s .block % case .T) (givenIn case schedule) (s .line) (s .memory)) (courseOf case schedule)

@@ -9,13 +9,19 @@ use lib.ListN.{length}
 use Rattle.model.specs.Word.{wordSize, AllBelow, bit}
 use Rattle.model.specs.Limits.{localCount}
 use Rattle.model.specs.CaseFile.{Kind, compute, store, load, input, assert, assume, lock, unlock, Line, Case, linesOf, itemCount, sumOfThreads, hasNumber}
-use Rattle.model.specs.Line.{noName, Reads, guardTrue, breaks, isInput}
+use Rattle.model.specs.Line.{noName, Reads, guardTrue, holder, isInput}
 use Rattle.model.specs.Assignment.{Assignment, wasRun}
 use Rattle.model.specs.Copies.{readsAfter, walkBack}
+use Rattle.model.specs.Holds.{breaksAfter}
 use Rattle.model.specs.Schedule.{linesInBlock}
 use Rattle.laws.specs.RecordNumber.{RecordNumber}
 use Rattle.laws.specs.Order.{AllLines, Positive, Ordered}
 use Rattle.laws.specs.RowValue.{valueAfter}
+
+-- The numbers that a line brings with it, its constant and its thread as holder, have 16 bits.
+pub record SmallLine (l : Line) : Type 0 where
+  pub constant : l .c < wordSize
+  pub holding : holder l < wordSize
 
 -- What the theorem needs of a case. That an accepted case has it is proofs/WellFormed.antt.
 pub record WellFormed (case : Case) : Type 0 where
@@ -28,7 +34,7 @@ pub record WellFormed (case : Case) : Type 0 where
   pub once : (k : ℕ) → sumOfThreads (hasNumber k) (case .threads) ≤ 1
   pub known : (k : ℕ) → 0 < k → k ≤ case .R → 0 < sumOfThreads (hasNumber k) (case .threads)
   pub within : (k : ℕ) → 0 < sumOfThreads (hasNumber k) (case .threads) → RecordNumber (case .R) k
-  pub small-constants : (t : ℕ) → AllLines (λ l. l .c < wordSize) (linesOf case t)
+  pub small-lines : (t : ℕ) → AllLines SmallLine (linesOf case t)
   pub small-initial : AllBelow wordSize (case .initial)
 
 -- Constraint 5: an assume's value is 1; a lock whose guard is true reads 0.
@@ -61,11 +67,10 @@ pub record Meets (case : Case) (α : Assignment) : Type 0 where
   pub lines : (t : ℕ) → t < case .T → LinesMet case α [] (linesOf case t)
   pub blocks : (i : ℕ) → i < case .n → (g : ℕ) → g < itemCount case → BlockMet case α i g
 
--- Constraint 7 counts: how many lines of a thread break an assertion, after these earlier lines; and of all threads.
+-- Constraint 7 counts: how many lines of a thread violate, after these earlier lines; and of all threads.
 abbrev pub breaksIn : Case → Assignment → List Line → List Line → ℕ
 breaksIn case α earlier [] = 0
-breaksIn case α earlier (l ∷ ls) =
-    bit (breaks (l .kind) l (readsAfter case α earlier l) (α .value (l .number))) + breaksIn case α (l ∷ earlier) ls
+breaksIn case α earlier (l ∷ ls) = bit (breaksAfter case α earlier l) + breaksIn case α (l ∷ earlier) ls
 
 abbrev pub sumBelow : (ℕ → ℕ) → ℕ → ℕ
 sumBelow f zero = 0

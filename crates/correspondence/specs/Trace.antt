@@ -9,7 +9,7 @@ use Rattle.model.specs.Line.{valueOf, unrunValue}
 use Rattle.model.specs.Machine.{Memory, State, restIn, memoryIn}
 use Rattle.model.specs.Runs.{Step, blockSteps, nextState, readsAt, broken}
 
--- A line, its block number, its value, and whether it breaks an assertion.
+-- A line, its block number, its value, and whether it violates.
 pub record Event : Type 0 where
   pub line : Line
   pub block : ℕ

@@ -3,7 +3,7 @@
 use Prim.Native.Nat.{ℕ, zero, suc, _<_}
 use mathlib.Core.List.{List, [], _∷_, reverseAux}
 use native.Mathlib.Omega.{arith}
-use lib.ListN.{getD, length, drop}
+use lib.ListN.{getD, set, length, drop}
 use Rattle.model.specs.CaseFile.{Line}
 use Rattle.laws.specs.Order.{AllLines, AllThreads}
 
@@ -30,3 +30,12 @@ pub all-earlier-and-rest : (P : Line → Type 0) (earlier ls : List Line) → Al
     → AllLines P earlier × AllLines P ls
 all-earlier-and-rest P [] ls all = (tt, all)
 all-earlier-and-rest P (l ∷ earlier) ls all = let ih = all-earlier-and-rest P earlier (l ∷ ls) all in ((ih .1 .0, ih .0), ih .1 .1)
+
+-- What each of a list has, by its place, each has after a change of one to another that has it.
+pub each-after-set : {A : Type 0} (P : ℕ → A → Type 0) (default : A) (xs : List A) (t : ℕ) (x : A) → ((j : ℕ) → P j (getD xs j default)) → P t x
+    → (j : ℕ) → P j (getD (set xs t x) j default)
+each-after-set P default [] t x h p j = h j
+each-after-set P default (y ∷ xs) zero x h p zero = p
+each-after-set P default (y ∷ xs) zero x h p (suc j) = h (suc j)
+each-after-set P default (y ∷ xs) (suc t) x h p zero = h 0
+each-after-set P default (y ∷ xs) (suc t) x h p (suc j) = each-after-set (λ i. P (suc i)) default xs t x (λ i. h (suc i)) p j

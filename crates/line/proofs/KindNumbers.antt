@@ -167,6 +167,10 @@ pub breaks-unlock : (k : ℕ) (l : Line) (reads : Reads) (value x y : ℕ) → N
 unfolding breaks
 breaks-unlock k l reads value x y n on ex ey = rw (unlock-other k n, on, ex, ey)
 
+pub breaks-kind : (l : Line) (reads : Reads) (κ : Kind) → l .kind ≡ κ → (broken : Bool) (value : ℕ) → broken ≡ breaks true (l .kind) l reads value
+    → broken ≡ breaks true κ l reads value
+breaks-kind l reads κ kind broken value is = is ∙ ap (λ (x : Kind). breaks true x l reads value) kind
+
 pub input-other : (k : ℕ) → Unit {0} × k ≢ 4 → isInput (kindOf k) ≡ false
 input-other k n = go (kindOf k) (kind-view k)
   where

@@ -1,3 +1,4 @@
 pub mod KindNumbers
 pub mod Memories
 pub mod Expressions
+pub mod CaseCounts

@@ -168,13 +168,19 @@ module _ (bytes givens lengths : List ℕ) (threads₀ : List Thread) (shared₀
     }
 
 -- Block i by its thread's turn.
-module _ (bytes lengths givens : List ℕ) (thread : Thread) (shared : Shared) (i : ℕ) (turn : Turn) (is-turn : turn ≡ turnOf thread shared) where
-  pub ready-turn : BlockReady bytes lengths givens thread i → Ready bytes givens turn
-  ready-turn ready = rw is-turn (record { accepted = ready .accepted; all-given = ready .all-given; within = ready .within })
+module _ (bytes lengths givens : List ℕ) (thread : Thread) (shared : Shared) (i : ℕ) (turn : Turn) (is-turn : turn ≡ turnOf thread shared)
+    (t : ℕ) (is-t : t ≡ i % threadCount bytes) where
+  pub ready-turn : BlockReady bytes lengths givens thread i → Ready bytes givens t turn
+  ready-turn ready = rw is-turn (record {
+    accepted = ready .accepted;
+    thread = rw is-t (mod-lt i (omega (arith, ready .accepted .some-threads)));
+    all-given = ready .all-given;
+    within = ready .within;
+  })
 
-  pub moved-by : (t : ℕ) (moved : Moved) → t ≡ i % threadCount bytes
-      → BlockRan bytes givens t (getD lengths i 0) turn (turnOf (moved .thread) (moved .shared)) → MovedBy bytes givens lengths i thread shared moved
-  moved-by t moved is-t ran = record { ran = rw (is-turn, is-t) at ran }
+  pub moved-by : (moved : Moved) → BlockRan bytes givens t (getD lengths i 0) turn (turnOf (moved .thread) (moved .shared))
+      → MovedBy bytes givens lengths i thread shared moved
+  moved-by moved ran = record { ran = rw (is-turn, is-t) at ran }
 
 -- the thread that is stored, as the list then has it
 pub stored : (bytes givens lengths : List ℕ) (i : ℕ) (threads : List Thread) (shared : Shared) (r : Moved) → i % threadCount bytes < length threads

@@ -25,7 +25,7 @@ pub struct Thread {
     pub locals: [u16; LOCALS],
 }
 
-// What the threads share: the items, how the run stands, and the record of the first zero assert, 0 while there is none.
+// What the threads share: the items, how the run stands, and the record of the first line that violates, 0 while there is none.
 pub struct Shared {
     pub items: [u16; ITEMS],
     pub stand: Stand,

@@ -7,15 +7,16 @@ use native.Mathlib.Omega.{arith}
 use lib.Dec.{eqb}
 use Rattle.model.specs.Word.{nonzero}
 use Rattle.model.specs.CaseFile.{Kind, compute, store, load, input, assert, assume, lock, unlock, Line}
-use Rattle.model.specs.Line.{Reads, noName, nameOfTarget, guardTrue, expression, guardedInValue, guardedOutValue, valueBy, valueOf, stops, breaks, isInput, strayInput}
+use Rattle.model.specs.Line.{Reads, noName, nameOfTarget, guardTrue, expression, guardedInValue, valueBy, valueOf, stops, breaks, isInput, strayInput}
 use Rattle.laws.proofs.Views.{and-false}
+use Rattle.laws.proofs.Breaking.{out-breaks-nothing}
 use Rattle.turn.specs.declared.Effect.{Effect}
 use Rattle.turn.specs.Promises.{Effective}
 
 module _ (G : ℕ) (l : Line) (reads : Reads) (e : Effect) where
   -- its guard is true, and its kind is κ
   module _ (on : guardTrue l reads ≡ true) (κ : Kind) (kind : l .kind ≡ κ) where
-    pub in-does : e .strays ≡ false → e .stops ≡ stops κ l reads → e .breaks ≡ breaks κ l reads (e .value)
+    pub in-does : e .strays ≡ false → e .stops ≡ stops κ l reads → e .breaks ≡ breaks true κ l reads (e .value)
         → e .name ≡ nameOfTarget G κ (l .target) → e .value ≡ guardedInValue κ l reads → Effective G l reads e
     unfolding strayInput valueBy
     in-does strays' stops' breaks' name' value' =
@@ -23,7 +24,7 @@ module _ (G : ℕ) (l : Line) (reads : Reads) (e : Effect) where
         record {
           straying = rw on (strays' ∙ sym (and-false (isInput (l .kind))));
           stopping = stops' ∙ ap (λ (x : Kind). stops x l reads) (sym kind);
-          breaking = breaks' ∙ (λ i. breaks (sym kind i) l reads (is i));
+          breaking = breaks' ∙ (λ i. breaks true (sym kind i) l reads (is i));
           naming = rw on (name' ∙ ap (λ (x : Kind). nameOfTarget G x (l .target)) (sym kind));
           giving = λ _. is;
         }
@@ -41,16 +42,9 @@ module _ (G : ℕ) (l : Line) (reads : Reads) (e : Effect) where
     out-goes lock = rw off
     out-goes unlock = refl
 
-    out-sound : (κ : Kind) → false ≡ breaks κ l reads (valueBy κ l reads)
-    unfolding breaks valueBy guardedOutValue
-    out-sound compute = refl
-    out-sound store = refl
-    out-sound load = refl
-    out-sound input = refl
-    out-sound assert = rw off
-    out-sound assume = refl
-    out-sound lock = refl
-    out-sound unlock = refl
+    out-sound : (κ : Kind) → false ≡ breaks true κ l reads (valueBy κ l reads)
+    unfolding valueBy
+    out-sound κ = rw off (sym (out-breaks-nothing true κ l reads off))
 
     out-does : e .strays ≡ strayInput (l .kind) l reads → Effective G l reads e
     out-does strays' = record {

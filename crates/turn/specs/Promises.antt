@@ -6,7 +6,7 @@ use mathlib.Core.Bool.{Bool, true, cond}
 use mathlib.Core.List.{List}
 use lib.Dec.{eqb}
 use lib.ListN.{length, drop}
-use Rattle.model.specs.CaseFile.{Line, records, caseOf}
+use Rattle.model.specs.CaseFile.{Line, records, threadCount, caseOf}
 use Rattle.model.specs.Line.{Reads, noName, targetName, guardTrue, valueOf, stops, breaks, strayInput}
 use Rattle.model.specs.Machine.{Memory, BlockEnd, strayed, stopped, passed, runBlock}
 use Rattle.laws.specs.Accepted.{Accepted}
@@ -16,9 +16,10 @@ use Rattle.turn.specs.declared.Stand.the-variants.{Running, Strayed, Sto
 use Rattle.turn.specs.declared.Turn.{Turn}
 use Rattle.turn.specs.TurnState.{itemsOf, memoryOf, linesLeft, givenBy}
 
--- The case is accepted, each of its records is given a value, and the turn is at one of them or at its thread's end.
-pub record Ready (bytes givens : List ℕ) (turn : Turn) : Type 0 where
+-- The case is accepted, each of its records is given a value, and the turn of its thread t is at one of them or at the thread's end.
+pub record Ready (bytes givens : List ℕ) (t : ℕ) (turn : Turn) : Type 0 where
   pub accepted : Accepted bytes
+  pub thread : t < threadCount bytes
   pub all-given : records bytes < length givens
   pub within : turn .next ≤ records bytes
 
@@ -41,7 +42,7 @@ continued (passed m note) next = next m note
 pub record Effective (G : ℕ) (l : Line) (reads : Reads) (e : Effect) : Type 0 where
   pub straying : e .strays ≡ strayInput (l .kind) l reads
   pub stopping : e .stops ≡ stops (l .kind) l reads
-  pub breaking : e .breaks ≡ breaks (l .kind) l reads (valueOf l reads)
+  pub breaking : e .breaks ≡ breaks true (l .kind) l reads (valueOf l reads)
   pub naming : e .name ≡ cond (guardTrue l reads) (targetName G l) noName
   pub giving : guardTrue l reads ≡ true → e .value ≡ valueOf l reads
 

@@ -5,7 +5,7 @@ ghost use mathlib.Core.Bool.{true, false};
 ghost use Prim.Native.Nat.{ℕ};
 ghost use mathlib.Core.List.{List};
 ghost use Rattle.case_file.specs.Records.{asLine};
-ghost use Rattle.line.specs.CaseCounts.{Few};
+ghost use Rattle.line.specs.CaseCounts.{OfCase};
 ghost use Rattle.line.specs.LineReads.{readsBy};
 ghost use Rattle.line.specs.declared.Counts.{Counts};
 ghost use Rattle.turn.specs.TurnState.{isRunning};
@@ -23,8 +23,8 @@ pub enum Stand {
     Stopped(u16),
 }
 
-// The thread's next record, 0 at its end, and its locals; the items, how the run stands, and the record of the first zero
-// assert, 0 while there is none.
+// The thread's next record, 0 at its end, and its locals; the items, how the run stands, and the record of the first line that
+// violates, 0 while there is none.
 pub struct Turn {
     pub next: usize,
     pub locals: [u16; LOCALS],
@@ -33,8 +33,8 @@ pub struct Turn {
     pub note: u16,
 }
 
-// What a line does: whether it strays, whether it ends the run, whether it breaks an assertion, the name that it writes, and the
-// value that it writes there.
+// What a line does: whether it strays, whether it ends the run, whether it violates, the name that it writes, and the value that
+// it writes there.
 pub struct Effect {
     pub strays: bool,
     pub stops: bool,
@@ -56,6 +56,19 @@ fn put(name: usize, value: u16) -> Effect
     }
 }
 
+// A mutex is freed, by a stranger or by its holder.
+fn free(mutex: usize, stranger: bool) -> Effect
+    ensures { λ r. ⌜ r ≡ record { strays = false; stops = false; breaks = stranger; name = mutex; value = 0 } ⌝ }
+{
+    Effect {
+        strays: false,
+        stops: false,
+        breaks: stranger,
+        name: mutex,
+        value: 0,
+    }
+}
+
 // What a line with a true guard does, by its kind: compute, store, load, input, assert, assume, lock, unlock.
 fn effect_in<'a>(
     locals: &'a [u16; LOCALS],
@@ -64,7 +77,7 @@ fn effect_in<'a>(
     l: Record,
     given: u16,
 ) -> Effect
-    requires { ⌜ Few counts ⌝ }
+    requires { ⌜ OfCase counts l ⌝ }
     ensures { λ r. ⌜ ((k : ℕ) → Does true (counts .globals) (asLine l k) (readsBy counts given (now (locals .entry)) (now (items .entry)) (asLine l k)) r) ⌝ }
 {
     let kind = l.kind;
@@ -82,7 +95,7 @@ fn effect_in<'a>(
             Effect {
                 strays: false,
                 stops: false,
-                breaks: line::breaks(locals, items, counts, l, value),
+                breaks: line::breaks(items, counts, l, value),
                 name: NAMES,
                 value,
             }
@@ -102,9 +115,12 @@ fn effect_in<'a>(
             stops: line::item_at(items, counts.items, counts.globals + target) != 0,
             breaks: false,
             name: LOCALS + (counts.globals + target),
-            value: 1,
+            value: line::holder(l),
         },
-        _ => put(LOCALS + (counts.globals + target), 0),
+        _ => {
+            let stranger = line::breaks(items, counts, l, 0);
+            free(LOCALS + (counts.globals + target), stranger)
+        }
     }
 }
 
@@ -133,7 +149,7 @@ fn effect_of<'a>(
     l: Record,
     given: u16,
 ) -> Effect
-    requires { ⌜ Few counts ⌝ }
+    requires { ⌜ OfCase counts l ⌝ }
     ensures { λ r. ⌜ ((k : ℕ) → Effective (counts .globals) (asLine l k) (readsBy counts given (now (locals .entry)) (now (items .entry)) (asLine l k)) r) ⌝ }
 {
     if line::guarded(locals, l) {
@@ -169,7 +185,7 @@ impl Turn {
         }
     }
 
-    // The step is over: the thread goes on to its next record, and line k is noted if it is the first that breaks an assertion.
+    // The step is over: the thread goes on to its next record, and line k is noted if it is the first that violates.
     fn step(mut self, next: usize, k: u16, breaks: bool) -> Turn
         ensures { λ r. ⌜ r ≡ goneOn self next k breaks ⌝ }
     {
@@ -181,7 +197,7 @@ impl Turn {
     // A block of thread t: so many steps, or fewer where the thread or the run ends. What a line writes goes to the turn's own
     // locals and items, which are lent for it.
     pub fn block(mut self, t: u16, case: &[u8], given: &[u16], steps: u16) -> Turn
-        requires { ⌜ Ready (now case) (now given) self ⌝ }
+        requires { ⌜ Ready (now case) (now given) t self ⌝ }
         ensures { λ r. ⌜ BlockRan (now (case .entry)) (now (given .entry)) t steps self r ⌝ }
     {
         let stand = self.stand;

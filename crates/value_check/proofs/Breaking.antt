@@ -1,4 +1,4 @@
--- A line is found that breaks an assertion just when some line does: constraint 7.
+-- A line is found that violates just when some line does: constraint 7.
 -- Assumes nothing. Met again where the checker asks the 7.
 use mathlib.Core.Path.{_≡_, refl, ap, _∙_}
 use Prim.Native.Nat.{ℕ, _<_}
@@ -8,11 +8,9 @@ use native.Mathlib.Omega.{arith}
 use borrow.Author.Tests.{ne-eqb}
 use Rattle.model.specs.Word.{nonzero}
 use Rattle.model.specs.CaseFile.{Line, Case, caseOf}
-use Rattle.model.specs.Line.{breaks}
 use Rattle.model.specs.Machine.{noted}
 use Rattle.model.specs.Assignment.{Assignment, assignmentOf}
-use Rattle.model.specs.Copies.{readsAfter}
-use Rattle.model.specs.Holds.{someBreaks, someThreadBreaks}
+use Rattle.model.specs.Holds.{breaksAfter, someBreaks, someThreadBreaks}
 use Rattle.laws.specs.Accepted.{Accepted}
 use Rattle.laws.specs.Order.{AllLines, AllThreads, Positive}
 use Rattle.laws.proofs.Views.{EqView, same, diff, eq-view}
@@ -42,7 +40,7 @@ module _ (case : Case) (α : Assignment) where
   unfolding breakingAfter someBreaks
   breaking-after note earlier [] positive = or-false (nonzero note)
   breaking-after note earlier (l ∷ ls) positive =
-      let b = breaks (l .kind) l (readsAfter case α earlier l) (α .value (l .number)) in
+      let b = breaksAfter case α earlier l in
       breaking-after (noted note l b) (l ∷ earlier) ls (positive .1)
       ∙ ap (λ (p : Bool). p || someBreaks case α (l ∷ earlier) ls) (noted-or note l b (positive .0))
       ∙ or-assoc (nonzero note) b (someBreaks case α (l ∷ earlier) ls)

@@ -10,10 +10,10 @@ use lib.Dec.{eqb}
 use lib.ListN.{length, take, replicate}
 use Rattle.model.specs.Limits.{localCount, mostConstraints}
 use Rattle.model.specs.CaseFile.{kindOf, Line, Case, records, firstRecord, nextRecord, lineOf, caseOf, linesOf, itemCount, lineAt}
-use Rattle.model.specs.Line.{breaks}
 use Rattle.model.specs.Machine.{putLocal, putItem}
 use Rattle.model.specs.Assignment.{Assignment, assignmentOf, wasRun}
 use Rattle.model.specs.Copies.{readsAfter}
+use Rattle.model.specs.Holds.{breaksAfter}
 use Rattle.model.specs.Table.{Row, valueRow, demandRows, valueRows}
 use Rattle.laws.specs.Accepted.{Accepted, linesFrom, threadLines}
 use Rattle.laws.specs.Order.{AllLines, Ordered}
@@ -178,7 +178,7 @@ module _ {bytes xs : List ℕ} {t start : ℕ} {held₀ previous₀ : List ℕ} 
             -- The next record, with everything that is kept.
             module _ (none : f ≡ 0) (broken' : ℕ) (eb : broken' ≡ cond (eqb broken 0) (cond (r .breaks) k 0) broken)
                 (n : ℕ) (en : n ≡ valueRowCount (kindOf (l .kind))) where
-              breaks-are : r .breaks ≡ breaks (line .kind) line (readsAfter case α (v .earlier) line) (α .value (line .number))
+              breaks-are : r .breaks ≡ breaksAfter case α (v .earlier) line
               breaks-are = asks .breaking (sym own-value ∙ value-asked at r value (v .seeks .some) (sym ef ∙ none))
 
               breaking-rest : breakingAfter case α broken' (line ∷ v .earlier) rest ≡ breakingAfter case α was [] (threadLines bytes t)

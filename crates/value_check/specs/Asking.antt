@@ -14,12 +14,12 @@ use Rattle.line.specs.LineReads.{readsBy}
 use Rattle.line.specs.declared.Counts.{Counts}
 use Rattle.value_check.specs.declared.Asked.{Asked}
 
--- What a line is asked that was run or not, with these reads and this value, in a case with G globals. Whether it breaks an assertion
--- is known where it has the value that its 4 asks for.
+-- What a line is asked that was run or not, with these reads and this value, in a case with G globals. Whether it violates is known
+-- where it has the value that its 4 asks for.
 pub record Asks (run : Bool) (G : ℕ) (l : Line) (reads : Reads) (value : ℕ) (r : Asked) : Type 0 where
   pub asking : r .value ≡ cond run (valueOf l reads) (unrunValue (l .kind))
   pub meeting : r .met ≡ (not run || demandMet (l .kind) l reads value)
-  pub breaking : value ≡ r .value → r .breaks ≡ breaks (l .kind) l reads value
+  pub breaking : value ≡ r .value → r .breaks ≡ breaks run (l .kind) l reads value
   pub naming : r .name ≡ targetName G l
 
 -- What a record is asked, whatever its number is: one that was run, where its guard is so; one that was not, whatever it would read;

@@ -1,5 +1,5 @@
 -- What a walk over 4s and 5s requires, and what it leaves behind: the items of the block that a thread is in, the copies, the line
--- that breaks an assertion.
+-- that violates.
 -- Assumes nothing.
 use mathlib.Core.Path.{_≡_}
 use mathlib.Core.Logic.{_≢_}

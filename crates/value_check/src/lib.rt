@@ -4,7 +4,7 @@ ghost use mathlib.Core.Path.{_≡_};
 ghost use mathlib.Core.Bool.{true, false};
 ghost use Prim.Native.Nat.{_<_};
 ghost use Rattle.model.specs.Limits.{mostConstraints, recordPlaces};
-ghost use Rattle.line.specs.CaseCounts.{Few};
+ghost use Rattle.line.specs.CaseCounts.{Few, OfCase};
 ghost use Rattle.value_check.specs.Asking.{AskedWhere, AskedUnrun, AskedOf, failingAsked};
 ghost use Rattle.value_check.specs.Walked.{CopyNoted, AtLine, Entered, ThreadToAsk, ThreadAsked, AllToAsk, AllAsked};
 use assignment::block_of;
@@ -27,7 +27,7 @@ use model::RECORD_PLACES;
 use model::THREADS;
 
 // Among the constraints of a walk: the number of the first that fails, 0 if all hold; and then the number of the next constraint,
-// and the record of the first line that breaks an assertion, 0 if none does.
+// and the record of the first line that violates, 0 if none does.
 pub struct Walk {
     pub failed: u16,
     pub next: u16,
@@ -35,7 +35,7 @@ pub struct Walk {
 }
 
 // What the constraints of a line ask, where it has a value: the value that its 4 asks for, whether its 5 holds or it has none,
-// whether the line breaks an assertion, and the name of its target.
+// whether the line violates, and the name of its target.
 pub struct Asked {
     pub value: u16,
     pub met: bool,
@@ -48,7 +48,7 @@ const LEFT_OUT: u16 = 1;
 
 const ASSUMED: u16 = 1;
 
-// A 4 alone, of a line that breaks nothing.
+// A 4 alone, of a line that does not violate.
 fn four(value: u16, name: usize) -> Asked
     ensures { λ r. ⌜ r ≡ record { value = value; met = true; breaks = false; name = name } ⌝ }
 {
@@ -68,7 +68,7 @@ fn asked_in<'a>(
     l: Record,
     value: u16,
 ) -> Asked
-    requires { ⌜ Few counts ⌝ }
+    requires { ⌜ OfCase counts l ⌝ }
     ensures { λ r. ⌜ AskedWhere true counts (now (locals .entry)) (now (items .entry)) l value r ⌝ }
 {
     let kind = l.kind;
@@ -84,7 +84,7 @@ fn asked_in<'a>(
         5 => Asked {
             value: line::bit_of(line::expression_of(locals, l) != 0),
             met: true,
-            breaks: line::breaks(locals, items, counts, l, value),
+            breaks: line::breaks(items, counts, l, value),
             name: NAMES,
         },
         6 => Asked {
@@ -94,16 +94,21 @@ fn asked_in<'a>(
             name: NAMES,
         },
         7 => Asked {
-            value: 1,
+            value: line::holder(l),
             met: line::item_at(items, counts.items, counts.globals + target) == 0,
             breaks: false,
             name: LOCALS + (counts.globals + target),
         },
-        _ => four(0, LOCALS + (counts.globals + target)),
+        _ => Asked {
+            value: 0,
+            met: true,
+            breaks: line::breaks(items, counts, l, value),
+            name: LOCALS + (counts.globals + target),
+        },
     }
 }
 
-// A line with a false guard: its target keeps its value.
+// A line with a false guard: its target keeps its value, and it does not violate.
 fn asked_out<'a>(
     locals: &'a [u16; LOCALS],
     items: &'a [u16; ITEMS],
@@ -121,12 +126,7 @@ fn asked_out<'a>(
         2 => four(line::item_at(items, counts.items, target), LOCALS + target),
         3 => four(line::local_at(locals, l.target), line::local_name(l.target)),
         4 => four(line::local_at(locals, l.target), line::local_name(l.target)),
-        5 => Asked {
-            value: LEFT_OUT,
-            met: true,
-            breaks: line::breaks(locals, items, counts, l, value),
-            name: NAMES,
-        },
+        5 => four(LEFT_OUT, NAMES),
         6 => Asked {
             value: LEFT_OUT,
             met: value == ASSUMED,
@@ -146,7 +146,7 @@ fn asked_out<'a>(
     }
 }
 
-// A line that was not run: nothing is read at it.
+// A line that was not run: nothing is read at it, and it does not violate.
 fn asked_unrun(counts: Counts, l: Record) -> Asked
     requires { ⌜ Few counts ⌝ }
     ensures { λ r. ⌜ AskedUnrun counts l r ⌝ }
@@ -166,7 +166,7 @@ fn asked_of<'a>(
     value: u16,
     run: bool,
 ) -> Asked
-    requires { ⌜ Few counts ⌝ }
+    requires { ⌜ OfCase counts l ⌝ }
     ensures { λ r. ⌜ AskedOf run counts (now (locals .entry)) (now (items .entry)) l value r ⌝ }
 {
     if !run {

@@ -22,10 +22,10 @@ shared-slice-read-block : tie.Need-shared-slice-read-block
 shared-slice-read-block c = search needs
 
 block-requires : tie.Need-block-requires
-block-requires c κs = ready-turn _ _ _ _ _ _ _ (c .before .turn-of .ensures) (c .before .before .before .before .before .before .pre)
+block-requires c κs = ready-turn _ _ _ _ _ _ _ (c .before .turn-of .ensures) _ (c .before .before .thread-of .ensures) (c .before .before .before .before .before .before .pre)
 
 returns : tie.Need-returns
-returns c = moved-by _ _ _ _ _ _ _ (c .before .before .before .before .turn-of .ensures) _ _ (c .before .before .before .before .before .thread-of .ensures) (c .before .before .block .ensures)
+returns c = moved-by _ _ _ _ _ _ _ (c .before .before .before .before .turn-of .ensures) _ (c .before .before .before .before .before .thread-of .ensures) _ (c .before .before .block .ensures)
 
 pub block-of-spec : {M : Type 1} → statement M
 block-of-spec =

@@ -71,28 +71,34 @@ add-item-at c = search needs
 item-at-requires-2 : tie.Need-item-at-requires-2
 item-at-requires-2 c κs = search needs
 
-add-t27 : tie.Need-add-t27
-add-t27 c = search needs
-
 add-t28 : tie.Need-add-t28
 add-t28 c = search needs
 
-add-put-2 : tie.Need-add-put-2
-add-put-2 c = search needs
+add-t29 : tie.Need-add-t29
+add-t29 c = search needs
 
-add-put-3 : tie.Need-add-put-3
-add-put-3 c = search needs
+holder-requires : tie.Need-holder-requires
+holder-requires c κs = search needs
 
-put-requires-5 : tie.Need-put-requires-5
-put-requires-5 c κs = search needs
+breaks-requires-2 : tie.Need-breaks-requires-2
+breaks-requires-2 c κs = search needs
+
+add-free : tie.Need-add-free
+add-free c = search needs
+
+add-free-2 : tie.Need-add-free-2
+add-free-2 c = search needs
+
+free-requires : tie.Need-free-requires
+free-requires c κs = search needs
 
 returns : tie.Need-returns
 unfolding stops breaks guardedInValue nameOfTarget
-returns c = λ k on. rw (c .put .ensures) (in-does _ _ _ _ on compute (kind-1 _ (c .before .before .before .match .keys1)) refl refl refl (c .before .before .local-name .ensures) (c .before .expression-of .ensures _ _ _ _ _ (c .before .before .before .before .before .pre .items) (ap hasExpression (kind-1 _ (c .before .before .before .match .keys1)))))
+returns c = λ k on. rw (c .put .ensures) (in-does _ _ _ _ on compute (kind-1 _ (c .before .before .before .match .keys1)) refl refl refl (c .before .before .local-name .ensures) (c .before .expression-of .ensures _ _ _ _ _ (c .before .before .before .before .before .pre .few .items) (ap hasExpression (kind-1 _ (c .before .before .before .match .keys1)))))
 
 returns-2 : tie.Need-returns-2
 unfolding stops breaks guardedInValue nameOfTarget
-returns-2 c = λ k on. rw (c .put2 .ensures) (in-does _ _ _ _ on store (kind-2 _ (c .before .before .match .keys2)) refl refl refl refl (c .before .expression-of2 .ensures _ _ _ _ _ (c .before .before .before .before .pre .items) (ap hasExpression (kind-2 _ (c .before .before .match .keys2)))))
+returns-2 c = λ k on. rw (c .put2 .ensures) (in-does _ _ _ _ on store (kind-2 _ (c .before .before .match .keys2)) refl refl refl refl (c .before .expression-of2 .ensures _ _ _ _ _ (c .before .before .before .before .pre .few .items) (ap hasExpression (kind-2 _ (c .before .before .match .keys2)))))
 
 returns-3 : tie.Need-returns-3
 unfolding stops breaks guardedInValue nameOfTarget nameOfA
@@ -104,19 +110,28 @@ returns-4 c = λ k on. rw (c .put4 .ensures) (in-does _ _ _ _ on input (kind-4 _
 
 returns-5 : tie.Need-returns-5
 unfolding stops guardedInValue nameOfTarget
-returns-5 c = λ k on. in-does _ _ _ _ on assert (kind-5 _ (c .before .before .before .match .keys5)) refl refl (breaks-kind _ _ assert (kind-5 _ (c .before .before .before .match .keys5)) _ _ (c .breaks .ensures (c .before .before .before .before .before .args .given) k)) refl (c .before .bit-of .ensures ∙ ap (λ (x : ℕ). bit (nonzero x)) (c .before .before .expression-of3 .ensures _ _ _ _ _ (c .before .before .before .before .before .pre .items) (ap hasExpression (kind-5 _ (c .before .before .before .match .keys5)))))
+returns-5 c =
+    let start = c .before .before .before .before .before in
+    let kind = kind-5 _ (c .before .before .before .match .keys5) in
+    λ k on. in-does _ _ _ _ on assert kind refl refl (breaks-kind _ _ assert kind _ _ (c .breaks .ensures (start .args .given) k (start .args .locals .now) on)) refl (c .before .bit-of .ensures ∙ ap (λ (x : ℕ). bit (nonzero x)) (c .before .before .expression-of3 .ensures _ _ _ _ _ (start .pre .few .items) (ap hasExpression kind)))
 
 returns-6 : tie.Need-returns-6
 unfolding breaks guardedInValue nameOfTarget
-returns-6 c = λ k on. in-does _ _ _ _ on assume (kind-6 _ (c .before .before .match .keys6)) refl (stops-assume _ _ on _ (c .before .expression-of4 .ensures _ _ _ _ _ (c .before .before .before .before .pre .items) (ap hasExpression (kind-6 _ (c .before .before .match .keys6))))) refl refl (c .bit-of2 .ensures ∙ ap (λ (x : ℕ). bit (nonzero x)) (c .before .expression-of4 .ensures _ _ _ _ _ (c .before .before .before .before .pre .items) (ap hasExpression (kind-6 _ (c .before .before .match .keys6)))))
+returns-6 c = λ k on. in-does _ _ _ _ on assume (kind-6 _ (c .before .before .match .keys6)) refl (stops-assume _ _ on _ (c .before .expression-of4 .ensures _ _ _ _ _ (c .before .before .before .before .pre .few .items) (ap hasExpression (kind-6 _ (c .before .before .match .keys6))))) refl refl (c .bit-of2 .ensures ∙ ap (λ (x : ℕ). bit (nonzero x)) (c .before .expression-of4 .ensures _ _ _ _ _ (c .before .before .before .before .pre .few .items) (ap hasExpression (kind-6 _ (c .before .before .match .keys6)))))
 
 returns-7 : tie.Need-returns-7
 unfolding breaks guardedInValue nameOfTarget
-returns-7 c = λ k on. in-does _ _ _ _ on lock (kind-7 _ (c .before .before .before .match .keys7)) refl (stops-lock _ _ on _ (reads-target (c .before .before .before .before .before .args .locals .now) (c .before .before .before .before .before .args .items .now) (c .before .before .before .before .before .args .counts .globals) (c .before .before .before .before .before .args .counts .items) _ lock (kind-7 _ (c .before .before .before .match .keys7)) _ _ (c .before .item-at2 .ensures _))) refl refl refl
+returns-7 c =
+    let start = c .before .before .before .before .before .before in
+    let kind = kind-7 _ (c .before .before .before .before .match .keys7) in
+    λ k on. in-does _ _ _ _ on lock kind refl (stops-lock _ _ on _ (reads-target (start .args .locals .now) (start .args .items .now) (start .args .counts .globals) (start .args .counts .items) _ lock kind _ _ (c .before .before .item-at2 .ensures _))) refl refl (c .holder .ensures k)
 
 returns-8 : tie.Need-returns-8
-unfolding stops breaks guardedInValue nameOfTarget
-returns-8 c = λ k on. rw (c .put5 .ensures) (in-does _ _ _ _ on unlock (unlock-other _ (c .before .before .match .rest)) refl refl refl refl refl)
+unfolding stops guardedInValue nameOfTarget
+returns-8 c =
+    let start = c .before .before .before .before .before in
+    let kind = unlock-other _ (c .before .before .before .match .rest) in
+    λ k on. rw (c .free .ensures) (in-does _ _ _ _ on unlock kind refl refl (breaks-kind _ _ unlock kind _ _ (c .before .before .breaks2 .ensures (start .args .given) k (start .args .locals .now) on)) refl refl)
 
 pub effect-in-spec : {M : Type 1} → statement M
 effect-in-spec =
@@ -142,11 +157,13 @@ effect-in-spec =
     bit-of-requires-2
     add-item-at
     item-at-requires-2
-    add-t27
     add-t28
-    add-put-2
-    add-put-3
-    put-requires-5
+    add-t29
+    holder-requires
+    breaks-requires-2
+    add-free
+    add-free-2
+    free-requires
     returns
     returns-2
     returns-3

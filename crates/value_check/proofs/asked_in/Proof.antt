@@ -1,6 +1,5 @@
 -- `value_check::asked_in` meets its contract: an arm for each kind. Assumes nothing.
 use mathlib.Core.Path.{refl, _∙_, ap}
-use mathlib.Core.Bool.{true}
 use Prim.Native.Nat.{ℕ}
 use Rattle.model.specs.Word.{bit, nonzero}
 use Rattle.model.specs.CaseFile.{compute, store, load, input, assert, assume, lock, unlock}
@@ -8,7 +7,7 @@ use Rattle.model.specs.Line.{nameOfA, hasExpression, nameOfTarget, guardedInVal
 use Rattle.model.specs.Holds.{demandMet}
 use Rattle.line.proofs.KindNumbers.{kind-1, kind-2, kind-3, kind-4, kind-5, kind-6, kind-7, unlock-other, breaks-kind}
 use Rattle.line.proofs.Expressions.{reads-a, reads-target}
-use Rattle.value_check.proofs.Asking.{asks-by, lock-in}
+use Rattle.value_check.proofs.Asking.{asks-in, lock-in}
 use borrow.Author.Needs.{needs}
 use Rattle.value_check.proofs.asked_in.Statement.{statement}
 use Rattle.value_check.proofs.asked_in.Tie as tie
@@ -67,76 +66,82 @@ expression-of-requires-4 c κs = search needs
 bit-of-requires-2 : tie.Need-bit-of-requires-2
 bit-of-requires-2 c κs = search needs
 
+holder-requires : tie.Need-holder-requires
+holder-requires c κs = search needs
+
 add-item-at : tie.Need-add-item-at
 add-item-at c = search needs
 
 item-at-requires-2 : tie.Need-item-at-requires-2
 item-at-requires-2 c κs = search needs
 
-add-t28 : tie.Need-add-t28
-add-t28 c = search needs
-
 add-t29 : tie.Need-add-t29
 add-t29 c = search needs
 
-add-four-2 : tie.Need-add-four-2
-add-four-2 c = search needs
+add-t30 : tie.Need-add-t30
+add-t30 c = search needs
 
-add-four-3 : tie.Need-add-four-3
-add-four-3 c = search needs
+breaks-requires-2 : tie.Need-breaks-requires-2
+breaks-requires-2 c κs = search needs
 
-four-requires-5 : tie.Need-four-requires-5
-four-requires-5 c κs = search needs
+add-t32 : tie.Need-add-t32
+add-t32 c = search needs
+
+add-t33 : tie.Need-add-t33
+add-t33 c = search needs
 
 returns : tie.Need-returns
 unfolding demandMet breaks guardedInValue nameOfTarget
 returns c =
     let start = c .before .before .before .before .before in
     let kind = kind-1 _ (c .before .before .before .match .keys1) in
-    λ k guard. rw (c .four .ensures) (asks-by _ _ _ _ _ true guard compute kind (c .before .before .expression-of .ensures _ _ _ _ _ (start .pre .items) (ap hasExpression kind)) refl refl (c .before .local-name .ensures))
+    λ k guard. rw (c .four .ensures) (asks-in _ _ _ _ _ compute kind guard (c .before .before .expression-of .ensures _ _ _ _ _ (start .pre .few .items) (ap hasExpression kind)) refl refl (c .before .local-name .ensures))
 
 returns-2 : tie.Need-returns-2
 unfolding demandMet breaks guardedInValue nameOfTarget
 returns-2 c =
     let start = c .before .before .before .before in
     let kind = kind-2 _ (c .before .before .match .keys2) in
-    λ k guard. rw (c .four2 .ensures) (asks-by _ _ _ _ _ true guard store kind (c .before .expression-of2 .ensures _ _ _ _ _ (start .pre .items) (ap hasExpression kind)) refl refl refl)
+    λ k guard. rw (c .four2 .ensures) (asks-in _ _ _ _ _ store kind guard (c .before .expression-of2 .ensures _ _ _ _ _ (start .pre .few .items) (ap hasExpression kind)) refl refl refl)
 
 returns-3 : tie.Need-returns-3
 unfolding demandMet breaks guardedInValue nameOfTarget nameOfA
 returns-3 c =
     let start = c .before .before .before .before .before .before in
     let kind = kind-3 _ (c .before .before .before .before .match .keys3) in
-    λ k guard. rw (c .four3 .ensures) (asks-by _ _ _ _ _ true guard load kind (reads-a (start .args .locals .now) (start .args .items .now) (start .args .counts .globals) (start .args .counts .items) _ load kind _ _ (c .before .before .item-at .ensures _)) refl refl (c .before .local-name2 .ensures))
+    λ k guard. rw (c .four3 .ensures) (asks-in _ _ _ _ _ load kind guard (reads-a (start .args .locals .now) (start .args .items .now) (start .args .counts .globals) (start .args .counts .items) _ load kind _ _ (c .before .before .item-at .ensures _)) refl refl (c .before .local-name2 .ensures))
 
 returns-4 : tie.Need-returns-4
 unfolding demandMet breaks guardedInValue nameOfTarget
-returns-4 c = λ k guard. rw (c .four4 .ensures) (asks-by _ _ _ _ _ true guard input (kind-4 _ (c .before .before .match .keys4)) refl refl refl (c .before .local-name3 .ensures))
+returns-4 c = λ k guard. rw (c .four4 .ensures) (asks-in _ _ _ _ _ input (kind-4 _ (c .before .before .match .keys4)) guard refl refl refl (c .before .local-name3 .ensures))
 
 returns-5 : tie.Need-returns-5
 unfolding demandMet guardedInValue nameOfTarget
 returns-5 c =
     let start = c .before .before .before .before .before in
     let kind = kind-5 _ (c .before .before .before .match .keys5) in
-    λ k guard. asks-by _ _ _ _ _ true guard assert kind (c .before .bit-of .ensures ∙ ap (λ (x : ℕ). bit (nonzero x)) (c .before .before .expression-of3 .ensures _ _ _ _ _ (start .pre .items) (ap hasExpression kind))) refl (breaks-kind _ _ assert kind _ _ (c .breaks .ensures (start .args .value) k)) refl
+    λ k guard. asks-in _ _ _ _ _ assert kind guard (c .before .bit-of .ensures ∙ ap (λ (x : ℕ). bit (nonzero x)) (c .before .before .expression-of3 .ensures _ _ _ _ _ (start .pre .few .items) (ap hasExpression kind))) refl (breaks-kind _ _ assert kind _ _ (c .breaks .ensures (start .args .value) k (start .args .locals .now) guard)) refl
 
 returns-6 : tie.Need-returns-6
 unfolding demandMet breaks guardedInValue nameOfTarget
 returns-6 c =
     let start = c .before .before .before .before in
     let kind = kind-6 _ (c .before .before .match .keys6) in
-    λ k guard. asks-by _ _ _ _ _ true guard assume kind (c .bit-of2 .ensures ∙ ap (λ (x : ℕ). bit (nonzero x)) (c .before .expression-of4 .ensures _ _ _ _ _ (start .pre .items) (ap hasExpression kind))) refl refl refl
+    λ k guard. asks-in _ _ _ _ _ assume kind guard (c .bit-of2 .ensures ∙ ap (λ (x : ℕ). bit (nonzero x)) (c .before .expression-of4 .ensures _ _ _ _ _ (start .pre .few .items) (ap hasExpression kind))) refl refl refl
 
 returns-7 : tie.Need-returns-7
 unfolding breaks guardedInValue nameOfTarget
 returns-7 c =
-    let start = c .before .before .before .before .before in
-    let kind = kind-7 _ (c .before .before .before .match .keys7) in
-    λ k guard. asks-by _ _ _ _ _ true guard lock kind refl (lock-in _ _ _ guard _ (reads-target (start .args .locals .now) (start .args .items .now) (start .args .counts .globals) (start .args .counts .items) _ lock kind _ _ (c .before .item-at2 .ensures _))) refl refl
+    let start = c .before .before .before .before .before .before in
+    let kind = kind-7 _ (c .before .before .before .before .match .keys7) in
+    λ k guard. asks-in _ _ _ _ _ lock kind guard (c .before .before .before .holder .ensures k) (lock-in _ _ _ guard _ (reads-target (start .args .locals .now) (start .args .items .now) (start .args .counts .globals) (start .args .counts .items) _ lock kind _ _ (c .before .item-at2 .ensures _))) refl refl
 
 returns-8 : tie.Need-returns-8
-unfolding demandMet breaks guardedInValue nameOfTarget
-returns-8 c = λ k guard. rw (c .four5 .ensures) (asks-by _ _ _ _ _ true guard unlock (unlock-other _ (c .before .before .match .rest)) refl refl refl refl)
+unfolding demandMet guardedInValue nameOfTarget
+returns-8 c =
+    let start = c .before .before .before .before in
+    let kind = unlock-other _ (c .before .before .match .rest) in
+    λ k guard. asks-in _ _ _ _ _ unlock kind guard refl refl (breaks-kind _ _ unlock kind _ _ (c .before .breaks2 .ensures (start .args .value) k (start .args .locals .now) guard)) refl
 
 pub asked-in-spec : {M : Type 1} → statement M
 asked-in-spec =
@@ -160,13 +165,14 @@ asked-in-spec =
     breaks-requires
     expression-of-requires-4
     bit-of-requires-2
+    holder-requires
     add-item-at
     item-at-requires-2
-    add-t28
     add-t29
-    add-four-2
-    add-four-3
-    four-requires-5
+    add-t30
+    breaks-requires-2
+    add-t32
+    add-t33
     returns
     returns-2
     returns-3

@@ -23,7 +23,7 @@ returns-2 : tie.Need-returns-2
 returns-2 c =
     let start = c .before .before .before .before in
     let run = not-false (start .args .run) (c .before .before .before .if1 .left) in
-    λ k reads same. rw (same run, run) (c .asked-in .ensures k (sym (c .before .before .guarded .ensures _ _ _ _ k (start .pre .items)) ∙ c .before .if2 .taken))
+    λ k reads same. rw (same run, run) (c .asked-in .ensures k (sym (c .before .before .guarded .ensures _ _ _ _ k (start .pre .few .items)) ∙ c .before .if2 .taken))
 
 asked-out-requires : tie.Need-asked-out-requires
 asked-out-requires c κs = search needs
@@ -32,7 +32,7 @@ returns-3 : tie.Need-returns-3
 returns-3 c =
     let start = c .before .before .before .before in
     let run = not-false (start .args .run) (c .before .before .before .if1 .left) in
-    λ k reads same. rw (same run, run) (c .asked-out .ensures k (sym (c .before .before .guarded .ensures _ _ _ _ k (start .pre .items)) ∙ c .before .if2 .left))
+    λ k reads same. rw (same run, run) (c .asked-out .ensures k (sym (c .before .before .guarded .ensures _ _ _ _ k (start .pre .few .items)) ∙ c .before .if2 .left))
 
 pub asked-of-spec : {M : Type 1} → statement M
 asked-of-spec =

@@ -5,6 +5,7 @@ use Rattle.model.specs.CaseFile.{kindOf}
 use Rattle.laws.specs.Accepted.{linesFrom}
 use Rattle.laws.proofs.Following.{next-low, lines-less}
 use Rattle.laws.proofs.Sizes.{value-count-at-most}
+use Rattle.line.proofs.CaseCounts.{of-case}
 use Rattle.value_check.proofs.ThreadWalk.{ThreadWalk, walk-start, walk-end, walk-notes, walk-room, walk-block, walk-room-after, walk-found, walk-more}
 use borrow.Author.Needs.{needs}
 use Rattle.value_check.proofs.thread_values.Statement.{statement}
@@ -52,7 +53,10 @@ enter-block-requires c κs =
     record { accepted = start .pre .accepted; upto = walk-block (start .pre) (line .before .loop .inv) (line .loop-test .taken) _ (c .before .before .block-of .ensures) }
 
 asked-of-requires : tie.Need-asked-of-requires Inv-loop μ-loop
-asked-of-requires c κs = search needs
+asked-of-requires c κs =
+    let read = c .before .before .before .before .before .before in
+    let start = read .before .before .before .before .before .before .before .before in
+    of-case (start .pre .accepted) (start .pre .thread) (read .before .before .before .before .before .counts-of .ensures) _ (read .record-at .ensures)
 
 line-failing-requires : tie.Need-line-failing-requires Inv-loop μ-loop
 line-failing-requires c κs =

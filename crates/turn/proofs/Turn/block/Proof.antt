@@ -1,6 +1,7 @@
 -- `turn::Turn::block` meets its contract. The invariant: the steps that are left decide. Assumes nothing.
 use mathlib.Core.Path.{refl, sym, _∙_}
 use borrow.Author.Tests.{not-true, not-false}
+use Rattle.line.proofs.CaseCounts.{of-case}
 use Rattle.turn.proofs.Steps.{step-strays, step-stops, step-goes}
 use Rattle.turn.proofs.Blocks.{Stepping, stepping-start, stepping-on, block-ends, thread-ends, line-ends, run-ended}
 use borrow.Author.Needs.{needs}
@@ -41,7 +42,10 @@ shared-slice-read-effect-of : tie.Need-shared-slice-read-effect-of Inv-loop μ-l
 shared-slice-read-effect-of c = search needs
 
 effect-of-requires : tie.Need-effect-of-requires Inv-loop μ-loop
-effect-of-requires c κs = search needs
+effect-of-requires c κs =
+    let read = c .before .before .before .before in
+    let start = read .before .before .before .before .before .before .before .before .before in
+    of-case (start .pre .accepted) (start .pre .thread) (read .before .before .before .before .counts-of .ensures) _ (read .record-at .ensures)
 
 ended-requires : tie.Need-ended-requires Inv-loop μ-loop
 ended-requires c κs = search needs
