@@ -95,12 +95,11 @@ fn put_line(
     requires { ⌜ l .thread < mostThreads ⌝ }
     ensures { λ r. ⌜ ((case : Case) → HasShape case shape → HasSources case sources → Spelt (formulaText (lineAssertion case (sourcesOf case) (asLine l k) (copies .guard) (copies .a) (copies .b) (copies .target))) (now (text .entry)) start (now (text .exit)) r) ⌝ }
 {
-    let guard = l.guard;
-    if guard == 0 {
+    if l.guard == 0 {
         return put_in(text, start, shape, sources, l, k, copies);
     }
     let mut at = put(text, start, b"(ite ");
-    at = put_guard(text, at, guard, copies.guard);
+    at = put_guard(text, at, l.guard, copies.guard);
     at = put(text, at, b" ");
     at = put_in(text, at, shape, sources, l, k, copies);
     at = put(text, at, b" ");
