@@ -18,7 +18,7 @@ use Rattle.laws.specs.RowValue.{valueAfter}
 use Rattle.laws.proofs.Views.{LtView, below, above, lt-view}
 use Rattle.laws.proofs.Copies.{readName-no-name}
 
-guard-same : (l : Line) (r r' : Reads) → r .guard ≡ r' .guard → guardTrue l r ≡ guardTrue l r'
+pub guard-same : (l : Line) (r r' : Reads) → r .guard ≡ r' .guard → guardTrue l r ≡ guardTrue l r'
 unfolding guardTrue
 guard-same l r r' e = ap (λ (x : ℕ). cond (eqb (l .guard) 0) true (cond (ltb (l .guard) 17) (nonzero x) (eqb x 0))) e
 

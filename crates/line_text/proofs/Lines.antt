@@ -5,10 +5,10 @@ use Prim.Native.Nat.{ℕ, _+_, _-_, _*_}
 use mathlib.Core.List.{List, _++_}
 use borrow.Author.Tests.{eq-eqb, ne-eqb}
 use Rattle.model.specs.CaseFile.{Kind, compute, store, load, input, assert, assume, lock, unlock, Line, Case, kindOf, lineAt}
-use Rattle.model.specs.Line.{operandA, targetName, unrunValue}
+use Rattle.model.specs.Line.{operandA, targetName, holder, unrunValue}
 use Rattle.smt.specs.Term.{Term, variable, constant}
 use Rattle.smt.specs.Spelling.{ascii, formulaText}
-use Rattle.script.specs.Assertions.{equal, operand, isExpression, isTruth, readName, guardTrue, guardedIn, guardedOut, oldTarget, valueOf, notRun, lineAssertion, valueAssertion, mutexFree, demandAssertion}
+use Rattle.script.specs.Assertions.{equal, operand, isExpression, isTruth, readName, guardTrue, guardedIn, guardedOut, oldTarget, valueOf, notRun, lineAssertion, valueAssertion, mutexReads, demandAssertion}
 use Rattle.line.proofs.KindNumbers.{KindView, is1, is2, is3, is4, is5, is6, is7, kind-view, Not2}
 use Rattle.spell.specs.Spelt.{Spelt}
 use Rattle.spell.proofs.Spelling.{spelt-then}
@@ -41,9 +41,9 @@ module _ (case : Case) (sources : List ℕ) (l : Line) (a b : ℕ) {kind : Kind}
   unfolding guardedIn formulaText
   in-input i put = spelt-as (rw i) put
 
-  pub in-lock : kind ≡ lock → Spelt (formulaText (equal (variable v) (constant 1))) d start e r → Spelt (formulaText (guardedIn kind case sources l a b)) d start e r
+  pub in-lock : kind ≡ lock → {x : ℕ} → x ≡ holder l → Spelt (formulaText (equal (variable v) (constant x))) d start e r → Spelt (formulaText (guardedIn kind case sources l a b)) d start e r
   unfolding guardedIn
-  in-lock i put = spelt-as (rw (i, z)) put
+  in-lock i h put = spelt-as (rw (i, z, h)) put
 
   pub in-unlock : kind ≡ unlock → Spelt (formulaText (equal (variable v) (constant 0))) d start e r → Spelt (formulaText (guardedIn kind case sources l a b)) d start e r
   unfolding guardedIn
@@ -109,28 +109,29 @@ module _ (case : Case) (sources : List ℕ) {l : Line} (k : ℕ) (found : l ≡ 
       → Spelt (formulaText (demandAssertion (lineAt case k .kind) case sources (lineAt case k) guard target)) d start e r
   demand-found guard target put = rw (← found) put
 
--- A lock's demand, and the demand of a line.
+-- What a line reads of its mutex.
+module _ (case : Case) (sources : List ℕ) (x : Term) (l : Line) (guard target : ℕ) {G name : ℕ} (g : G ≡ case .G) (y : name ≡ targetName G l) where
+  pub reads-plain : l .guard ≡ 0 → {d e : List ℕ} {start r : ℕ} → Spelt (formulaText (readName case sources x l name target)) d start e r
+      → Spelt (formulaText (mutexReads case sources x l guard target)) d start e r
+  unfolding mutexReads
+  reads-plain i put = spelt-as (rw (eq-eqb (l .guard) 0 i, y, g)) put
+
+  pub reads-guarded : l .guard ≢ 0 → {d e f h m n : List ℕ} {start i j p q r : ℕ} → Spelt (ascii "(=> ") d start e i → Spelt (formulaText (guardTrue l guard)) e i f j
+      → Spelt (ascii " ") f j h p → Spelt (formulaText (readName case sources x l name target)) h p m q → Spelt (ascii ")") m q n r
+      → Spelt (formulaText (mutexReads case sources x l guard target)) d start n r
+  unfolding mutexReads formulaText
+  reads-guarded k word asked blank here close =
+      spelt-as (rw (ne-eqb (l .guard) 0 k, y, g)) (spelt-then word (spelt-then asked (spelt-then blank (spelt-then here close))))
+
+-- The demand of a line.
 module _ (case : Case) (sources : List ℕ) (l : Line) (guard target : ℕ) where
-  module _ {G name : ℕ} (g : G ≡ case .G) (y : name ≡ targetName G l) where
-    pub free-plain : l .guard ≡ 0 → {d e : List ℕ} {start r : ℕ} → Spelt (formulaText (readName case sources (constant 0) l name target)) d start e r
-        → Spelt (formulaText (mutexFree case sources l guard target)) d start e r
-    unfolding mutexFree
-    free-plain i put = spelt-as (rw (eq-eqb (l .guard) 0 i, y, g)) put
-
-    pub free-guarded : l .guard ≢ 0 → {d e f h m n : List ℕ} {start i j p q r : ℕ} → Spelt (ascii "(=> ") d start e i → Spelt (formulaText (guardTrue l guard)) e i f j
-        → Spelt (ascii " ") f j h p → Spelt (formulaText (readName case sources (constant 0) l name target)) h p m q → Spelt (ascii ")") m q n r
-        → Spelt (formulaText (mutexFree case sources l guard target)) d start n r
-    unfolding mutexFree formulaText
-    free-guarded k word asked blank here close =
-        spelt-as (rw (ne-eqb (l .guard) 0 k, y, g)) (spelt-then word (spelt-then asked (spelt-then blank (spelt-then here close))))
-
   module _ {d e : List ℕ} {start r : ℕ} where
     pub demand-assume : {kind : Kind} → kind ≡ assume → {v : ℕ} → v ≡ 2 * (l .number - 1) + 1 → Spelt (formulaText (equal (variable v) (constant 1))) d start e r
         → Spelt (formulaText (demandAssertion kind case sources l guard target)) d start e r
     unfolding demandAssertion
     demand-assume i z put = spelt-as (rw (i, z)) put
 
-    pub demand-lock : {kind : Kind} → kind ≡ lock → Spelt (formulaText (mutexFree case sources l guard target)) d start e r → Spelt (formulaText (demandAssertion kind case sources l guard target)) d start e r
+    pub demand-lock : {kind : Kind} → kind ≡ lock → Spelt (formulaText (mutexReads case sources (constant 0) l guard target)) d start e r → Spelt (formulaText (demandAssertion kind case sources l guard target)) d start e r
     unfolding demandAssertion
     demand-lock i put = spelt-as (rw i) put
 

@@ -1,13 +1,14 @@
-// The assertions of a line as text: its value, and what an assume or a lock demands.
+// The assertions of a line as text: its value, what it reads of its mutex, and what an assume or a lock demands.
 ghost use mathlib.Core.Path.{_≡_};
-ghost use Prim.Native.Nat.{_≤_};
-ghost use Rattle.model.specs.Limits.{mostGlobals};
+ghost use Prim.Native.Nat.{_≤_, _<_};
+ghost use Rattle.model.specs.Limits.{mostThreads, mostGlobals};
 ghost use Rattle.model.specs.CaseFile.{Case, kindOf, lineAt};
 ghost use Rattle.smt.specs.Term.{disjunction, join};
 ghost use Rattle.smt.specs.Spelling.{formulaText};
-ghost use Rattle.script.specs.Assertions.{sourcesOf, guardedIn, guardedOut, notRun, lineAssertion, valueAssertion, mutexFree, demandAssertion};
+ghost use Rattle.script.specs.Assertions.{sourcesOf, guardedIn, guardedOut, notRun, lineAssertion, valueAssertion, mutexReads, demandAssertion};
 ghost use Rattle.case_file.specs.Records.{asLine};
 ghost use Rattle.spell.specs.Spelt.{Spelt};
+ghost use Rattle.spell.specs.Atoms.{atomTerm};
 ghost use Rattle.linked.specs.Shape.{HasShape, HasSources};
 use case_file::Record;
 use expressions::operand;
@@ -15,6 +16,7 @@ use expressions::put_guard;
 use expressions::put_is_expression;
 use expressions::put_is_truth;
 use line::Copies;
+use line::holder;
 use line::operand_a;
 use line::target_name;
 use line::unrun_value;
@@ -37,6 +39,7 @@ fn put_in(
     k: u16,
     copies: Copies,
 ) -> usize
+    requires { ⌜ l .thread < mostThreads ⌝ }
     ensures { λ r. ⌜ ((case : Case) → HasShape case shape → HasSources case sources → Spelt (formulaText (guardedIn (kindOf (l .kind)) case (sourcesOf case) (asLine l k) (copies .a) (copies .b))) (now (text .entry)) start (now (text .exit)) r) ⌝ }
 {
     let v = Atom::Variable(value_variable(k));
@@ -50,7 +53,7 @@ fn put_in(
         4 => put(text, start, b"true"),
         5 => put_is_truth(text, start, v, l.op, x, y, sources),
         6 => put_is_truth(text, start, v, l.op, x, y, sources),
-        7 => put_equal(text, start, v, Atom::Constant(1)),
+        7 => put_equal(text, start, v, Atom::Constant(holder(l))),
         _ => put_equal(text, start, v, Atom::Constant(0)),
     }
 }
@@ -89,6 +92,7 @@ fn put_line(
     copies: Copies,
 ) -> usize
     requires { ⌜ shape .globals ≤ mostGlobals ⌝ }
+    requires { ⌜ l .thread < mostThreads ⌝ }
     ensures { λ r. ⌜ ((case : Case) → HasShape case shape → HasSources case sources → Spelt (formulaText (lineAssertion case (sourcesOf case) (asLine l k) (copies .guard) (copies .a) (copies .b) (copies .target))) (now (text .entry)) start (now (text .exit)) r) ⌝ }
 {
     let guard = l.guard;
@@ -115,6 +119,7 @@ pub fn put_four(
     copies: Copies,
 ) -> usize
     requires { ⌜ shape .globals ≤ mostGlobals ⌝ }
+    requires { ⌜ l .thread < mostThreads ⌝ }
     ensures { λ r. ⌜ ((case : Case) → HasShape case shape → HasSources case sources → asLine l k ≡ lineAt case k → Spelt (formulaText (valueAssertion case (sourcesOf case) k (copies .guard) (copies .a) (copies .b) (copies .target))) (now (text .entry)) start (now (text .exit)) r) ⌝ }
 {
     let v = Atom::Variable(value_variable(k));
@@ -128,30 +133,30 @@ pub fn put_four(
     put(text, at, b")")
 }
 
-// The mutex of a lock is free where its guard is true.
-fn put_free(
+// Where its guard is true, line k reads x of its mutex.
+pub fn put_reads(
     text: &mut [u8],
     start: usize,
     shape: Shape,
     sources: Sources,
+    x: Atom,
     l: Record,
     k: u16,
     asked: u16,
     target: u16,
 ) -> usize
     requires { ⌜ shape .globals ≤ mostGlobals ⌝ }
-    ensures { λ r. ⌜ ((case : Case) → HasShape case shape → HasSources case sources → Spelt (formulaText (mutexFree case (sourcesOf case) (asLine l k) asked target)) (now (text .entry)) start (now (text .exit)) r) ⌝ }
+    ensures { λ r. ⌜ ((case : Case) → HasShape case shape → HasSources case sources → Spelt (formulaText (mutexReads case (sourcesOf case) (atomTerm x) (asLine l k) asked target)) (now (text .entry)) start (now (text .exit)) r) ⌝ }
 {
     let name = target_name(shape.globals as usize, l);
-    let zero = Atom::Constant(0);
     let guard = l.guard;
     if guard == 0 {
-        return put_name(text, start, shape, sources, zero, l, k, name, target);
+        return put_name(text, start, shape, sources, x, l, k, name, target);
     }
     let mut at = put(text, start, b"(=> ");
     at = put_guard(text, at, guard, asked);
     at = put(text, at, b" ");
-    at = put_name(text, at, shape, sources, zero, l, k, name, target);
+    at = put_name(text, at, shape, sources, x, l, k, name, target);
     put(text, at, b")")
 }
 
@@ -177,7 +182,10 @@ fn put_demand(
             Atom::Variable(value_variable(k)),
             Atom::Constant(1),
         ),
-        7 => put_free(text, start, shape, sources, l, k, guard, target),
+        7 => {
+            let free = Atom::Constant(0);
+            put_reads(text, start, shape, sources, free, l, k, guard, target)
+        }
         _ => put(text, start, b"true"),
     }
 }

@@ -1,3 +1,4 @@
 pub mod RecordLines
 pub mod Noted
 pub mod RowLines
+pub mod TableRows

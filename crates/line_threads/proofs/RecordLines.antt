@@ -1,9 +1,11 @@
 -- The lines of an accepted case are its records, each as a line of its thread.
--- Assumes nothing. Met again in Noted and RowLines, and where the text of a row reads its line's record.
+-- Assumes nothing. Met again in Noted and RowLines, in `line_of`, and where the text of a line needs its thread.
 use mathlib.Core.Path.{_≡_, refl, sym, ap, _∙_}
 use Prim.Native.Nat.{ℕ, _≤_, _<_}
 use mathlib.Core.List.{List, [], _∷_}
 use native.Mathlib.Omega.{arith}
+use lib.ListN.{getD}
+use Rattle.model.specs.Limits.{mostThreads}
 use Rattle.model.specs.CaseFile.{Line, records, lineOf, caseOf, linesOf, sumOfLines, hasNumber, lineAt}
 use Rattle.laws.specs.Accepted.{Accepted}
 use Rattle.laws.specs.Order.{AllLines}
@@ -11,9 +13,12 @@ use Rattle.laws.specs.RecordNumber.{RecordNumber}
 use Rattle.laws.proofs.Views.{EqView, same, diff, eq-view}
 use Rattle.laws.proofs.Counting.{some-thread-has}
 use Rattle.laws.proofs.AllLines.{all-lines-map}
+use Rattle.laws.proofs.Chains.{thread-count}
 use Rattle.laws.proofs.Lines.{numbers-once, thread-lines-by}
 use Rattle.laws.proofs.LineFound.{line-found}
 use Rattle.case_file.specs.Records.{recordOf, asLine}
+use Rattle.case_file.specs.declared.Record.{Record}
+use Rattle.line_threads.specs.Threads.{LineThere}
 
 module _ {bytes : List ℕ} (ok : Accepted bytes) where
   -- What holds of each record as a line of thread t, each line of thread t has.
@@ -47,10 +52,33 @@ module _ {bytes : List ℕ} (ok : Accepted bytes) where
       go (same e q) rest = rw (← e) (found .0)
       go (diff e q) rest = rest (omega (arith, rw q at some))
 
-  -- A record with the thread of its line is its line.
-  pub record-is-line : (k : ℕ) → 0 < k → k ≤ records bytes
-      → asLine (recordOf bytes (lineAt (caseOf bytes) k .thread) k) k ≡ lineAt (caseOf bytes) k
-  record-is-line k low high =
+  -- A line is the record of its number in one of the threads.
+  record InThread (k : ℕ) : Type 0 where
+    thread : ℕ
+    few : thread < mostThreads
+    is : lineAt (caseOf bytes) k ≡ lineOf bytes thread k
+
+  in-thread : (k : ℕ) → 0 < k → k ≤ records bytes → InThread k
+  in-thread k low high =
       let has = some-thread-has (hasNumber k) (caseOf bytes .threads) (omega (arith, ok .reached-once k low high)) in
-      let e = found-record (has .thread) k (linesOf (caseOf bytes) (has .thread)) (found-lines (has .thread)) (has .some) in
-      ap (λ (l : Line). lineOf bytes (l .thread) k) e ∙ sym e
+      record {
+        thread = has .thread;
+        few = omega (arith, has .among, thread-count bytes, ok .few-threads);
+        is = found-record (has .thread) k (linesOf (caseOf bytes) (has .thread)) (found-lines (has .thread)) (has .some);
+      }
+
+  -- A record with the thread of its line is its line.
+  record-is-line : (k : ℕ) → 0 < k → k ≤ records bytes → asLine (recordOf bytes (lineAt (caseOf bytes) k .thread) k) k ≡ lineAt (caseOf bytes) k
+  record-is-line k low high = let e = in-thread k low high .is in ap (λ (l : Line). lineOf bytes (l .thread) k) e ∙ sym e
+
+module _ {bytes threads : List ℕ} {k : ℕ} (h : LineThere bytes threads k) where
+  pub line-there : {t : ℕ} {l : Record} → t ≡ getD threads k 0 → l ≡ recordOf bytes t k → asLine l k ≡ lineAt (caseOf bytes) k
+  line-there et el =
+      rw (el, et, h .lines k (h .number .some) (h .number .low))
+      (record-is-line (h .accepted) k (h .number .some) (h .number .low))
+
+  -- There are at most so many threads.
+  pub thread-low : (l : Record) → asLine l k ≡ lineAt (caseOf bytes) k → l .thread < mostThreads
+  thread-low l e =
+      let has = in-thread (h .accepted) k (h .number .some) (h .number .low) in
+      omega (arith, ap (λ (m : Line). m .thread) (e ∙ has .is), has .few)

@@ -1,4 +1,5 @@
--- The text of case A is the one that docs/SMT-TEXT.md shows, to the byte, and so are the two assertions with links that it shows.
+-- The text of case A is the one that docs/SMT-TEXT.md shows, to the byte, and so are the two assertions with links that it shows, and the
+-- two about holders.
 -- Assumes nothing. No proof uses them: they hold the definitions of the text beside its document.
 use mathlib.Core.Path.{_≡_, refl}
 use Prim.Native.Nat.{ℕ}
@@ -9,7 +10,7 @@ use Rattle.model.specs.Line.{unrunValue}
 use Rattle.model.specs.Accept.{verdict}
 use Rattle.model.specs.declared.Verdict.the-variants.{Accepted}
 use Rattle.smt.specs.Spelling.{fourHex, termText, formulaText, declaration, declarations, assertion, assertionLines, scriptText}
-use Rattle.script.specs.Assertions.{valueBefore, localWith, sourcesFrom, sourcesOf, linked, same, blocksFrom, readBefore, readItem, readName, guardTrue, operand, comparison, operation, expression, factsWith, facts, withFacts, isExpression, isTruth, guardedIn, guardedOut, lineAssertion, valueAssertion, mutexFree, demandAssertion, walkBack, orBreaks, someBreaks, someThreadBreaks, assertionOf, assertionsOf, scriptOf}
+use Rattle.script.specs.Assertions.{valueBefore, localWith, sourcesFrom, sourcesOf, linked, same, blocksFrom, readBefore, readItem, readName, guardTrue, operand, comparison, operation, expression, factsWith, facts, withFacts, isExpression, isTruth, guardedIn, guardedOut, lineAssertion, valueAssertion, mutexReads, demandAssertion, walkBack, unlocksAsStranger, orBreaks, someBreaks, someThreadBreaks, assertionOf, assertionsOf, scriptOf}
 use Rattle.script.specs.Text.{smtText}
 use Rattle.correspondence.proofs.Computing.{computing}
 use Rattle.correspondence.proofs.CaseA.{bytesOf, caseA, codesOf, linesOfText}
@@ -20,8 +21,8 @@ unfoldable spelling : Type 0
 unfolding computing unrunValue
     fourHex termText formulaText declaration declarations assertion assertionLines scriptText
     valueBefore localWith sourcesFrom sourcesOf linked same blocksFrom readBefore readItem readName guardTrue operand comparison operation expression
-    factsWith facts withFacts isExpression isTruth guardedIn guardedOut lineAssertion valueAssertion mutexFree demandAssertion walkBack
-    orBreaks someBreaks someThreadBreaks assertionOf assertionsOf scriptOf
+    factsWith facts withFacts isExpression isTruth guardedIn guardedOut lineAssertion valueAssertion mutexReads demandAssertion walkBack
+    unlocksAsStranger orBreaks someBreaks someThreadBreaks assertionOf assertionsOf scriptOf
     smtText
 spelling = Unit
 
@@ -81,3 +82,26 @@ pub linked-lines : assertionLines (take 2 (drop 7 (scriptOf (caseOf linkedCase) 
     ∷ [])
 unfolding spelling linkedCase codesOf linesOfText
 linked-lines = refl
+
+-- "With a lock and an unlock of mutex 0 in thread 0, records 1 and 2, and in thread 1 local 0 set by record 3, an unlock of mutex 0 where
+-- it is not zero, record 4, and a lock of it, record 5", T 2, n 1: constraints 16 and 19.
+unfoldable pub heldCase : List ℕ
+unfolding file header rec bytesOf
+heldCase = file (header 2 1 0 1 1 3 0 0)
+    (rec 2 7 0 0 0 0 0 0 (rec 0 8 0 0 0 0 0 0 (rec 4 1 0 0 0 16 0 1 (rec 5 8 1 0 0 0 0 0 (rec 0 7 0 0 0 0 0 0 [])))))
+
+pub held-case-accepted : verdict heldCase ≡ Accepted
+unfolding computing heldCase
+held-case-accepted = refl
+
+pub held-line : assertionLines (take 1 (drop 15 (scriptOf (caseOf heldCase) .assertions))) ≡ linesOfText (
+    "(assert (ite (= v8 #x0002) (= v9 #x0000) (= v9 #x0002)))"
+    ∷ [])
+unfolding spelling heldCase codesOf linesOfText
+held-line = refl
+
+pub held-goal : assertionLines (drop 18 (scriptOf (caseOf heldCase) .assertions)) ≡ linesOfText (
+    "(assert (or (not (or (= v2 #x0002) (ite (= v0 v2) (= #x0001 v1) (ite (= v2 #x0000) (= #x0001 #x0000) true)))) (or (not (or (= v6 #x0002) (=> (not (= v5 #x0000)) (ite (= v6 #x0001) (= #x0002 v10) true)))) false)))"
+    ∷ [])
+unfolding spelling heldCase codesOf linesOfText
+held-goal = refl

@@ -14,7 +14,7 @@ use Rattle.model.specs.Assignment.{Assignment, assignmentOf}
 use Rattle.model.specs.Holds.{readsWith, demandMet}
 use Rattle.smt.specs.Term.{constant, value, meets, tested, joined}
 use Rattle.smt.specs.Script.{environment}
-use Rattle.script.specs.Assertions.{guardedIn, guardedOut, lineAssertion, mutexFree, demandAssertion}
+use Rattle.script.specs.Assertions.{guardedIn, guardedOut, lineAssertion, mutexReads, demandAssertion}
 use Rattle.script.specs.Assertions
 use Rattle.laws.proofs.Views.{EqView, same, diff, eq-view}
 use Rattle.script_truth.proofs.Fields.{Fields}
@@ -110,18 +110,17 @@ module _ (case : Case) (xs sources : List ℕ) (l : Line) (fields : Fields l)
     abbrev demandReads : Reads
     demandReads = readsWith case α l guard 0 0 target
 
-    mutex-free : meets (mutexFree case sources l guard target) env ≡ not (guardTrue l demandReads && nonzero (demandReads .target))
-    unfolding mutexFree meets value joined
-    mutex-free = go (eq-view (l .guard) 0)
+    pub mutex-value : (n : ℕ) → meets (mutexReads case sources (constant n) l guard target) env ≡ (not (guardTrue l demandReads) || eqb n (demandReads .target))
+    unfolding mutexReads meets value joined
+    mutex-value n = go (eq-view (l .guard) 0)
       where
-        free : meets (Assertions.readName case sources (constant 0) l (targetName (case .G) l) target) env ≡ eqb 0 (demandReads .target)
-        free = name-is-read case xs sources (constant 0) l own (targetName (case .G) l) target
+        read : meets (Assertions.readName case sources (constant n) l (targetName (case .G) l) target) env ≡ eqb n (demandReads .target)
+        read = name-is-read case xs sources (constant n) l own (targetName (case .G) l) target
 
-        go : EqView (l .guard) 0 → meets (mutexFree case sources l guard target) env ≡ not (guardTrue l demandReads && nonzero (demandReads .target))
-        go (same e q) = rw (q, guard-always l demandReads e) (free ∙ not-nonzero (demandReads .target))
-        go (diff some q) =
-            rw (q, guard-value case xs l guard demandReads fields some refl, free)
-            (lock-reads-zero (guardTrue l demandReads) (demandReads .target))
+        go : EqView (l .guard) 0
+            → meets (mutexReads case sources (constant n) l guard target) env ≡ (not (guardTrue l demandReads) || eqb n (demandReads .target))
+        go (same e q) = rw (q, guard-always l demandReads e) read
+        go (diff some q) = rw (q, guard-value case xs l guard demandReads fields some refl, read)
 
     pub demand-value : (kind : Kind)
         → meets (demandAssertion kind case sources l guard target) env ≡ demandMet kind l demandReads (α .value (l .number))
@@ -132,5 +131,5 @@ module _ (case : Case) (xs sources : List ℕ) (l : Line) (fields : Fields l)
     demand-value input = refl
     demand-value assert = refl
     demand-value assume = refl
-    demand-value lock = mutex-free
+    demand-value lock = mutex-value 0 ∙ lock-reads-zero (guardTrue l demandReads) (demandReads .target)
     demand-value unlock = refl

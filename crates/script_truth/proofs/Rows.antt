@@ -1,30 +1,32 @@
 -- The assertions of the rows, kind by kind: that of a 4 or a 5 is true exactly if the row holds where its line, if it was run, is in
--- one of its thread's blocks, and the others whatever the assignment is.
+-- one of its thread's blocks, that of the 7 where every line is, and the others whatever the assignment is.
 -- Assumes nothing. Met again in Truth.
 use mathlib.Core.Path.{_≡_, refl, sym, ap, _∙_}
 use mathlib.Core.Logic.{_≢_}
-use Prim.Native.Nat.{ℕ, zero, suc, _%_, _<_}
-use mathlib.Core.Bool.{Bool, true, false, cond, not, _||_, or-assoc}
+use Prim.Native.Nat.{ℕ, zero, suc, _+_, _%_, _≤_, _<_}
+use mathlib.Core.Bool.{Bool, true, false, cond, not, _&&_, _||_, or-assoc}
 use mathlib.Core.List.{List, [], _∷_, _++_, reverse}
 use native.Mathlib.Omega.{arith}
 use lib.Dec.{eqb}
-use borrow.Author.Tests.{ne-eqb}
+use borrow.Author.Tests.{eq-eqb, ne-eqb}
+use Rattle.model.specs.Limits.{localCount}
 use Rattle.model.specs.CaseFile.{Kind, compute, store, load, input, assert, assume, lock, unlock, Line, Case, linesOf, itemCount, lineAt}
-use Rattle.model.specs.Line.{itemName, targetName, Reads, breaks}
+use Rattle.model.specs.Line.{noName, itemName, guardName, targetName, Reads, guardTrue, holder, breaks}
 use Rattle.model.specs.Assignment.{Assignment, assignmentOf, wasRun}
-use Rattle.model.specs.Copies.{readsAfter, walkBack}
+use Rattle.model.specs.Copies.{copyOf, readsAfter, walkBack}
 use Rattle.model.specs.Table.{Row, row, followRow, lineOrderRows, orderRows, valueRow, demandRows, valueRows, allOrderRows, allValueRows, itemRows, blockRows, goalRow}
-use Rattle.model.specs.Holds.{someBreaks, someThreadBreaks, holds}
-use Rattle.smt.specs.Term.{Formula, value, meets, tested, joined, resultOf}
+use Rattle.model.specs.Holds.{readsWith, breaksAfter, someBreaks, someThreadBreaks, holds}
+use Rattle.smt.specs.Term.{constant, Formula, value, meets, tested, joined, resultOf}
 use Rattle.smt.specs.Script.{environment}
-use Rattle.script.specs.Assertions.{valueAssertion, orBreaks, assertionOf}
+use Rattle.script.specs.Assertions.{valueAssertion, mutexReads, unlocksAsStranger, orBreaks, assertionOf}
 use Rattle.script.specs.Assertions
 use Rattle.laws.specs.Order.{AllLines, AllThreads}
 use Rattle.laws.proofs.Views.{EqView, same, diff, eq-view}
+use Rattle.laws.proofs.RowReads.{guard-same, copy-reads}
 use Rattle.script_truth.proofs.Links.{same-value}
 use Rattle.script_truth.proofs.Reading.{OwnBlock, before-value}
 use Rattle.script_truth.proofs.Fields.{Fields}
-use Rattle.script_truth.proofs.Lines.{line-value, demand-value}
+use Rattle.script_truth.proofs.Lines.{line-value, mutex-value, demand-value}
 
 -- A line that its number finds, with fields that check 9 lets pass, in one of its thread's blocks if it was run.
 pub record Placed (case : Case) (α : Assignment) (l : Line) : Type 0 where
@@ -49,6 +51,18 @@ value-where-run case x v m unrun p run = go (eq-view x (suc (case .n)))
     go : EqView x (suc (case .n)) → cond (eqb x (suc (case .n))) (eqb v unrun) p ≡ eqb v (cond (wasRun case x) m unrun)
     go (same e asked) = rw asked refl
     go (diff e asked) = rw asked (run e)
+
+-- "Guard true while the mutex does not read t + 1", said of the guard and of "t + 1 is what is read".
+eqb-swapped : (x y : ℕ) → eqb x y ≡ eqb y x
+eqb-swapped x y = go (eq-view x y)
+  where
+    go : EqView x y → eqb x y ≡ eqb y x
+    go (same e q) = q ∙ sym (eq-eqb y x (sym e))
+    go (diff e q) = q ∙ sym (ne-eqb y x (λ z. e (sym z)))
+
+not-the-holder : (p : Bool) (x y : ℕ) → not (not p || eqb x y) ≡ (p && not (eqb y x))
+not-the-holder true x y = ap not (eqb-swapped x y)
+not-the-holder false x y = refl
 
 module _ (case : Case) (xs sources : List ℕ) where
   abbrev env : ℕ → ℕ
@@ -155,34 +169,68 @@ module _ (case : Case) (xs sources : List ℕ) where
       (items-agree _ i 0 (itemCount case)) (blocks-agree (suc i) many)
 
   -- ---- Constraint 7.
-  or-break : (kind : Kind) (l : Line) (reads : Reads) (others : Formula)
-      → meets (orBreaks kind l others) env ≡ (breaks kind l reads (α .value (l .number)) || meets others env)
-  unfolding orBreaks breaks meets value tested joined assignmentOf
-  or-break compute l reads others = refl
-  or-break store l reads others = refl
-  or-break load l reads others = refl
-  or-break input l reads others = refl
-  or-break assert l reads others = refl
-  or-break assume l reads others = refl
-  or-break lock l reads others = refl
-  or-break unlock l reads others = refl
+  module _ (few : localCount + itemCount case ≤ noName) where
+    stranger-value : (earlier : List Line) (l : Line) → Placed case α l
+        → meets (unlocksAsStranger case sources l (copyOf (case .G) (guardName l) earlier) (copyOf (case .G) (targetName (case .G) l) earlier)) env
+        ≡ breaks (wasRun case (α .block (l .number))) unlock l (readsAfter case α earlier l) (α .value (l .number))
+    unfolding unlocksAsStranger breaks wasRun meets value tested joined assignmentOf
+    stranger-value earlier l placed = go (eq-view (α .block (l .number)) (suc (case .n)))
+      where
+        guard : ℕ
+        guard = copyOf (case .G) (guardName l) earlier
 
-  some-break : (earlier ls : List Line) (others : Formula)
-      → meets (Assertions.someBreaks ls others) env ≡ (someBreaks case α earlier ls || meets others env)
-  unfolding Assertions.someBreaks someBreaks
-  some-break earlier [] others = refl
-  some-break earlier (l ∷ ls) others =
-      or-break (l .kind) l (readsAfter case α earlier l) (Assertions.someBreaks ls others)
-      ∙ ap (λ (p : Bool). breaks (l .kind) l (readsAfter case α earlier l) (α .value (l .number)) || p) (some-break (l ∷ earlier) ls others)
-      ∙ sym (or-assoc (breaks (l .kind) l (readsAfter case α earlier l) (α .value (l .number)))
-      (someBreaks case α (l ∷ earlier) ls) (meets others env))
+        target : ℕ
+        target = copyOf (case .G) (targetName (case .G) l) earlier
 
-  some-thread-break : (threads : List (List Line)) → meets (Assertions.someThreadBreaks threads) env ≡ someThreadBreaks case α threads
-  unfolding Assertions.someThreadBreaks someThreadBreaks meets
-  some-thread-break [] = refl
-  some-thread-break (ls ∷ threads) =
-      some-break [] ls (Assertions.someThreadBreaks threads) ∙ ap (λ (p : Bool). someBreaks case α [] ls || p) (some-thread-break threads)
+        reads : Reads
+        reads = readsWith case α l guard 0 0 target
 
-  pub goal-agrees : Agrees goalRow
-  unfolding assertionOf holds
-  goal-agrees = some-thread-break (case .threads)
+        after : Reads
+        after = readsAfter case α earlier l
+
+        unheld : Bool
+        unheld = not (not (guardTrue l reads) || eqb (holder l) (reads .target))
+
+        go : EqView (α .block (l .number)) (suc (case .n))
+            → not (eqb (α .block (l .number)) (suc (case .n)) || meets (mutexReads case sources (constant (holder l)) l guard target) env)
+            ≡ (not (eqb (α .block (l .number)) (suc (case .n))) && (guardTrue l after && not (eqb (after .target) (holder l))))
+        go (same e asked) = rw asked refl
+        go (diff e asked) =
+            rw (asked, mutex-value case xs sources l (placed .fields) (placed .own e) guard target (holder l),
+              guard-same l reads after (copy-reads case few α (α .block (l .number)) earlier (guardName l)),
+              copy-reads case few α (α .block (l .number)) earlier (targetName (case .G) l))
+            (not-the-holder (guardTrue l after) (holder l) (after .target))
+
+    or-break : (kind : Kind) (earlier : List Line) (l : Line) (others : Formula) → Placed case α l
+        → meets (orBreaks kind case sources earlier l others) env
+        ≡ (breaks (wasRun case (α .block (l .number))) kind l (readsAfter case α earlier l) (α .value (l .number)) || meets others env)
+    unfolding orBreaks breaks meets value tested joined assignmentOf
+    or-break compute earlier l others placed = refl
+    or-break store earlier l others placed = refl
+    or-break load earlier l others placed = refl
+    or-break input earlier l others placed = refl
+    or-break assert earlier l others placed = refl
+    or-break assume earlier l others placed = refl
+    or-break lock earlier l others placed = refl
+    or-break unlock earlier l others placed = ap (λ (p : Bool). p || meets others env) (stranger-value earlier l placed)
+
+    some-break : (earlier ls : List Line) (others : Formula) → AllLines (Placed case α) ls
+        → meets (Assertions.someBreaks case sources earlier ls others) env ≡ (someBreaks case α earlier ls || meets others env)
+    unfolding Assertions.someBreaks someBreaks
+    some-break earlier [] others all = refl
+    some-break earlier (l ∷ ls) others all =
+        or-break (l .kind) earlier l (Assertions.someBreaks case sources (l ∷ earlier) ls others) (all .0)
+        ∙ ap (λ (p : Bool). breaksAfter case α earlier l || p) (some-break (l ∷ earlier) ls others (all .1))
+        ∙ sym (or-assoc (breaksAfter case α earlier l) (someBreaks case α (l ∷ earlier) ls) (meets others env))
+
+    some-thread-break : (threads : List (List Line)) → AllThreads (Placed case α) threads
+        → meets (Assertions.someThreadBreaks case sources threads) env ≡ someThreadBreaks case α threads
+    unfolding Assertions.someThreadBreaks someThreadBreaks meets
+    some-thread-break [] all = refl
+    some-thread-break (ls ∷ threads) all =
+        some-break [] ls (Assertions.someThreadBreaks case sources threads) (all .0)
+        ∙ ap (λ (p : Bool). someBreaks case α [] ls || p) (some-thread-break threads (all .1))
+
+    pub goal-agrees : AllThreads (Placed case α) (case .threads) → Agrees goalRow
+    unfolding assertionOf holds
+    goal-agrees all = some-thread-break (case .threads) all

@@ -13,13 +13,15 @@ use borrow.Author.Tests.{eqb-false, ltb-true, leb-true}
 use Rattle.model.specs.Word.{wordSize}
 use Rattle.model.specs.Limits.{localCount}
 use Rattle.model.specs.CaseFile.{Kind, compute, store, load, input, assert, assume, lock, unlock, Line, Case, itemCount, lineAt}
-use Rattle.model.specs.Line.{itemName, operandA, targetName}
+use Rattle.model.specs.Line.{noName, itemName, guardName, operandA, targetName, holder}
 use Rattle.model.specs.Assignment.{variables}
+use Rattle.model.specs.Copies.{latest, copyOf}
 use Rattle.smt.specs.Term.{Test, disjunction, Term, constant, Formula, join}
-use Rattle.script.specs.Assertions.{blockOf, valueOf, blockValue, valueBefore, localWith, linked, isVariable, same, blocksFrom, ownBlocks, readBefore, readItem, readName, guardTrue, operand, comparison, expression, operandsOf, oldTarget, factsWith, facts, withFacts, isExpression, isTruth, guardedIn, guardedOut, notRun, lineAssertion, valueAssertion, mutexFree, demandAssertion, walkBack, orBreaks, someBreaks, someThreadBreaks}
+use Rattle.script.specs.Assertions.{blockOf, valueOf, blockValue, valueBefore, localWith, linked, isVariable, same, blocksFrom, ownBlocks, readBefore, readItem, readName, guardTrue, operand, comparison, expression, operandsOf, oldTarget, factsWith, facts, withFacts, isExpression, isTruth, guardedIn, guardedOut, notRun, lineAssertion, valueAssertion, mutexReads, unlocksAsStranger, demandAssertion, walkBack, orBreaks, someBreaks, someThreadBreaks}
 use Rattle.laws.specs.RecordNumber.{RecordNumber}
 use Rattle.laws.specs.Order.{AllLines, AllThreads}
 use Rattle.laws.proofs.Unrun.{unrun-small}
+use Rattle.correspondence.specs.Meaning.{SmallLine}
 use Rattle.reading.specs.Spellable.{TermSpellable, FormulaSpellable}
 
 -- What is so of what a test takes, either way.
@@ -32,11 +34,24 @@ abbrev pub AllRecords : ℕ → List ℕ → Type 0
 AllRecords R [] = Unit
 AllRecords R (s ∷ sources) = RecordNumber R s × AllRecords R sources
 
--- A line's own number is a record's and finds it, and its constant has 16 bits.
+-- A line's own number is a record's and finds it, and the numbers that it brings with it have 16 bits.
 pub record Spells (case : Case) (l : Line) : Type 0 where
   pub found : lineAt case (l .number) ≡ l
   pub number : RecordNumber (case .R) (l .number)
-  pub constant : l .c < wordSize
+  pub own : SmallLine l
+
+-- A copy among such lines is a record or 0.
+latest-low : (case : Case) (name : ℕ) (earlier : List Line) → AllLines (Spells case) earlier → latest (case .G) name earlier ≤ case .R
+unfolding latest
+latest-low case name [] all = omega arith
+latest-low case name (l ∷ earlier) all = go (latest-low case name earlier (all .1))
+  where
+    go : latest (case .G) name earlier ≤ case .R → latest (case .G) name (l ∷ earlier) ≤ case .R
+    go rest = taken (λ p. p ≤ case .R) (eqb (targetName (case .G) l) name) (l .number) _ (λ e. all .0 .number .low) (λ e. rest)
+
+pub copy-low : (case : Case) (name : ℕ) (earlier : List Line) → AllLines (Spells case) earlier → copyOf (case .G) name earlier ≤ case .R
+unfolding copyOf
+copy-low case name earlier all = taken (λ p. p ≤ case .R) (ltb name noName) _ 0 (λ e. latest-low case name earlier all) (λ e. omega arith)
 
 module _ (case : Case) (few : suc (case .n) < wordSize) (initials : (g : ℕ) → getD (case .initial) g 0 < wordSize) where
   abbrev T : Term → Type 0
@@ -173,12 +188,12 @@ module _ (case : Case) (few : suc (case .n) < wordSize) (initials : (g : ℕ) �
       own-expression-spelled : (a b : ℕ) → a ≤ case .R → b ≤ case .R → F (operandsOf (isExpression sources (valueOf (l .number)) (l .op)) l a b)
       own-expression-spelled a b p q =
           is-expression-spelled (valueOf (l .number)) (operand (l .a) (l .c) a) (operand (l .b) (l .c) b) (l .op) own-spelled
-          (operand-spelled (l .a) (l .c) a (line .constant) p) (operand-spelled (l .b) (l .c) b (line .constant) q)
+          (operand-spelled (l .a) (l .c) a (line .own .constant) p) (operand-spelled (l .b) (l .c) b (line .own .constant) q)
 
       own-truth-spelled : (a b : ℕ) → a ≤ case .R → b ≤ case .R → F (operandsOf (isTruth sources (valueOf (l .number)) (l .op)) l a b)
       own-truth-spelled a b p q =
           is-truth-spelled (valueOf (l .number)) (operand (l .a) (l .c) a) (operand (l .b) (l .c) b) (l .op) own-spelled
-          (operand-spelled (l .a) (l .c) a (line .constant) p) (operand-spelled (l .b) (l .c) b (line .constant) q)
+          (operand-spelled (l .a) (l .c) a (line .own .constant) p) (operand-spelled (l .b) (l .c) b (line .own .constant) q)
 
       in-spelled : (kind : Kind) (a b : ℕ) → a ≤ case .R → b ≤ case .R → F (guardedIn kind case sources l a b)
       unfolding guardedIn
@@ -188,7 +203,7 @@ module _ (case : Case) (few : suc (case .n) < wordSize) (initials : (g : ℕ) �
       in-spelled input a b p q = tt
       in-spelled assert a b p q = own-truth-spelled a b p q
       in-spelled assume a b p q = own-truth-spelled a b p q
-      in-spelled lock a b p q = (own-spelled, omega arith)
+      in-spelled lock a b p q = (own-spelled, line .own .holding)
       in-spelled unlock a b p q = (own-spelled, omega arith)
 
       old-target-spelled : (target : ℕ) → target ≤ case .R → F (oldTarget case sources l target)
@@ -219,12 +234,12 @@ module _ (case : Case) (few : suc (case .n) < wordSize) (initials : (g : ℕ) �
       value-assertion-spelled guard a b target g p q r =
           rw (line .found) (not-run-spelled (l .number) (line .number), (own-spelled, unrun-small (l .kind)), line-spelled guard a b target g p q r)
 
-      free-spelled : (guard target : ℕ) → guard ≤ case .R → target ≤ case .R → F (mutexFree case sources l guard target)
-      unfolding mutexFree
-      free-spelled guard target g p =
-          let free = name-spelled (constant 0) (omega arith) l (targetName (case .G) l) target (line .number) p in
-          taken F (eqb (l .guard) 0) (readName case sources (constant 0) l (targetName (case .G) l) target) _ (λ e. free)
-          (λ e. (guard-spelled l guard g, free))
+      mutex-spelled : (n guard target : ℕ) → n < wordSize → guard ≤ case .R → target ≤ case .R → F (mutexReads case sources (constant n) l guard target)
+      unfolding mutexReads
+      mutex-spelled n guard target small g p =
+          let read = name-spelled (constant n) small l (targetName (case .G) l) target (line .number) p in
+          taken F (eqb (l .guard) 0) (readName case sources (constant n) l (targetName (case .G) l) target) _ (λ e. read)
+          (λ e. (guard-spelled l guard g, read))
 
       demand-spelled : (kind : Kind) (guard target : ℕ) → guard ≤ case .R → target ≤ case .R
           → F (demandAssertion kind case sources l guard target)
@@ -235,13 +250,26 @@ module _ (case : Case) (few : suc (case .n) < wordSize) (initials : (g : ℕ) �
       demand-spelled input guard target g p = tt
       demand-spelled assert guard target g p = tt
       demand-spelled assume guard target g p = (own-spelled, omega arith)
-      demand-spelled lock guard target g p = free-spelled guard target g p
+      demand-spelled lock guard target g p = mutex-spelled 0 guard target (omega arith) g p
       demand-spelled unlock guard target g p = tt
 
       pub demand-assertion-spelled : (guard target : ℕ) → guard ≤ case .R → target ≤ case .R
           → F (join disjunction (notRun case (l .number)) (demandAssertion (lineAt case (l .number) .kind) case sources (lineAt case (l .number)) guard target))
       demand-assertion-spelled guard target g p =
           rw (line .found) (not-run-spelled (l .number) (line .number), demand-spelled (l .kind) guard target g p)
+
+      or-break-spelled : (kind : Kind) (earlier : List Line) (others : Formula) → copyOf (case .G) (guardName l) earlier ≤ case .R
+          → copyOf (case .G) (targetName (case .G) l) earlier ≤ case .R → F others → F (orBreaks kind case sources earlier l others)
+      unfolding orBreaks unlocksAsStranger
+      or-break-spelled compute earlier others g p rest = rest
+      or-break-spelled store earlier others g p rest = rest
+      or-break-spelled load earlier others g p rest = rest
+      or-break-spelled input earlier others g p rest = rest
+      or-break-spelled assert earlier others g p rest = ((own-spelled, omega arith), rest)
+      or-break-spelled assume earlier others g p rest = rest
+      or-break-spelled lock earlier others g p rest = rest
+      or-break-spelled unlock earlier others g p rest =
+          ((not-run-spelled (l .number) (line .number), mutex-spelled (holder l) _ _ (line .own .holding) g p), rest)
 
     -- ---- Constraints 6 and 7.
     pub walk-spelled : (i g : ℕ) (ls : List Line) → i < case .n → g < itemCount case → AllLines (Spells case) ls
@@ -260,23 +288,15 @@ module _ (case : Case) (few : suc (case .n) < wordSize) (initials : (g : ℕ) �
             ))
             (λ e. rest)
 
-  or-break-spelled : (kind : Kind) (l : Line) (others : Formula) → Known (l .number) → F others → F (orBreaks kind l others)
-  unfolding orBreaks
-  or-break-spelled compute l others k rest = rest
-  or-break-spelled store l others k rest = rest
-  or-break-spelled load l others k rest = rest
-  or-break-spelled input l others k rest = rest
-  or-break-spelled assert l others k rest = ((value-spelled (l .number) k, omega arith), rest)
-  or-break-spelled assume l others k rest = rest
-  or-break-spelled lock l others k rest = rest
-  or-break-spelled unlock l others k rest = rest
+    some-break-spelled : (earlier ls : List Line) (others : Formula) → AllLines (Spells case) earlier → AllLines (Spells case) ls → F others
+        → F (someBreaks case sources earlier ls others)
+    unfolding someBreaks
+    some-break-spelled earlier [] others before all rest = rest
+    some-break-spelled earlier (l ∷ ls) others before all rest =
+        or-break-spelled l (all .0) (l .kind) earlier _ (copy-low case (guardName l) earlier before) (copy-low case (targetName (case .G) l) earlier before)
+        (some-break-spelled (l ∷ earlier) ls others (all .0, before) (all .1) rest)
 
-  some-break-spelled : (ls : List Line) (others : Formula) → AllLines (Spells case) ls → F others → F (someBreaks ls others)
-  unfolding someBreaks
-  some-break-spelled [] others all rest = rest
-  some-break-spelled (l ∷ ls) others all rest = or-break-spelled (l .kind) l _ (all .0 .number) (some-break-spelled ls others (all .1) rest)
-
-  pub goal-spelled : (threads : List (List Line)) → AllThreads (Spells case) threads → F (someThreadBreaks threads)
-  unfolding someThreadBreaks
-  goal-spelled [] all = tt
-  goal-spelled (ls ∷ threads) all = some-break-spelled ls _ (all .0) (goal-spelled threads (all .1))
+    pub goal-spelled : (threads : List (List Line)) → AllThreads (Spells case) threads → F (someThreadBreaks case sources threads)
+    unfolding someThreadBreaks
+    goal-spelled [] all = tt
+    goal-spelled (ls ∷ threads) all = some-break-spelled [] ls _ tt (all .0) (goal-spelled threads (all .1))

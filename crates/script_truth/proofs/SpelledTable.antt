@@ -9,10 +9,9 @@ use lib.Dec.{eqb, ltb}
 use lib.ListN.{getD, length}
 use Rattle.model.specs.Word.{wordSize, AllBelow}
 use Rattle.model.specs.CaseFile.{Kind, compute, store, load, input, assert, assume, lock, unlock, Line, Case, caseOf, linesOf, itemCount, lineAt}
-use Rattle.model.specs.Line.{noName, guardName, operandA, operandB, targetName, isInput}
+use Rattle.model.specs.Line.{guardName, operandA, operandB, targetName, isInput}
 use Rattle.model.specs.Accept.{verdict}
 use Rattle.model.specs.Assignment.{variables}
-use Rattle.model.specs.Copies.{latest, copyOf}
 use Rattle.model.specs.Holds.{fromRecord}
 use Rattle.model.specs.Table.{Row, followRow, lineOrderRows, orderRows, demandRows, valueRows, allOrderRows, allValueRows, itemRows, blockRows, runRows, goalRow, table}
 use Rattle.model.specs.declared.Verdict.the-variants as verdicts
@@ -26,9 +25,10 @@ use Rattle.laws.proofs.Below.{below-at}
 use Rattle.laws.proofs.Chains.{thread-count}
 use Rattle.laws.proofs.LineFound.{line-found}
 use Rattle.laws.proofs.Sizes.{assignment-numbers}
-use Rattle.correspondence.proofs.WellFormed.{field-below, all-lines-by, well-formed}
+use Rattle.correspondence.specs.Meaning.{SmallLine}
+use Rattle.correspondence.proofs.WellFormed.{all-lines-by, well-formed}
 use Rattle.reading.specs.Spellable.{AllSpellable, ScriptSpellable}
-use Rattle.script_truth.proofs.Spelled.{taken, AllRecords, Spells, block-spelled, value-assertion-spelled, demand-assertion-spelled, walk-spelled, goal-spelled}
+use Rattle.script_truth.proofs.Spelled.{taken, AllRecords, Spells, copy-low, block-spelled, value-assertion-spelled, demand-assertion-spelled, walk-spelled, goal-spelled}
 
 -- ---- The sources are records.
 sources-from-known : (case : Case) (many k room : ℕ) → 0 < k → k + many ≤ suc (case .R) → AllRecords (case .R) (sourcesFrom case many k room)
@@ -47,7 +47,7 @@ sources-known : (case : Case) → AllRecords (case .R) (sourcesOf case)
 unfolding sourcesOf
 sources-known case = sources-from-known case (case .R) 1 mostSources (omega arith) (omega arith)
 
--- ---- Lines given latest first, and copies among them.
+-- ---- Lines given latest first.
 all-reversed : (P : Line → Type 0) (ls earlier : List Line) → AllLines P ls → AllLines P earlier → AllLines P (reverseAux ls earlier)
 all-reversed P [] earlier all before = before
 all-reversed P (l ∷ ls) earlier all before = all-reversed P ls (l ∷ earlier) (all .1) (all .0, before)
@@ -59,18 +59,6 @@ all-from-record P k (l ∷ ls) all = go (all-from-record P k ls (all .1))
   where
     go : AllLines P (fromRecord k ls) → AllLines P (fromRecord k (l ∷ ls))
     go rest = taken (AllLines P) (eqb (l .number) k) (l ∷ ls) (fromRecord k ls) (λ e. all) (λ e. rest)
-
-latest-low : (case : Case) (name : ℕ) (earlier : List Line) → AllLines (Spells case) earlier → latest (case .G) name earlier ≤ case .R
-unfolding latest
-latest-low case name [] all = omega arith
-latest-low case name (l ∷ earlier) all = go (latest-low case name earlier (all .1))
-  where
-    go : latest (case .G) name earlier ≤ case .R → latest (case .G) name (l ∷ earlier) ≤ case .R
-    go rest = taken (λ p. p ≤ case .R) (eqb (targetName (case .G) l) name) (l .number) _ (λ e. all .0 .number .low) (λ e. rest)
-
-copy-low : (case : Case) (name : ℕ) (earlier : List Line) → AllLines (Spells case) earlier → copyOf (case .G) name earlier ≤ case .R
-unfolding copyOf
-copy-low case name earlier all = taken (λ p. p ≤ case .R) (ltb name noName) _ 0 (λ e. latest-low case name earlier all) (λ e. omega arith)
 
 -- ---- The rows.
 module _ (case : Case) (few : suc (case .n) < wordSize) (initials : (g : ℕ) → getD (case .initial) g 0 < wordSize)
@@ -163,17 +151,14 @@ module _ (case : Case) (few : suc (case .n) < wordSize) (initials : (g : ℕ) �
         rows-append (allOrderRows case 0 (case .threads) ++ (allValueRows case (case .threads) ++ blockRows case 0 (case .n))) (goalRow ∷ [])
         (rows-append (allOrderRows case 0 (case .threads)) _ (orders-spelled 0 (case .threads) (omega arith) low all)
         (rows-append (allValueRows case (case .threads)) _ (all-values-spelled (case .threads) all) (blocks-spelled 0 (case .n) (omega arith))))
-        (goal-spelled case few initials (case .threads) all, tt)
+        (goal-spelled case few initials sources known (case .threads) all, tt)
 
 -- ---- An accepted case.
-record Small (case : Case) (l : Line) : Type 0 where
-  number : RecordNumber (case .R) (l .number)
-  constant : l .c < wordSize
-
-all-spell : (case : Case) (ls : List Line) → AllLines (λ l. lineAt case (l .number) ≡ l) ls → AllLines (Small case) ls → AllLines (Spells case) ls
-all-spell case [] found small = tt
-all-spell case (l ∷ ls) found small =
-    (record { found = found .0; number = small .0 .number; constant = small .0 .constant }, all-spell case ls (found .1) (small .1))
+all-spell : (case : Case) (ls : List Line) → AllLines (λ l. lineAt case (l .number) ≡ l) ls → AllLines (λ l. RecordNumber (case .R) (l .number)) ls
+    → AllLines SmallLine ls → AllLines (Spells case) ls
+all-spell case [] found known own = tt
+all-spell case (l ∷ ls) found known own =
+    (record { found = found .0; number = known .0; own = own .0 }, all-spell case ls (found .1) (known .1) (own .1))
 
 module _ (bytes : List ℕ) (accepted : verdict bytes ≡ verdicts.Accepted) where
   ok : Accepted bytes
@@ -190,7 +175,6 @@ module _ (bytes : List ℕ) (accepted : verdict bytes ≡ verdicts.Accepted) whe
             table-spelled case (omega (arith, ok .few-switches)) (below-at wordSize (case .initial) (omega arith) (wf .small-initial))
             (sourcesOf case) (sources-known case)
             (all-threads (Spells case) (case .threads) (λ t few. all-spell case (linesOf case t) (line-found case (wf .once) t)
-            (all-lines-by bytes ok (Small case) t (λ k low high.
-            record { number = record { some = low; low = high }; constant = field-below bytes small (8 + 8 * k + 7) }))))
+            (all-lines-by bytes ok (λ l. RecordNumber (case .R) (l .number)) t (λ k thread low high. record { some = low; low = high })) (wf .small-lines t)))
             (omega (arith, thread-count bytes, ok .few-threads)) (omega (arith, ok .few-threads));
       }

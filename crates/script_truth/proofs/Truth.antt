@@ -110,7 +110,7 @@ module _ (bytes : List ℕ) (accepted : verdict bytes ≡ verdicts.Accepted) (xs
   placed-of-rows : AllHold case α (allOrderRows case 0 (case .threads)) → AllThreads (Placed case α) (case .threads)
   placed-of-rows hold = all-threads (Placed case α) (case .threads) (λ t few.
       all-placed case α t 0 (linesOf case t) (line-found case (numbers-once bytes ok) t)
-      (all-lines-by bytes ok (OfThread t) t (λ k low high. record { thread = refl; fields = record-fields bytes ok t k low high }))
+      (all-lines-by bytes ok (OfThread t) t (λ k thread low high. record { thread = refl; fields = record-fields bytes ok t k low high }))
       (rw (zero-add t) at (order-of-all-rows case α 0 (case .threads) hold t few)))
 
   pub each-assertion-agrees : EachAgrees case α (environment xs) (table case) (scriptOf case .assertions)
@@ -125,7 +125,7 @@ module _ (bytes : List ℕ) (accepted : verdict bytes ≡ verdicts.Accepted) (xs
       (all-order-agrees case xs sources (omega (arith, ok .some-threads)) 0 (case .threads))
       (λ hold. each-then case xs sources values (blocks ++ (goalRow ∷ [])) (all-values-agree case xs sources (case .threads) (placed-of-rows hold))
       (λ hold'. each-then case xs sources blocks (goalRow ∷ []) (blocks-agree case xs sources 0 (case .n))
-      (λ hold''. (goal-agrees case xs sources, λ e. tt)))))
+      (λ hold''. (goal-agrees case xs sources (omega (arith, ok .few-globals, ok .few-mutexes)) (placed-of-rows hold), λ e. tt)))))
 
   pub first-false-is-first-row : firstFalse (environment xs) 1 (scriptOf case .assertions) ≡ firstFailing case α 1 (table case)
   first-false-is-first-row = first-false-is-first-failing case α (environment xs) 1 (table case) (scriptOf case .assertions) each-assertion-agrees

@@ -2,6 +2,3 @@ pub mod Sources
 pub mod Shape
 pub mod Declarations
 pub mod Order
-pub mod GoalText
-pub mod Heads
-pub mod Asserts

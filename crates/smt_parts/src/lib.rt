@@ -1,22 +1,18 @@
-// Parts of a case's text: its sources and its shape, the declarations, the assertions of the order rows, and the goal.
-ghost use mathlib.Core.Path.{_≡_};
+// Parts of a case's text: its sources and its shape, the declarations, and the assertions of the order rows.
 ghost use Prim.Native.Nat.{ℕ, suc};
 ghost use mathlib.Core.List.{List};
 ghost use Rattle.model.specs.CaseFile.{Case, caseOf, kindOf};
-ghost use Rattle.laws.specs.Accepted.{Accepted, threadLines};
+ghost use Rattle.laws.specs.Accepted.{Accepted};
 ghost use Rattle.smt.specs.Term.{bvurem, bvule, disjunction, constant, apply, test, join};
 ghost use Rattle.smt.specs.Spelling.{formulaText, declaration, declarations};
-ghost use Rattle.script.specs.Assertions.{equal, blockOf, notRun, someThreadBreaks};
+ghost use Rattle.script.specs.Assertions.{equal, blockOf, notRun};
 ghost use Rattle.spell.specs.Spelt.{Spelt};
 ghost use Rattle.linked.specs.Shape.{HasShape, HasSources};
 ghost use Rattle.smt_parts.specs.Sources.{Found, withSource};
-ghost use Rattle.smt_parts.specs.Goal.{HasThread, breakHead, breakHeads, allBreakHeads, asserts, assertsOf};
 use case_file::first_items;
-use case_file::first_of;
 use case_file::globals;
 use case_file::items;
 use case_file::kind_of;
-use case_file::next_of;
 use case_file::records;
 use case_file::switches;
 use case_file::threads;
@@ -25,12 +21,9 @@ use linked::Shape;
 use linked::Sources;
 use linked::block_variable;
 use linked::put_not_run;
-use linked::value_variable;
 use spell::Atom;
 use spell::put;
-use spell::put_closing;
 use spell::put_constant;
-use spell::put_equal;
 use spell::put_two;
 use spell::put_variable;
 
@@ -155,88 +148,4 @@ pub fn put_last(text: &mut [u8], start: usize, shape: Shape, k: u16) -> usize
     let block = Atom::Variable(block_variable(k));
     let place = put(text, start, b"(bvule ");
     put_two(text, place, block, Atom::Constant(shape.unrun))
-}
-
-// That the assert of record k breaks, or ..
-fn put_break(text: &mut [u8], start: usize, k: u16) -> usize
-    ensures { λ r. ⌜ Spelt (breakHead (kindOf 5) k) (now (text .entry)) start (now (text .exit)) r ⌝ }
-{
-    let value = Atom::Variable(value_variable(k));
-    let mut at = put(text, start, b"(or ");
-    at = put_equal(text, at, value, Atom::Constant(0));
-    put(text, at, b" ")
-}
-
-// The same for a record of any kind: only an assert breaks.
-fn put_head(text: &mut [u8], at: usize, kind: u16, k: u16) -> usize
-    ensures { λ r. ⌜ Spelt (breakHead (kindOf kind) k) (now (text .entry)) at (now (text .exit)) r ⌝ }
-{
-    match kind {
-        5 => put_break(text, at, k),
-        _ => at,
-    }
-}
-
-// Those of thread t.
-fn put_heads(text: &mut [u8], start: usize, case: &[u8], t: usize) -> usize
-    requires { ⌜ HasThread (now case) t ⌝ }
-    ensures { λ r. ⌜ Spelt (breakHeads (threadLines (now (case .entry)) t)) (now (text .entry)) start (now (text .exit)) r ⌝ }
-{
-    let mut at = start;
-    let mut k = first_of(case, t);
-    while k != 0 {
-        at = put_head(text, at, kind_of(case, k), k as u16);
-        k = next_of(case, k);
-    }
-    at
-}
-
-// Those of all threads.
-fn put_all_heads(text: &mut [u8], start: usize, case: &[u8]) -> usize
-    requires { ⌜ Accepted (now case) ⌝ }
-    ensures { λ r. ⌜ Spelt (allBreakHeads (caseOf (now (case .entry)) .threads)) (now (text .entry)) start (now (text .exit)) r ⌝ }
-{
-    let threads = threads(case) as usize;
-    let mut at = start;
-    let mut t = 0;
-    while t < threads {
-        at = put_heads(text, at, case, t);
-        t += 1;
-    }
-    at
-}
-
-fn is_assert(kind: u16) -> usize
-    ensures { λ r. ⌜ r ≡ asserts (kindOf kind) ⌝ }
-{
-    match kind {
-        5 => 1,
-        _ => 0,
-    }
-}
-
-// How many asserts an accepted case has.
-fn assert_count(case: &[u8]) -> usize
-    requires { ⌜ Accepted (now case) ⌝ }
-    ensures { λ r. ⌜ r ≡ assertsOf (caseOf (now (case .entry)) .threads) ⌝ }
-{
-    let last = records(case);
-    let mut n = 0;
-    let mut k = 1;
-    while k <= last {
-        n += is_assert(kind_of(case, k));
-        k += 1;
-    }
-    n
-}
-
-// A 7: some assert breaks.
-pub fn put_goal(text: &mut [u8], start: usize, case: &[u8]) -> usize
-    requires { ⌜ Accepted (now case) ⌝ }
-    ensures { λ r. ⌜ Spelt (formulaText (someThreadBreaks (caseOf (now (case .entry)) .threads))) (now (text .entry)) start (now (text .exit)) r ⌝ }
-{
-    let many = assert_count(case);
-    let mut at = put_all_heads(text, start, case);
-    at = put(text, at, b"false");
-    put_closing(text, at, many)
 }

@@ -1,7 +1,7 @@
 -- The assertions of a table one after the other, and the whole text. Assumes nothing. Met again in `put_assertion`, `put_assertions` and
 -- `write_script`.
 use mathlib.Core.Path.{_≡_, refl}
-use Prim.Native.Nat.{ℕ, suc, _+_, _≤_, _<_}
+use Prim.Native.Nat.{ℕ, _+_, _≤_, _<_}
 use mathlib.Core.List.{List, [], _∷_, _++_}
 use native.Mathlib.Omega.{arith}
 use native.Mathlib.Numerals.{add-one}
@@ -20,10 +20,11 @@ use Rattle.linked.specs.Shape.{HasShape, HasSources}
 use Rattle.linked.specs.declared.Shape.{Shape}
 use Rattle.linked.specs.declared.Sources.{Sources}
 use Rattle.walk_text.specs.Walk.{PreviousCopies}
-use Rattle.line_threads.specs.Threads.{HasThreads}
-use Rattle.smt_text.specs.Rows.{rowAssertion, rowAt, RowHanded}
+use Rattle.line_threads.specs.Threads.{HasThreads, rowAt}
+use Rattle.line_threads.proofs.TableRows.{table-row}
+use Rattle.smt_text.specs.Rows.{rowAssertion, RowHanded}
 use Rattle.smt_text.specs.Script.{tableAssertions, RowsHanded, ScriptHanded}
-use Rattle.smt_text.proofs.TableRows.{row-comes, row-known}
+use Rattle.smt_text.proofs.TableRows.{row-known}
 
 pub assertion-spelt : {d a b e : List ℕ} {start at place r : ℕ} (f : Formula) → Spelt (ascii "(assert ") d start a at → Spelt (formulaText f) a at b place
     → Spelt (ascii ")\n") b place e r → Spelt (assertion f) d start e r
@@ -34,18 +35,12 @@ module _ {bytes xs : List ℕ} {count : ℕ} (h : RowsHanded bytes xs count) whe
   pub rows-few : count ≤ mostConstraints
   rows-few = omega (arith, h .has .rows, table-rows bytes (h .accepted))
 
-  comes : (j : ℕ) → j < count → drop j (table (caseOf bytes)) ≡ rowAt xs j ∷ drop (suc j) (table (caseOf bytes))
-  comes j below = rw (h .has .numbers) (row-comes (table (caseOf bytes)) (h .has .rest) j (omega (arith, h .has .rows)))
-
   -- Row j can be written.
   pub row-handed : {shape : Shape} {sources : Sources} {previous threads : List ℕ} {j : ℕ} {w : Row} → HasShape (caseOf bytes) shape → HasSources (caseOf bytes) sources
-      → PreviousCopies (caseOf bytes) previous → HasThreads (caseOf bytes) threads → j < count → w ≡ rowAt xs j → RowHanded bytes shape sources previous threads w
+      → PreviousCopies (caseOf bytes) previous → HasThreads (caseOf bytes) threads → j < count → w ≡ rowAt xs j → RowHanded bytes shape sources xs count previous threads w
   row-handed {j = j} s o before lines below e = record {
-    accepted = h .accepted;
-    shaped = s;
-    sourced = o;
-    lines = lines;
-    known = rw e (row-known (h .accepted) before (rowAt xs j) (drop (suc j) (table (caseOf bytes))) j (comes j below));
+    handed = record { accepted = h .accepted; shaped = s; sourced = o; has = h .has; lines = lines };
+    known = rw e (row-known (h .accepted) (h .has) before j below);
   }
 
 -- The loop over the rows, at row j.
@@ -67,7 +62,7 @@ module _ {bytes xs : List ℕ} {count : ℕ} (h : RowsHanded bytes xs count) {be
   asserting-more below {w} e put = record { upto = omega arith; left = left-more (v .left) one put }
     where
       one : linesFrom bytes j ≡ assertion (rowAssertion bytes w) ++ linesFrom bytes (j + 1)
-      one = rw (e, add-one j, comes h j below)
+      one = rw (e, add-one j, table-row (h .has) j below)
 
   pub asserting-end : count ≤ j → Spelt (assertionLines (tableAssertions bytes)) before start out at
   unfolding assertionLines assertionsOf

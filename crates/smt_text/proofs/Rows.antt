@@ -1,40 +1,29 @@
--- The assertion of a row by its kind. Assumes nothing. Met again in `line_of` and `put_row`.
+-- The assertion of a row by its kind. Assumes nothing. Met again in `put_row`.
 use mathlib.Core.Path.{_≡_}
 use mathlib.Core.Logic.{_≢_}
 use Prim.Native.Nat.{ℕ, suc, _≤_}
 use mathlib.Core.List.{List}
 use native.Mathlib.Omega.{arith}
 use borrow.Author.Tests.{ne-eqb}
-use lib.ListN.{getD}
 use Rattle.model.specs.Limits.{mostLines}
 use Rattle.model.specs.CaseFile.{caseOf, lineAt}
 use Rattle.model.specs.Table.{Row}
 use Rattle.smt.specs.Term.{bvurem, bvule, disjunction, constant, apply, test, join}
 use Rattle.smt.specs.Spelling.{ascii, formulaText}
 use Rattle.script.specs.Assertions.{equal, blockOf, sourcesOf, notRun, valueAssertion, demandAssertion, someThreadBreaks, assertionOf}
-use Rattle.case_file.specs.Records.{recordOf, asLine}
-use Rattle.case_file.specs.declared.Record.{Record}
 use Rattle.spell.specs.Spelt.{Spelt}
 use Rattle.linked.specs.declared.Shape.{Shape}
 use Rattle.linked.specs.declared.Sources.{Sources}
-use Rattle.line_threads.specs.Threads.{RowOf}
-use Rattle.line_threads.proofs.RecordLines.{record-is-line}
+use Rattle.line_threads.specs.Threads.{LineThere, RowOf}
 use Rattle.walk_text.specs.Walk.{walkCopies}
-use Rattle.smt_text.specs.Rows.{rowAssertion, LineThere, RowKnown, RowHanded}
+use Rattle.smt_text.specs.Rows.{rowAssertion, RowKnown, RowHanded}
 
--- ---- The line of a 4 or a 5.
+-- The line of a 4 or a 5.
+pub line-handed : {bytes xs previous threads : List ℕ} {shape : Shape} {sources : Sources} {count : ℕ} {w : Row} {kind : ℕ}
+    → RowHanded bytes shape sources xs count previous threads w → w .kind ≡ kind → kind ≤ 5 → LineThere bytes threads (w .one)
+line-handed h e low = record { accepted = h .handed .accepted; lines = h .handed .lines; number = h .known .of .line (omega (arith, e)) }
 
-module _ {bytes threads : List ℕ} {k : ℕ} (h : LineThere bytes threads k) where
-  pub line-there : {t : ℕ} {l : Record} → t ≡ getD threads k 0 → l ≡ recordOf bytes t k → asLine l k ≡ lineAt (caseOf bytes) k
-  line-there et el =
-      rw (el, et, h .lines k (h .number .some) (h .number .low))
-      (record-is-line (h .accepted) k (h .number .some) (h .number .low))
-
-pub line-handed : {bytes previous threads : List ℕ} {shape : Shape} {sources : Sources} {w : Row} {kind : ℕ} → RowHanded bytes shape sources previous threads w
-    → w .kind ≡ kind → kind ≤ 5 → LineThere bytes threads (w .one)
-line-handed h e low = record { accepted = h .accepted; lines = h .lines; number = h .known .of .line (omega (arith, e)) }
-
--- ---- What is spelled for a kind is the row's assertion.
+-- What is spelled for a kind is the row's assertion.
 
 abbrev RowSpelt : List ℕ → Row → List ℕ → ℕ → List ℕ → ℕ → Type 0
 RowSpelt bytes w d start a r = Spelt (formulaText (rowAssertion bytes w)) d start a r
@@ -70,7 +59,7 @@ module _ (bytes : List ℕ) (w : Row) {d a : List ℕ} {start r : ℕ} where
       → Spelt (formulaText (walkCopies (caseOf bytes) (sourcesOf (caseOf bytes)) (w .two) (w .one) previous mostLines (w .three))) d start a r → RowSpelt bytes w d start a r
   walk-spelt known e put = rw (known .walk e) at put
 
-  pub goal-spelt : w .kind ≡ 7 → Spelt (formulaText (someThreadBreaks (caseOf bytes .threads))) d start a r → RowSpelt bytes w d start a r
+  pub goal-spelt : w .kind ≡ 7 → Spelt (formulaText (someThreadBreaks (caseOf bytes) (sourcesOf (caseOf bytes)) (caseOf bytes .threads))) d start a r → RowSpelt bytes w d start a r
   unfolding assertionOf
   goal-spelt e put = rw e put
 

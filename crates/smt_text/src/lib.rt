@@ -3,31 +3,27 @@
 ghost use mathlib.Core.Path.{_≡_};
 ghost use lib.Dec.{leb};
 ghost use lib.ListN.{length};
-ghost use Rattle.model.specs.CaseFile.{caseOf, lineAt};
 ghost use Rattle.smt.specs.Spelling.{formulaText, assertion, assertionLines};
 ghost use Rattle.script.specs.Text.{smtText, measured, spelled, spelledInto};
 ghost use Rattle.spell.specs.Spelt.{Spelt};
-ghost use Rattle.case_file.specs.Records.{asLine};
 ghost use Rattle.rows.specs.Rows.{asRow};
-ghost use Rattle.smt_text.specs.Rows.{rowAssertion, rowAt, LineThere, RowHanded};
+ghost use Rattle.smt_text.specs.Rows.{rowAssertion, RowHanded};
 ghost use Rattle.smt_text.specs.Script.{tableAssertions, RowsHanded, ScriptHanded, TextGiven};
-use case_file::Record;
-use case_file::record_at;
 use encoder::MOST_NUMBERS;
 use encoder::encode;
+use goal_text::put_goal;
 use line::Copies;
 use line_text::put_five;
 use line_text::put_four;
+use line_threads::line_of;
+use line_threads::row_at;
 use line_threads::threads_of;
 use linked::Shape;
 use linked::Sources;
 use model::Encoded;
-use numbers::at;
 use rows::Constraint;
-use rows::ROW;
 use script::Spelled;
 use smt_parts::put_declarations;
-use smt_parts::put_goal;
 use smt_parts::put_last;
 use smt_parts::put_one;
 use smt_parts::put_three;
@@ -147,25 +143,12 @@ fn put_assertions(text: &mut [u8], start: usize, case: &[u8], table: &[u16], cou
     let mut j: u16 = 0;
     while j < count {
         let w = row_at(table, j);
-        place = put_assertion(text, place, shape, sources, case, &previous, &threads, w);
+        place = put_assertion(
+            text, place, shape, sources, case, table, count, &previous, &threads, w,
+        );
         j += 1;
     }
     place
-}
-
-// Row j of the table.
-fn row_at(table: &[u16], j: u16) -> Constraint
-    ensures { λ r. ⌜ asRow r ≡ rowAt (now (table .entry)) j ⌝ }
-{
-    let from = ROW * j as usize;
-    Constraint {
-        kind: at(table, from),
-        one: at(table, from + 1),
-        two: at(table, from + 2),
-        three: at(table, from + 3),
-        four: at(table, from + 4),
-        five: at(table, from + 5),
-    }
 }
 
 // The assertion of a row, on a line of its own.
@@ -175,15 +158,19 @@ fn put_assertion(
     shape: Shape,
     sources: Sources,
     case: &[u8],
+    table: &[u16],
+    count: u16,
     previous: &[u16],
     threads: &[u16],
     w: Constraint,
 ) -> usize
-    requires { ⌜ RowHanded (now case) shape sources (now previous) (now threads) (asRow w) ⌝ }
+    requires { ⌜ RowHanded (now case) shape sources (now table) count (now previous) (now threads) (asRow w) ⌝ }
     ensures { λ r. ⌜ Spelt (assertion (rowAssertion (now (case .entry)) (asRow w))) (now (text .entry)) start (now (text .exit)) r ⌝ }
 {
     let mut place = put(text, start, b"(assert ");
-    place = put_row(text, place, shape, sources, case, previous, threads, w);
+    place = put_row(
+        text, place, shape, sources, case, table, count, previous, threads, w,
+    );
     put(text, place, b")\n")
 }
 
@@ -194,11 +181,13 @@ fn put_row(
     shape: Shape,
     sources: Sources,
     case: &[u8],
+    table: &[u16],
+    count: u16,
     previous: &[u16],
     threads: &[u16],
     w: Constraint,
 ) -> usize
-    requires { ⌜ RowHanded (now case) shape sources (now previous) (now threads) (asRow w) ⌝ }
+    requires { ⌜ RowHanded (now case) shape sources (now table) count (now previous) (now threads) (asRow w) ⌝ }
     ensures { λ r. ⌜ Spelt (formulaText (rowAssertion (now (case .entry)) (asRow w))) (now (text .entry)) start (now (text .exit)) r ⌝ }
 {
     let kind = w.kind;
@@ -221,16 +210,7 @@ fn put_row(
             put_five(text, start, shape, sources, l, w.one, w.two, w.three)
         }
         6 => put_walk(text, start, shape, sources, previous, w.two, w.one, w.three),
-        7 => put_goal(text, start, case),
+        7 => put_goal(text, start, shape, sources, case, table, count, threads),
         _ => put(text, start, b"false"),
     }
-}
-
-// The record of line k, by the thread that it is in.
-fn line_of(case: &[u8], threads: &[u16], k: u16) -> Record
-    requires { ⌜ LineThere (now case) (now threads) k ⌝ }
-    ensures { λ r. ⌜ asLine r k ≡ lineAt (caseOf (now (case .entry))) k ⌝ }
-{
-    let line = k as usize;
-    record_at(case, at(threads, line), line)
 }

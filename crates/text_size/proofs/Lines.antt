@@ -1,4 +1,4 @@
--- How long the assertions of a line's 4 and 5 are at the most, kind by kind. Assumes nothing. Met again in Rows.
+-- How long the assertions of a line's 4 and 5 and its part in the goal are at the most, kind by kind. Assumes nothing. Met again in Rows.
 use mathlib.Core.Path.{_≡_, refl}
 use Prim.Native.Nat.{ℕ, _+_, _*_, _≤_}
 use mathlib.Core.Bool.{true, _&&_}
@@ -8,9 +8,10 @@ use lib.Dec.{eqb, ltb, leb}
 use lib.ListN.{length}
 use Rattle.model.specs.Limits.{localCount}
 use Rattle.model.specs.CaseFile.{Kind, compute, store, load, input, assert, assume, lock, unlock, Line, Case, lineAt}
-use Rattle.model.specs.Line.{operandA, targetName}
+use Rattle.model.specs.Line.{guardName, operandA, targetName, holder}
+use Rattle.model.specs.Copies.{copyOf}
 use Rattle.smt.specs.Term.{Test, equals, bvult, bvule, disjunction, implication, Term, constant, choice, apply, Formula, truth, test, negation, join, select}
-use Rattle.script.specs.Assertions.{mostSources, equal, isZero, valueOf, localWith, isVariable, same, ownBlocks, readName, guardTrue, operand, bit, comparison, operation, expression, factOf, factsWith, facts, withFacts, isExpression, isTruth, operandsOf, guardedIn, guardedOut, notRun, lineAssertion, valueAssertion, mutexFree, demandAssertion}
+use Rattle.script.specs.Assertions.{mostSources, equal, isZero, valueOf, localWith, isVariable, same, ownBlocks, readName, guardTrue, operand, bit, comparison, operation, expression, factOf, factsWith, facts, withFacts, isExpression, isTruth, operandsOf, guardedIn, guardedOut, notRun, lineAssertion, valueAssertion, mutexReads, demandAssertion, unlocksAsStranger, orBreaks}
 use Rattle.text_size.proofs.Formulas.{testSize, termSize, size, either-formula, either-term}
 use Rattle.text_size.proofs.ReadTexts.{Atomic, local-atomic, same-size, read-name-size}
 
@@ -46,7 +47,7 @@ unfolding factsWith size
 facts-with-size t x y s [] base h k = omega arith
 facts-with-size t x y s (u ∷ others) base h k = omega (arith, fact-size t x y s u h k, facts-with-size t x y s others base h k)
 
--- A 3 or a 5, which a line meets that was not run.
+-- A 3, a 5 or what an unlock's part denies, which a line meets that was not run.
 pub or-not-run-size : (case : Case) (k : ℕ) (f : Formula) → size (join disjunction (notRun case k) f) ≡ 23 + size f
 unfolding size
 or-not-run-size case k f = omega arith
@@ -84,7 +85,8 @@ module _ (case : Case) (sources : List ℕ) (few : length sources ≤ mostSource
   is-truth-size v op x y a h k =
       omega (arith, with-facts-size op x y (equal v (choice (isZero (expression op x y)) (constant 0) (constant 1))) h k, truth-size v op x y a h k)
 
-  -- A line with its guard true, with its guard false, and the text of its 5 with what the line of an assertion has besides.
+  -- A line with its guard true, with its guard false, the text of its 5 with what the line of an assertion has besides, and its part in
+  -- the goal.
   abbrev inMost : ℕ → Kind → ℕ
   inMost reads compute = 3976
   inMost reads store = 3976
@@ -114,6 +116,16 @@ module _ (case : Case) (sources : List ℕ) (few : length sources ≤ mostSource
   demandMost reads assume = 50
   demandMost reads lock = 62 + reads
   demandMost reads unlock = 0
+
+  abbrev pub partMost : ℕ → Kind → ℕ
+  partMost reads compute = 0
+  partMost reads store = 0
+  partMost reads load = 0
+  partMost reads input = 0
+  partMost reads assert = 23
+  partMost reads assume = 0
+  partMost reads lock = 0
+  partMost reads unlock = 64 + reads
 
   module _ (reads : ℕ) (own : (t : ℕ) → 371 + 366 * length (ownBlocks case t) ≤ reads) where
     value-atomic : (k : ℕ) → Atomic (valueOf k)
@@ -146,7 +158,7 @@ module _ (case : Case) (sources : List ℕ) (few : length sources ≤ mostSource
     in-size input l a b = omega (arith, truth-most)
     in-size assert l a b = line-truth l a b
     in-size assume l a b = line-truth l a b
-    in-size lock l a b = is-number-size (l .number) 1
+    in-size lock l a b = is-number-size (l .number) (holder l)
     in-size unlock l a b = is-number-size (l .number) 0
 
     old-size : (l : Line) (target : ℕ) → size (readName case sources (valueOf (l .number)) l (targetName (case .G) l) target) ≤ reads
@@ -175,15 +187,15 @@ module _ (case : Case) (sources : List ℕ) (few : length sources ≤ mostSource
         either-formula (eqb (l .guard) 0) (guardedIn (l .kind) case sources l a b) _ (omega (arith, inside))
         (omega (arith, chosen-size (guardTrue l guard) (guardedIn (l .kind) case sources l a b) (guardedOut (l .kind) case sources l target), guard-size l guard, inside, outside))
 
-    free-size : (l : Line) (guard target : ℕ) → size (mutexFree case sources l guard target) ≤ 29 + reads
-    unfolding mutexFree size
-    free-size l guard target =
-        let read = read-name-size case sources few reads own (constant 0) zero-atomic l (targetName (case .G) l) target in
-        either-formula (eqb (l .guard) 0) (readName case sources (constant 0) l (targetName (case .G) l) target) _ (omega (arith, read))
-        (implied (readName case sources (constant 0) l (targetName (case .G) l) target) read)
+    reads-size : (n : ℕ) (l : Line) (guard target : ℕ) → size (mutexReads case sources (constant n) l guard target) ≤ 29 + reads
+    unfolding mutexReads size
+    reads-size n l guard target =
+        let read = read-name-size case sources few reads own (constant n) atomic l (targetName (case .G) l) target in
+        either-formula (eqb (l .guard) 0) (readName case sources (constant n) l (targetName (case .G) l) target) _ (omega (arith, read))
+        (implied (readName case sources (constant n) l (targetName (case .G) l) target) read)
       where
-        zero-atomic : Atomic (constant 0)
-        zero-atomic = omega arith
+        atomic : Atomic (constant n)
+        atomic = omega arith
 
         implied : (f : Formula) → size f ≤ reads → size (join implication (guardTrue l guard) f) ≤ 29 + reads
         implied f h = omega (arith, guard-size l guard)
@@ -194,10 +206,26 @@ module _ (case : Case) (sources : List ℕ) (few : length sources ≤ mostSource
 
     pub lock-size : (l : Line) (guard target : ℕ) → size (demandAssertion lock case sources l guard target) ≤ 29 + reads
     unfolding demandAssertion
-    lock-size l guard target = free-size l guard target
+    lock-size l guard target = reads-size 0 l guard target
 
-    -- Both together: a 4 that has the most has no 5.
-    kind-most : (κ : Kind) → reads ≤ 3800 → 371 ≤ reads → inMost reads κ + outMost reads κ + demandMost reads κ ≤ 3976 + reads
+    stranger-size : (l : Line) (guard target : ℕ) → size (unlocksAsStranger case sources l guard target) ≤ 58 + reads
+    unfolding unlocksAsStranger size
+    stranger-size l guard target = omega (arith, reads-size (holder l) l guard target)
+
+    pub part-size : (κ : Kind) (earlier : List Line) (l : Line) (f : Formula) → size (orBreaks κ case sources earlier l f) ≤ partMost reads κ + size f
+    unfolding orBreaks size
+    part-size compute earlier l f = omega arith
+    part-size store earlier l f = omega arith
+    part-size load earlier l f = omega arith
+    part-size input earlier l f = omega arith
+    part-size assert earlier l f = omega arith
+    part-size assume earlier l f = omega arith
+    part-size lock earlier l f = omega arith
+    part-size unlock earlier l f =
+        omega (arith, stranger-size l (copyOf (case .G) (guardName l) earlier) (copyOf (case .G) (targetName (case .G) l) earlier))
+
+    -- All together: a 4 that has the most has no 5 and no read in the goal.
+    kind-most : (κ : Kind) → reads ≤ 3800 → 371 ≤ reads → inMost reads κ + outMost reads κ + demandMost reads κ + partMost reads κ ≤ 3976 + reads
     kind-most compute h k = omega arith
     kind-most store h k = omega arith
     kind-most load h k = omega arith
@@ -214,5 +242,5 @@ module _ (case : Case) (sources : List ℕ) (few : length sources ≤ mostSource
     found-size l found guard a b target = rw found (omega (arith, line-size l guard a b target))
 
     pub line-most : reads ≤ 3800 → (l : Line) → lineAt case (l .number) ≡ l → (guard a b target : ℕ)
-        → 10 + size (valueAssertion case sources (l .number) guard a b target) + demandMost reads (l .kind) ≤ 4059 + reads
+        → 10 + size (valueAssertion case sources (l .number) guard a b target) + demandMost reads (l .kind) + partMost reads (l .kind) ≤ 4059 + reads
     line-most h l found guard a b target = omega (arith, found-size l found guard a b target, kind-most (l .kind) h (omega (arith, own 0)))

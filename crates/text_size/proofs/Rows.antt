@@ -1,4 +1,4 @@
--- How long the lines of the assertions are at the most: of the order rows, of the 4s and 5s, of the 6s and of the goal.
+-- How long the lines of the assertions are at the most: of the order rows, of the 4s and 5s with the goal, and of the 6s.
 -- Assumes nothing. Met again in Text.
 use mathlib.Core.Path.{_≡_, refl, sym, ap, subst}
 use Prim.Native.Nat.{ℕ, zero, suc, _+_, _*_, _%_, _≤_}
@@ -18,10 +18,10 @@ use Rattle.laws.specs.Order.{AllLines, AllThreads}
 use Rattle.laws.proofs.Counting.{sumFrom}
 use Rattle.smt.specs.Term.{constant, Formula, select}
 use Rattle.smt.specs.Spelling.{ascii, formulaText, assertion, assertionLines}
-use Rattle.script.specs.Assertions.{mostSources, equal, blockOf, valueOf, blockValue, valueBefore, same, ownBlocks, demandAssertion, walkBack, orBreaks, someBreaks, someThreadBreaks, assertionOf, assertionsOf}
+use Rattle.script.specs.Assertions.{mostSources, equal, blockOf, valueOf, blockValue, valueBefore, same, ownBlocks, demandAssertion, walkBack, someBreaks, someThreadBreaks, assertionOf, assertionsOf}
 use Rattle.text_size.proofs.Formulas.{size, formula-text}
 use Rattle.text_size.proofs.ReadTexts.{before-atomic, same-size}
-use Rattle.text_size.proofs.Lines.{or-not-run-size, demandMost, assume-size, lock-size, line-most}
+use Rattle.text_size.proofs.Lines.{or-not-run-size, demandMost, partMost, assume-size, lock-size, part-size, line-most}
 use Rattle.text_size.proofs.Blocks.{lineCount, lines-counted, hits, hits-from-record, hits-at-most}
 
 module _ (case : Case) (sources : List ℕ) where
@@ -74,30 +74,8 @@ module _ (case : Case) (sources : List ℕ) where
   all-order-size t (ls ∷ threads) =
       omega (arith, rows-append (orderRows case t [] ls) (allOrderRows case (suc t) threads), order-size t [] ls, lines-counted ls, all-order-size (suc t) threads)
 
-  -- ---- The goal.
-  or-size : (κ : Kind) (l : Line) (f : Formula) → size (orBreaks κ l f) ≤ 23 + size f
-  unfolding orBreaks size
-  or-size compute l f = omega arith
-  or-size store l f = omega arith
-  or-size load l f = omega arith
-  or-size input l f = omega arith
-  or-size assert l f = omega arith
-  or-size assume l f = omega arith
-  or-size lock l f = omega arith
-  or-size unlock l f = omega arith
-
-  breaks-size : (ls : List Line) (f : Formula) → size (someBreaks ls f) ≤ 23 * length ls + size f
-  unfolding someBreaks
-  breaks-size [] f = omega arith
-  breaks-size (l ∷ ls) f = omega (arith, or-size (l .kind) l (someBreaks ls f), breaks-size ls f)
-
-  pub goal-size : (threads : List (List Line)) → size (someThreadBreaks threads) ≤ 5 + 23 * lineCount threads
-  unfolding someThreadBreaks size
-  goal-size [] = omega arith
-  goal-size (ls ∷ threads) = omega (arith, breaks-size ls (someThreadBreaks threads), lines-counted ls, goal-size threads)
-
   module _ (few : length sources ≤ mostSources) where
-    -- ---- The 4s and 5s, of lines that their numbers find.
+    -- ---- The 4s and 5s and the goal, of lines that their numbers find.
     module _ (reads : ℕ) (own : (t : ℕ) → 371 + 366 * length (ownBlocks case t) ≤ reads) (small : reads ≤ 3800) where
       of-kind : (κ : Kind) (l : Line) → l .kind ≡ κ → (guard target : ℕ) {n : ℕ} → size (demandAssertion κ case sources l guard target) ≤ n
           → size (demandAssertion (l .kind) case sources l guard target) ≤ n
@@ -129,7 +107,7 @@ module _ (case : Case) (sources : List ℕ) where
       demand-size unlock earlier l e = omega arith
 
       value-size : (earlier : List Line) (l : Line) → lineAt case (l .number) ≡ l
-          → 10 + size (assertionOf case sources (valueRow case earlier l)) + rowsSize (demandRows (l .kind) case earlier l) ≤ 4059 + reads
+          → 10 + size (assertionOf case sources (valueRow case earlier l)) + rowsSize (demandRows (l .kind) case earlier l) + partMost case sources few reads (l .kind) ≤ 4059 + reads
       unfolding assertionOf
       value-size earlier l found =
           omega (
@@ -139,27 +117,29 @@ module _ (case : Case) (sources : List ℕ) where
             demand-size (l .kind) earlier l (ap (λ (m : Line). m .kind) found),
           )
 
-      values-size : (earlier ls : List Line) → AllLines (λ l. lineAt case (l .number) ≡ l) ls → rowsSize (valueRows case earlier ls) ≤ (4059 + reads) * length ls
-      unfolding valueRows rowsSize
-      values-size earlier [] found = omega (arith, mul-zero (4059 + reads))
-      values-size earlier (l ∷ ls) found =
+      values-size : (earlier ls : List Line) (f : Formula) → AllLines (λ l. lineAt case (l .number) ≡ l) ls
+          → rowsSize (valueRows case earlier ls) + size (someBreaks case sources earlier ls f) ≤ (4059 + reads) * length ls + size f
+      unfolding valueRows rowsSize someBreaks
+      values-size earlier [] f found = omega (arith, mul-zero (4059 + reads))
+      values-size earlier (l ∷ ls) f found =
           omega (
             arith,
             rows-append (demandRows (l .kind) case earlier l) (valueRows case (l ∷ earlier) ls),
             value-size earlier l (found .0),
-            values-size (l ∷ earlier) ls (found .1),
+            part-size case sources few reads own (l .kind) earlier l (someBreaks case sources (l ∷ earlier) ls f),
+            values-size (l ∷ earlier) ls f (found .1),
             mul-suc (4059 + reads) (length ls),
           )
 
       pub all-values-size : (threads : List (List Line)) → AllThreads (λ l. lineAt case (l .number) ≡ l) threads
-          → rowsSize (allValueRows case threads) ≤ (4059 + reads) * lineCount threads
-      unfolding allValueRows rowsSize
+          → rowsSize (allValueRows case threads) + size (someThreadBreaks case sources threads) ≤ (4059 + reads) * lineCount threads + 5
+      unfolding allValueRows rowsSize someThreadBreaks size
       all-values-size [] found = omega (arith, mul-zero (4059 + reads))
       all-values-size (ls ∷ threads) found =
           omega (
             arith,
             rows-append (valueRows case [] ls) (allValueRows case threads),
-            values-size [] ls (found .0),
+            values-size [] ls (someThreadBreaks case sources threads) (found .0),
             ap (λ (many : ℕ). (4059 + reads) * many) (lines-counted ls),
             all-values-size threads (found .1),
             mul-add (4059 + reads) (sumOfLines (λ l. 1) ls) (lineCount threads),

@@ -23,11 +23,11 @@ use Rattle.laws.proofs.Lines.{numbers-once}
 use Rattle.laws.proofs.Sizes.{item-numbers, assignment-numbers}
 use Rattle.laws.proofs.Views.{LtView, below, above, lt-view}
 use Rattle.smt.specs.Spelling.{ascii, logicLine, declaration, declarations, assertionLines, questionLine, scriptText}
-use Rattle.script.specs.Assertions.{sourcesOf, ownBlocks, assertionOf, assertionsOf, scriptOf}
+use Rattle.script.specs.Assertions.{sourcesOf, ownBlocks, someThreadBreaks, assertionOf, assertionsOf, scriptOf}
 use Rattle.script.specs.Text.{smtText, mostTextBytes}
-use Rattle.text_size.proofs.Formulas.{five-digits}
+use Rattle.text_size.proofs.Formulas.{size, five-digits}
 use Rattle.text_size.proofs.Blocks.{sources-few, blocks-few, lineCount, lines-are-few, lines-a-thread}
-use Rattle.text_size.proofs.Rows.{rowsSize, rows-append, lines-text, all-order-size, goal-size, all-values-size, blocks-size}
+use Rattle.text_size.proofs.Rows.{rowsSize, rows-append, lines-text, all-order-size, all-values-size, blocks-size}
 
 declaration-length : (k : ℕ) → length (declaration k) ≤ 38
 unfolding declaration
@@ -52,13 +52,13 @@ module _ (bytes : List ℕ) (ok : Accepted bytes) where
   found : AllThreads (λ l. lineAt case (l .number) ≡ l) (case .threads)
   found = all-threads (λ l. lineAt case (l .number) ≡ l) (case .threads) (λ t h. line-found case (numbers-once bytes ok) t)
 
-  goal-row-size : rowsSize case (sourcesOf case) (goalRow ∷ []) ≤ 15 + 23 * lineCount (case .threads)
+  goal-row-size : rowsSize case (sourcesOf case) (goalRow ∷ []) ≡ 10 + size (someThreadBreaks case (sourcesOf case) (case .threads))
   unfolding rowsSize assertionOf
-  goal-row-size = omega (arith, goal-size case (sourcesOf case) (case .threads))
+  goal-row-size = omega arith
 
   -- The assertions, where no read has more than so many bytes.
   module _ (reads : ℕ) (own : (t : ℕ) → 371 + 366 * length (ownBlocks case t) ≤ reads) (small : reads ≤ 3800) where
-    table-size : rowsSize case (sourcesOf case) (table case) ≤ 120 * lineCount (case .threads) + (4059 + reads) * lineCount (case .threads) + 414555
+    table-size : rowsSize case (sourcesOf case) (table case) ≤ 97 * lineCount (case .threads) + (4059 + reads) * lineCount (case .threads) + 414555
     unfolding table runRows
     table-size =
         let orders = allOrderRows case 0 (case .threads) in
@@ -77,7 +77,7 @@ module _ (bytes : List ℕ) (ok : Accepted bytes) where
           goal-row-size,
         )
 
-    text-size : length (smtText bytes) ≤ 120 * lineCount (case .threads) + (4059 + reads) * lineCount (case .threads) + 440881
+    text-size : length (smtText bytes) ≤ 97 * lineCount (case .threads) + (4059 + reads) * lineCount (case .threads) + 440881
     unfolding smtText scriptText scriptOf
     text-size =
         let declared = declarations 0 (variables case) in

@@ -11,8 +11,8 @@ value-variable-requires c κs = search needs
 put-equal-requires : tie.Need-put-equal-requires
 put-equal-requires c κs = search needs
 
-put-free-requires : tie.Need-put-free-requires
-put-free-requires c κs = search needs
+put-reads-requires : tie.Need-put-reads-requires
+put-reads-requires c κs = search needs
 
 slice-aggregate-put : tie.Need-slice-aggregate-put
 slice-aggregate-put c = search needs
@@ -30,7 +30,7 @@ same-length-2 : tie.Need-same-length-2
 same-length-2 c = search needs
 
 returns-2 : tie.Need-returns-2
-returns-2 c = λ case s q. demand-lock case _ _ _ _ (kind-7 _ (c .before .before .before .before .match .keys2)) (c .before .before .put-free .ensures case s q)
+returns-2 c = λ case s q. demand-lock case _ _ _ _ (kind-7 _ (c .before .before .before .before .match .keys2)) (c .before .before .put-reads .ensures case s q)
 
 same-length-3 : tie.Need-same-length-3
 same-length-3 c = search needs
@@ -44,7 +44,7 @@ put-demand-spec =
     (tie.spec
     value-variable-requires
     put-equal-requires
-    put-free-requires
+    put-reads-requires
     slice-aggregate-put
     put-requires
     same-length

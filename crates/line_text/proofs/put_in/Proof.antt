@@ -38,6 +38,9 @@ put-is-truth-requires c κs = search needs
 put-is-truth-requires-2 : tie.Need-put-is-truth-requires-2
 put-is-truth-requires-2 c κs = search needs
 
+holder-requires : tie.Need-holder-requires
+holder-requires c κs = search needs
+
 put-equal-requires : tie.Need-put-equal-requires
 put-equal-requires c κs = search needs
 
@@ -84,7 +87,7 @@ same-length-7 : tie.Need-same-length-7
 same-length-7 c = search needs
 
 returns-7 : tie.Need-returns-7
-returns-7 c = λ case s q. in-lock case _ _ _ _ (c .before .before .before .before .before .before .before .value-variable .ensures) (kind-7 _ (c .before .before .before .before .match .keys7)) (c .before .before .put-equal .ensures)
+returns-7 c = λ case s q. in-lock case _ _ _ _ (c .before .before .before .before .before .before .before .before .value-variable .ensures) (kind-7 _ (c .before .before .before .before .before .match .keys7)) (c .before .before .before .holder .ensures (c .before .before .before .before .before .before .before .before .before .before .args .k)) (c .before .before .put-equal .ensures)
 
 same-length-8 : tie.Need-same-length-8
 same-length-8 c = search needs
@@ -107,6 +110,7 @@ put-in-spec =
     put-requires
     put-is-truth-requires
     put-is-truth-requires-2
+    holder-requires
     put-equal-requires
     put-equal-requires-2
     same-length

@@ -36,22 +36,22 @@ slice-aggregate-put-assertion-2 : tie.Need-slice-aggregate-put-assertion-2 Inv-l
 slice-aggregate-put-assertion-2 c = search needs
 
 put-assertion-requires : tie.Need-put-assertion-requires Inv-loop μ-loop
-put-assertion-requires c κs = row-handed (c .before .before .before .before .before .before .before .before .before .before .before .before .before .pre) (c .before .before .before .before .before .before .before .before .before .shape-of .ensures) (c .before .before .before .before .before .before .before .before .sources-of .ensures) (c .before .before .before .before .before .before .before .previous-copies .ensures _ (c .before .before .before .before .before .before .before .before .before .before .before .before .before .pre .accepted) (c .before .before .before .before .before .before .before .before .before .before .before .before .before .pre .has)) (c .before .before .before .before .before .before .threads-of .ensures _ (c .before .before .before .before .before .before .before .before .before .before .before .before .before .pre .accepted) (c .before .before .before .before .before .before .before .before .before .before .before .before .before .pre .has)) (c .before .before .before .before .loop-test .taken) (c .before .before .before .row-at .ensures)
+put-assertion-requires c κs = row-handed (@pre) (@shape-of .ensures) (@sources-of .ensures) (@previous-copies .ensures _ (@pre .accepted) (@pre .has)) (@threads-of .ensures _ (@pre .accepted) (@pre .has)) (@loop-test .taken) (@row-at .ensures)
 
 add-j : tie.Need-add-j Inv-loop μ-loop
-add-j c = let few = rows-few (c .before .before .before .before .before .before .before .before .before .before .before .before .before .before .before .before .pre) in search needs
+add-j c = let few = rows-few (@pre) in search needs
 
 loop-less : tie.Need-loop-less Inv-loop μ-loop
 loop-less c = search needs
 
 loop-again : tie.Need-loop-again Inv-loop μ-loop
-loop-again c = asserting-more (c .before .before .before .before .before .before .before .before .before .before .before .before .before .before .before .before .pre) (c .before .before .before .before .before .before .before .before .loop .inv) (c .before .before .before .before .before .before .before .loop-test .taken) (c .before .before .before .before .before .before .row-at .ensures) (c .before .before .put-assertion .ensures)
+loop-again c = asserting-more (@pre) (@loop .inv) (@loop-test .taken) (@row-at .ensures) (@put-assertion .ensures)
 
 same-length : tie.Need-same-length Inv-loop μ-loop
-same-length c = c .before .loop .inv .left .spelt .same
+same-length c = @loop .inv .left .spelt .same
 
 returns : tie.Need-returns Inv-loop μ-loop
-returns c = asserting-end (c .before .before .before .before .before .before .before .before .before .pre) (c .before .loop .inv) (c .loop-test .left)
+returns c = asserting-end (@pre) (@loop .inv) (@loop-test .left)
 
 pub put-assertions-spec : {M : Type 1} → statement M
 put-assertions-spec =

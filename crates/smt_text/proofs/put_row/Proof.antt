@@ -1,5 +1,6 @@
 -- `put_row` is by the kind of the row. Assumes nothing.
 use borrow.Author.Needs.{needs}
+use Rattle.line_threads.proofs.RecordLines.{thread-low}
 use Rattle.smt_text.proofs.Rows.{line-handed, follows-spelt, last-spelt, thread-spelt, value-spelt, demand-spelt, walk-spelt, goal-spelt, other-spelt}
 use Rattle.smt_text.proofs.put_row.Statement.{statement}
 use Rattle.smt_text.proofs.put_row.Tie as tie
@@ -14,13 +15,13 @@ put-three-requires : tie.Need-put-three-requires
 put-three-requires c κs = search needs
 
 line-of-requires : tie.Need-line-of-requires
-line-of-requires c κs = line-handed (c .before .before .before .before .before .pre) (c .match .keys4) (search needs)
+line-of-requires c κs = line-handed (@pre) (@match .keys4) (search needs)
 
 put-four-requires : tie.Need-put-four-requires
-put-four-requires c κs = search needs
+put-four-requires c κs = let low = thread-low (line-handed (@pre) (@match .keys4) (search needs)) _ (@line-of .ensures) in search needs
 
 line-of-requires-2 : tie.Need-line-of-requires-2
-line-of-requires-2 c κs = line-handed (c .before .before .before .before .before .pre) (c .match .keys5) (search needs)
+line-of-requires-2 c κs = line-handed (@pre) (@match .keys5) (search needs)
 
 put-five-requires : tie.Need-put-five-requires
 put-five-requires c κs = search needs
@@ -41,49 +42,49 @@ same-length : tie.Need-same-length
 same-length c = search needs
 
 returns : tie.Need-returns
-returns c = follows-spelt _ _ (c .before .before .before .before .match .keys1) (c .before .before .put-one .ensures)
+returns c = follows-spelt _ _ (@match .keys1) (@put-one .ensures)
 
 same-length-2 : tie.Need-same-length-2
 same-length-2 c = search needs
 
 returns-2 : tie.Need-returns-2
-returns-2 c = last-spelt _ _ (c .before .before .before .before .before .before .before .before .before .pre .known .of) (c .before .before .before .before .match .keys2) (c .before .before .put-last .ensures _ (c .before .before .before .before .before .before .before .before .before .pre .shaped))
+returns-2 c = last-spelt _ _ (@pre .known .of) (@match .keys2) (@put-last .ensures _ (@pre .handed .shaped))
 
 same-length-3 : tie.Need-same-length-3
 same-length-3 c = search needs
 
 returns-3 : tie.Need-returns-3
-returns-3 c = thread-spelt _ _ (c .before .before .before .before .match .keys3) (c .before .before .put-three .ensures _ (c .before .before .before .before .before .before .before .before .before .pre .shaped))
+returns-3 c = thread-spelt _ _ (@match .keys3) (@put-three .ensures _ (@pre .handed .shaped))
 
 same-length-4 : tie.Need-same-length-4
 same-length-4 c = search needs
 
 returns-4 : tie.Need-returns-4
-returns-4 c = value-spelt _ _ (c .before .before .before .before .before .match .keys4) (c .before .before .put-four .ensures _ (c .before .before .before .before .before .before .before .before .before .before .pre .shaped) (c .before .before .before .before .before .before .before .before .before .before .pre .sourced) (c .before .before .before .before .line-of .ensures))
+returns-4 c = value-spelt _ _ (@match .keys4) (@put-four .ensures _ (@pre .handed .shaped) (@pre .handed .sourced) (@line-of .ensures))
 
 same-length-5 : tie.Need-same-length-5
 same-length-5 c = search needs
 
 returns-5 : tie.Need-returns-5
-returns-5 c = demand-spelt _ _ (c .before .before .before .before .before .match .keys5) (c .before .before .put-five .ensures _ (c .before .before .before .before .before .before .before .before .before .before .pre .shaped) (c .before .before .before .before .before .before .before .before .before .before .pre .sourced) (c .before .before .before .before .line-of2 .ensures))
+returns-5 c = demand-spelt _ _ (@match .keys5) (@put-five .ensures _ (@pre .handed .shaped) (@pre .handed .sourced) (@line-of2 .ensures))
 
 same-length-6 : tie.Need-same-length-6
 same-length-6 c = search needs
 
 returns-6 : tie.Need-returns-6
-returns-6 c = walk-spelt _ _ (c .before .before .before .before .before .before .before .before .before .pre .known) (c .before .before .before .before .match .keys6) (c .before .before .put-walk .ensures _ (c .before .before .before .before .before .before .before .before .before .pre .shaped) (c .before .before .before .before .before .before .before .before .before .pre .sourced))
+returns-6 c = walk-spelt _ _ (@pre .known) (@match .keys6) (@put-walk .ensures _ (@pre .handed .shaped) (@pre .handed .sourced))
 
 same-length-7 : tie.Need-same-length-7
 same-length-7 c = search needs
 
 returns-7 : tie.Need-returns-7
-returns-7 c = goal-spelt _ _ (c .before .before .before .before .match .keys7) (c .before .before .put-goal .ensures)
+returns-7 c = goal-spelt _ _ (@match .keys7) (@put-goal .ensures)
 
 same-length-8 : tie.Need-same-length-8
 same-length-8 c = search needs
 
 returns-8 : tie.Need-returns-8
-returns-8 c = other-spelt _ _ (c .before .before .before .before .before .match .rest) (c .before .before .put .ensures)
+returns-8 c = other-spelt _ _ (@match .rest) (@put .ensures)
 
 pub put-row-spec : {M : Type 1} → statement M
 put-row-spec =

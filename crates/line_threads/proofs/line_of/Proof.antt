@@ -1,8 +1,8 @@
 -- `line_of` reads the record with the thread that was noted for it. Assumes nothing.
 use borrow.Author.Needs.{needs}
-use Rattle.smt_text.proofs.Rows.{line-there}
-use Rattle.smt_text.proofs.line_of.Statement.{statement}
-use Rattle.smt_text.proofs.line_of.Tie as tie
+use Rattle.line_threads.proofs.RecordLines.{line-there}
+use Rattle.line_threads.proofs.line_of.Statement.{statement}
+use Rattle.line_threads.proofs.line_of.Tie as tie
 
 at-requires : tie.Need-at-requires
 at-requires c κs = search needs

@@ -1,11 +1,11 @@
--- `assert_count` counts the asserts, a record at a time. Assumes nothing.
+-- `part_count` counts the parts, a record at a time. Assumes nothing.
 use borrow.Author.Needs.{needs}
 use Prim.Native.Nat.{_+_, _-_}
 use native.Mathlib.Omega.{arith}
-use Rattle.model.specs.CaseFile.{records, kindOf}
-use Rattle.smt_parts.proofs.Asserts.{asserts-at-most-one, Numbering, numbering-start, numbering-more, numbering-end}
-use Rattle.smt_parts.proofs.assert_count.Statement.{statement}
-use Rattle.smt_parts.proofs.assert_count.Tie as tie
+use Rattle.model.specs.CaseFile.{records}
+use Rattle.goal_text.proofs.Parts.{bit-at-most-one, Numbering, numbering-start, numbering-more, numbering-end}
+use Rattle.goal_text.proofs.part_count.Statement.{statement}
+use Rattle.goal_text.proofs.part_count.Tie as tie
 
 abbrev Inv-loop : tie.InvT-loop
 Inv-loop case last n₀ k₀ n k = Numbering case k n
@@ -22,11 +22,17 @@ loop-holds c = numbering-start _
 kind-of-requires : tie.Need-kind-of-requires Inv-loop μ-loop
 kind-of-requires c κs = search needs
 
-is-assert-requires : tie.Need-is-assert-requires Inv-loop μ-loop
-is-assert-requires c κs = search needs
+has-part-requires : tie.Need-has-part-requires Inv-loop μ-loop
+has-part-requires c κs = search needs
+
+bit-of-requires : tie.Need-bit-of-requires Inv-loop μ-loop
+bit-of-requires c κs = search needs
+
+cast-n : tie.Need-cast-n Inv-loop μ-loop
+cast-n c = search needs
 
 add-n : tie.Need-add-n Inv-loop μ-loop
-add-n c = omega (arith, asserts-at-most-one (kindOf (c .before .kind-of .result)), c .is-assert .ensures)
+add-n c = omega (arith, bit-at-most-one (c .before .has-part .result), c .bit-of .ensures)
 
 add-k : tie.Need-add-k Inv-loop μ-loop
 add-k c = search needs
@@ -35,13 +41,13 @@ loop-less : tie.Need-loop-less Inv-loop μ-loop
 loop-less c = search needs
 
 loop-again : tie.Need-loop-again Inv-loop μ-loop
-loop-again c = numbering-more (c .before .before .before .loop .inv) (search needs) (c .before .kind-of .ensures) (c .is-assert .ensures)
+loop-again c = numbering-more (c .before .before .before .before .loop .inv) (search needs) (c .before .before .kind-of .ensures) (c .before .has-part .ensures) (c .bit-of .ensures)
 
 returns : tie.Need-returns Inv-loop μ-loop
 returns c = numbering-end (c .before .loop .inv) (c .before .before .before .before .pre) (search needs)
 
-pub assert-count-spec : {M : Type 1} → statement M
-assert-count-spec =
+pub part-count-spec : {M : Type 1} → statement M
+part-count-spec =
     tie.close
     (tie.spec
     Inv-loop
@@ -49,7 +55,9 @@ assert-count-spec =
     records-requires
     loop-holds
     kind-of-requires
-    is-assert-requires
+    has-part-requires
+    bit-of-requires
+    cast-n
     add-n
     add-k
     loop-less

@@ -1,8 +1,8 @@
--- `put_break` puts an equation and a blank. Assumes nothing.
+-- `put_zero` puts an equation and a blank. Assumes nothing.
 use borrow.Author.Needs.{needs}
-use Rattle.smt_parts.proofs.Heads.{break-spelt}
-use Rattle.smt_parts.proofs.put_break.Statement.{statement}
-use Rattle.smt_parts.proofs.put_break.Tie as tie
+use Rattle.goal_text.proofs.Heads.{zero-spelt}
+use Rattle.goal_text.proofs.put_zero.Statement.{statement}
+use Rattle.goal_text.proofs.put_zero.Tie as tie
 
 value-variable-requires : tie.Need-value-variable-requires
 value-variable-requires c κs = search needs
@@ -26,10 +26,10 @@ same-length : tie.Need-same-length
 same-length c = search needs
 
 returns : tie.Need-returns
-returns c = break-spelt _ (c .before .before .before .before .before .before .before .before .before .before .before .before .before .before .value-variable .ensures) (c .before .before .before .before .before .before .before .before .before .before .before .put .ensures) (c .before .before .before .before .before .before .before .put-equal .ensures) (c .before .before .put2 .ensures)
+returns c = zero-spelt _ (c .before .before .before .before .before .before .before .before .before .before .before .before .before .before .value-variable .ensures) (c .before .before .before .before .before .before .before .before .before .before .before .put .ensures) (c .before .before .before .before .before .before .before .put-equal .ensures) (c .before .before .put2 .ensures)
 
-pub put-break-spec : {M : Type 1} → statement M
-put-break-spec =
+pub put-zero-spec : {M : Type 1} → statement M
+put-zero-spec =
     tie.close
     (tie.spec
     value-variable-requires

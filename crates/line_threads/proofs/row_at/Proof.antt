@@ -1,7 +1,7 @@
 -- `row_at` reads six numbers. Assumes nothing.
 use borrow.Author.Needs.{needs}
-use Rattle.smt_text.proofs.row_at.Statement.{statement}
-use Rattle.smt_text.proofs.row_at.Tie as tie
+use Rattle.line_threads.proofs.row_at.Statement.{statement}
+use Rattle.line_threads.proofs.row_at.Tie as tie
 
 mul-from : tie.Need-mul-from
 mul-from c = search needs
