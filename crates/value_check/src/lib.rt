@@ -99,12 +99,15 @@ fn asked_in<'a>(
             breaks: false,
             name: LOCALS + (counts.globals + target),
         },
-        _ => Asked {
-            value: 0,
-            met: true,
-            breaks: line::breaks(items, counts, l, value),
-            name: LOCALS + (counts.globals + target),
-        },
+        _ => {
+            let stranger = line::breaks(items, counts, l, value);
+            Asked {
+                value: 0,
+                met: true,
+                breaks: stranger,
+                name: LOCALS + (counts.globals + target),
+            }
+        }
     }
 }
 

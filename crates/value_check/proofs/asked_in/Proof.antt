@@ -75,11 +75,11 @@ add-item-at c = search needs
 item-at-requires-2 : tie.Need-item-at-requires-2
 item-at-requires-2 c κs = search needs
 
-add-t29 : tie.Need-add-t29
-add-t29 c = search needs
-
 add-t30 : tie.Need-add-t30
 add-t30 c = search needs
+
+add-t31 : tie.Need-add-t31
+add-t31 c = search needs
 
 breaks-requires-2 : tie.Need-breaks-requires-2
 breaks-requires-2 c κs = search needs
@@ -168,8 +168,8 @@ asked-in-spec =
     holder-requires
     add-item-at
     item-at-requires-2
-    add-t29
     add-t30
+    add-t31
     breaks-requires-2
     add-t32
     add-t33
