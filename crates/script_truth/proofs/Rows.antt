@@ -196,9 +196,12 @@ module _ (case : Case) (xs sources : List ℕ) where
             ≡ (not (eqb (α .block (l .number)) (suc (case .n))) && (guardTrue l after && not (eqb (after .target) (holder l))))
         go (same e asked) = rw asked refl
         go (diff e asked) =
-            rw (asked, mutex-value case xs sources l (placed .fields) (placed .own e) guard target (holder l),
+            rw (
+              asked,
+              mutex-value case xs sources l (placed .fields) (placed .own e) guard target (holder l),
               guard-same l reads after (copy-reads case few α (α .block (l .number)) earlier (guardName l)),
-              copy-reads case few α (α .block (l .number)) earlier (targetName (case .G) l))
+              copy-reads case few α (α .block (l .number)) earlier (targetName (case .G) l),
+            )
             (not-the-holder (guardTrue l after) (holder l) (after .target))
 
     or-break : (kind : Kind) (earlier : List Line) (l : Line) (others : Formula) → Placed case α l
