@@ -9,7 +9,9 @@ use crate::ask::{byte_marks, listing, marks};
 use crate::calls::{Calls, Checked, Decoded, Encoded, Listed, Replayed, Verdict};
 use crate::damage::{damaged, random_bytes, scratched};
 use crate::draft::Draft;
-use crate::generate::{accepted, Shape, ANY, BUSY, FULL, LONG, SMALL, SMALL_WITH_INPUTS};
+use crate::generate::{
+    accepted, Shape, ANY, BUSY, FULL, HOLDERS, HOLDERS_WITH_INPUTS, LONG, MANY_HOLDERS, SMALL, SMALL_WITH_INPUTS,
+};
 use crate::random::Random;
 use crate::report::{Outcome, Tally};
 use crate::second;
@@ -20,7 +22,7 @@ use crate::vary::{assignments, damage_schedule, filled, schedule, some_room};
 pub type Comparison = fn(&dyn Calls, u64, &mut Tally) -> Outcome;
 
 /// The shapes of random cases, taken in turn.
-pub const SHAPES: [Shape; 6] = [SMALL, SMALL_WITH_INPUTS, ANY, LONG, BUSY, FULL];
+pub const SHAPES: [Shape; 9] = [SMALL, SMALL_WITH_INPUTS, ANY, LONG, BUSY, FULL, HOLDERS, HOLDERS_WITH_INPUTS, MANY_HOLDERS];
 
 /// Verdicts on accepted, damaged and random files.
 pub fn verdicts(calls: &dyn Calls, count: u64, tally: &mut Tally) -> Outcome {

@@ -21,6 +21,8 @@ pub struct Shape {
     /// How often, in a hundred, lines that belong together are made: such that
     /// read a global and then use it.
     pub together: usize,
+    /// How often, in a hundred, such lines are about a mutex instead.
+    pub holding: usize,
 }
 
 /// Everything that is allowed.
@@ -34,6 +36,7 @@ pub const ANY: Shape = Shape {
     inputs: 8,
     cutting: 12,
     together: 10,
+    holding: 0,
 };
 
 /// Long threads whose runs are seldom cut off, so that violations are met.
@@ -53,6 +56,7 @@ pub const SMALL: Shape = Shape {
     inputs: 0,
     cutting: 15,
     together: 45,
+    holding: 0,
 };
 
 /// As small, with inputs.
@@ -70,6 +74,7 @@ pub const BUSY: Shape = Shape {
     inputs: 0,
     cutting: 25,
     together: 75,
+    holding: 0,
 };
 
 /// As busy, with inputs.
@@ -86,6 +91,30 @@ pub const MANY_INPUTS: Shape = Shape { inputs: 30, globals: (1, 3), mutexes: (0,
 
 /// Four threads, most of them short.
 pub const FOUR_THREADS: Shape = Shape { threads: (4, 4), switches: (4, 6), lines: (0, 3), ..BUSY };
+
+/// Several mutexes, which are unlocked by their holders and by others.
+pub const HOLDERS: Shape = Shape { globals: (1, 1), mutexes: (1, 3), cutting: 10, together: 90, holding: 75, ..BUSY };
+
+/// As many, with inputs.
+pub const HOLDERS_WITH_INPUTS: Shape = Shape { inputs: 40, switches: (2, 4), together: 70, ..HOLDERS };
+
+/// So few runs that a solver can be asked for every one that violates.
+pub const TINY_HOLDERS: Shape = Shape { threads: (2, 2), switches: (1, 3), mutexes: (1, 2), lines: (1, 3), ..HOLDERS };
+
+/// Four threads, most of them short.
+pub const FOUR_HOLDERS: Shape = Shape { mutexes: (2, 4), holding: 85, ..FOUR_THREADS };
+
+/// Longer threads, with many mutexes.
+pub const MANY_HOLDERS: Shape = Shape {
+    threads: (2, 4),
+    switches: (3, 15),
+    mutexes: (2, 4),
+    lines: (4, 24),
+    locals: 4,
+    cutting: 1,
+    together: 60,
+    ..HOLDERS
+};
 
 /// An accepted case with shuffled record numbers.
 pub fn accepted(random: &mut Random, shape: Shape) -> Draft {
@@ -114,14 +143,18 @@ fn thread_lines(random: &mut Random, shape: Shape, draft: &Draft) -> Vec<Line> {
     let mut lines = Vec::new();
     while lines.len() < count {
         if draft.globals > 0 && random.chance(shape.together) {
-            lines.extend(lines_together(random, shape, draft));
+            // No number is drawn for a shape without them, so that it keeps its cases.
+            let of_mutex = shape.holding > 0 && random.chance(shape.holding);
+            let made = if of_mutex { lines_of_mutex } else { lines_together };
+            lines.extend(made(random, shape, draft));
         } else {
             lines.push(line(random, shape, draft));
         }
     }
     lines.truncate(count);
+    let freed = if shape.holding > 0 { 25 } else { 75 };
     for place in 0..lines.len() {
-        if lines[place].kind == LOCK && random.chance(75) {
+        if lines[place].kind == LOCK && random.chance(freed) {
             free_later(random, &mut lines, place);
         }
     }
@@ -168,6 +201,33 @@ fn lines_together(random: &mut Random, shape: Shape, draft: &Draft) -> Vec<Line>
             vec![lock(mutex), store(global, expression(random, shape)), unlock(mutex)]
         }
         _ => vec![store(global, constant(random.word()))],
+    }
+}
+
+/// A mutex is locked and unlocked, both under one guard or only one of them; or it
+/// is unlocked by a thread that did not lock it, often just where a global or the
+/// guard says so, and with a test before or behind.
+fn lines_of_mutex(random: &mut Random, shape: Shape, draft: &Draft) -> Vec<Line> {
+    if draft.mutexes == 0 {
+        return lines_together(random, shape, draft);
+    }
+    let (mine, mutex) = (some_local(random, shape), some_mutex(random, draft));
+    let guard = random.pick(&[1, 17]) + mine;
+    let first = load(mine, some_global(random, draft));
+    let holds = assert(test(random, shape));
+    match random.below(18) {
+        0..=2 => vec![lock(mutex), line(random, shape, draft), unlock(mutex)],
+        3 => vec![lock(mutex), holds, unlock(mutex)],
+        4 => vec![first, lock(mutex).guarded(guard), unlock(mutex).guarded(guard)],
+        5 => vec![first, lock(mutex).guarded(guard), unlock(mutex)],
+        6 => vec![lock(mutex), unlock(mutex).guarded(guard)],
+        7..=10 => vec![lock(mutex), store(some_global(random, draft), constant(random.word()))],
+        11..=12 => vec![first, unlock(mutex).guarded(guard)],
+        13 => vec![first, holds, unlock(mutex).guarded(guard)],
+        14 => vec![unlock(mutex)],
+        15 => vec![unlock(mutex), holds],
+        16 => vec![holds, unlock(mutex)],
+        _ => vec![unlock(mutex).guarded(guard), assume(test(random, shape))],
     }
 }
 

@@ -72,6 +72,11 @@ impl Line {
     }
 }
 
+/// What a mutex has that this thread holds.
+pub fn holder(thread: usize) -> u16 {
+    1 + thread as u16
+}
+
 /// What an op gives.
 pub fn apply(op: u16, a: u16, b: u16) -> u16 {
     let (a, b) = (u32::from(a), u32::from(b));
