@@ -124,9 +124,9 @@ pub fn accepted(random: &mut Random, shape: Shape) -> Draft {
     let initial = random.words(usize::from(globals));
     let mut draft =
         Draft::new(threads, switches).with_globals(&initial).with_mutexes(random.between(shape.mutexes.0, shape.mutexes.1));
-    for thread in 0..usize::from(threads) {
-        let lines = thread_lines(random, shape, &draft);
-        draft = draft.with_thread(thread, &lines);
+    for thread in 0..threads {
+        let lines = thread_lines(random, shape, &draft, thread);
+        draft = draft.with_thread(thread.into(), &lines);
     }
     shuffled(random, &draft)
 }
@@ -138,15 +138,17 @@ pub fn shuffled(random: &mut Random, draft: &Draft) -> Draft {
     draft.renumbered(&numbers)
 }
 
-fn thread_lines(random: &mut Random, shape: Shape, draft: &Draft) -> Vec<Line> {
+fn thread_lines(random: &mut Random, shape: Shape, draft: &Draft, thread: u16) -> Vec<Line> {
     let count = usize::from(line_count(random, shape));
     let mut lines = Vec::new();
     while lines.len() < count {
         if draft.globals > 0 && random.chance(shape.together) {
             // No number is drawn for a shape without them, so that it keeps its cases.
             let of_mutex = shape.holding > 0 && random.chance(shape.holding);
-            let made = if of_mutex { lines_of_mutex } else { lines_together };
-            lines.extend(made(random, shape, draft));
+            lines.extend(match of_mutex {
+                true => lines_of_mutex(random, shape, draft, thread),
+                false => lines_together(random, shape, draft),
+            });
         } else {
             lines.push(line(random, shape, draft));
         }
@@ -204,30 +206,38 @@ fn lines_together(random: &mut Random, shape: Shape, draft: &Draft) -> Vec<Line>
     }
 }
 
-/// A mutex is locked and unlocked, both under one guard or only one of them; or it
-/// is unlocked by a thread that did not lock it, often just where a global or the
-/// guard says so, and with a test before or behind.
-fn lines_of_mutex(random: &mut Random, shape: Shape, draft: &Draft) -> Vec<Line> {
-    if draft.mutexes == 0 {
-        return lines_together(random, shape, draft);
-    }
-    let (mine, mutex) = (some_local(random, shape), some_mutex(random, draft));
+/// A mutex is locked, and mostly unlocked, both under one guard or only one of
+/// them; or one is unlocked that the thread did not lock, often just where a global
+/// says so, and with a test before or behind.
+fn lines_of_mutex(random: &mut Random, shape: Shape, draft: &Draft, thread: u16) -> Vec<Line> {
+    let (mine, global) = (some_local(random, shape), some_global(random, draft));
     let guard = random.pick(&[1, 17]) + mine;
-    let first = load(mine, some_global(random, draft));
+    let first = load(mine, global);
     let holds = assert(test(random, shape));
+    // Each mutex has a thread that mostly locks it, so that few locks fail.
+    let (own, others): (Vec<u16>, Vec<u16>) = (0..draft.mutexes).partition(|mutex| mutex % draft.threads == thread);
+    let (mutex, other) = (mostly(random, &own, draft), mostly(random, &others, draft));
     match random.below(18) {
         0..=2 => vec![lock(mutex), line(random, shape, draft), unlock(mutex)],
         3 => vec![lock(mutex), holds, unlock(mutex)],
         4 => vec![first, lock(mutex).guarded(guard), unlock(mutex).guarded(guard)],
         5 => vec![first, lock(mutex).guarded(guard), unlock(mutex)],
         6 => vec![lock(mutex), unlock(mutex).guarded(guard)],
-        7..=10 => vec![lock(mutex), store(some_global(random, draft), constant(random.word()))],
-        11..=12 => vec![first, unlock(mutex).guarded(guard)],
-        13 => vec![first, holds, unlock(mutex).guarded(guard)],
-        14 => vec![unlock(mutex)],
-        15 => vec![unlock(mutex), holds],
-        16 => vec![holds, unlock(mutex)],
-        _ => vec![unlock(mutex).guarded(guard), assume(test(random, shape))],
+        7..=10 => vec![lock(mutex), store(global, constant(random.word()))],
+        11..=12 => vec![first, unlock(other).guarded(guard)],
+        13 => vec![first, holds, unlock(other).guarded(guard)],
+        14 => vec![unlock(other)],
+        15 => vec![unlock(other), holds],
+        16 => vec![holds, unlock(other)],
+        _ => vec![unlock(other).guarded(guard), assume(test(random, shape))],
+    }
+}
+
+/// Mostly one of these mutexes, at times any.
+fn mostly(random: &mut Random, mutexes: &[u16], draft: &Draft) -> u16 {
+    match mutexes.is_empty() || random.chance(20) {
+        true => some_mutex(random, draft),
+        false => random.pick(mutexes),
     }
 }
 

@@ -6,14 +6,16 @@ use crate::ask::{check, decode, reply};
 use crate::calls::{Calls, Checked, Replayed};
 use crate::compare_text::{same_truth, script_of, text_of};
 use crate::draft::Draft;
+use crate::enumerate::block_lengths;
 use crate::fill::fill;
 use crate::line::*;
 use crate::report::{Outcome, Report, Tally};
+use crate::samples::{right_release, wrong_release};
 use Replayed::{Clean, CutOff, Violated};
 
 type Check = fn(&Hand, &mut Tally) -> Outcome;
 
-const CHECKS: [(&str, Check); 20] = [
+const CHECKS: [(&str, Check); 22] = [
     ("a lock puts t + 1", locks),
     ("an unlock by the holder", by_the_holder),
     ("an unlock by a stranger", by_a_stranger),
@@ -34,12 +36,19 @@ const CHECKS: [(&str, Check); 20] = [
     ("an unlock that was not run fails at the 7 alone", unrun_at_the_7),
     ("the text of three lines", text_of_three_lines),
     ("the text of guarded lines, with an input and an assert", text_of_guarded_lines),
+    ("the parts of a 7 go by thread and chain", text_of_the_7),
+    ("releases: right and wrong ones", releases),
 ];
 
 pub fn run(calls: &dyn Calls, report: &mut Report) {
     for (name, body) in CHECKS {
         report.check(name, |tally| body(&Hand { calls }, tally));
     }
+}
+
+/// All of them, one after the other.
+pub fn all(calls: &dyn Calls, tally: &mut Tally) -> Outcome {
+    CHECKS.iter().try_for_each(|(name, body)| body(&Hand { calls }, tally).map_err(|message| format!("{name}: {message}")))
 }
 
 /// A thread's turn: so many steps.
@@ -536,4 +545,40 @@ fn text_of_guarded_lines(hand: &Hand, tally: &mut Tally) -> Outcome {
     let seven = "(or (= v5 #x0000) (or (not (or (= v6 #x0004) (=> (= v1 #x0000) \
                  (ite (= v2 v6) (= #x0004 v3) (ite (= v6 #x0003) (= #x0004 v10) true))))) false))";
     same_assertions(hand, &draft, draft.constraints(), &[seven], tally)
+}
+
+fn text_of_the_7(hand: &Hand, tally: &mut Tally) -> Outcome {
+    let zero = assert(local(0));
+    let draft = Draft::new(2, 1).with_mutexes(1).with_thread(0, &[unlock(0)]).with_thread(1, &[zero]);
+    let part = "(not (or (= v0 #x0002) (ite (= v0 #x0000) (= #x0001 #x0000) true)))";
+    let seven = format!("(or {part} (or (= v3 #x0000) false))");
+    same_assertions(hand, &draft, draft.constraints(), &[&seven], tally)?;
+    // The unlock has record 2 now.
+    let draft = draft.renumbered(&[2, 1]);
+    let part = part.replace("v0", "v2");
+    let seven = format!("(or {part} (or (= v1 #x0000) false))");
+    same_assertions(hand, &draft, draft.constraints(), &[&seven], tally)
+}
+
+/// Of all schedules just the one violates that stops the holder between its stores
+/// and runs the other after that, at its last record.
+fn releases(hand: &Hand, tally: &mut Tally) -> Outcome {
+    for (threads, [holder, other], mutex) in [(2, [0, 1], 0), (2, [1, 0], 1), (3, [2, 1], 2), (4, [1, 3], 3), (4, [3, 0], 0)] {
+        let wrong = wrong_release(threads, [holder, other], mutex);
+        let last = wrong.records.len() as u16;
+        let mut violating = vec![0; wrong.blocks()];
+        (violating[usize::from(holder)], violating[wrong.blocks() - 1]) = (2, 2);
+        for schedule in block_lengths(&wrong) {
+            let wanted = if schedule == violating { Violated(last) } else { Clean };
+            tally.same(reply(hand.calls, &wrong, &schedule), wanted, || format!("{schedule:?} of {wrong}"))?;
+        }
+        // The other one's lock has this record here.
+        let right = right_release(threads, [holder, other], mutex);
+        let waiting = [violating.clone(), [&violating[..right.blocks() - 1], &[3]].concat()];
+        for schedule in block_lengths(&right) {
+            let wanted = if waiting.contains(&schedule) { CutOff(last) } else { Clean };
+            tally.same(reply(hand.calls, &right, &schedule), wanted, || format!("{schedule:?} of {right}"))?;
+        }
+    }
+    Ok(())
 }
