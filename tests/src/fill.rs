@@ -37,6 +37,8 @@ pub struct Watched<'a> {
     pub assignment: Vec<u16>,
     /// The lines that violate, in running order.
     pub violations: Vec<u16>,
+    /// The asserts and unlocks that were run with a true guard.
+    pub reached: Vec<u16>,
     /// What is noted of the unlocks so far.
     unlocks: Vec<&'static str>,
 }
@@ -63,6 +65,7 @@ pub fn watch<'a>(draft: &'a Draft, schedule: &'a [u16]) -> Watched<'a> {
         items: draft.items_at_start(),
         assignment: nothing_run(draft),
         violations: Vec::new(),
+        reached: Vec::new(),
         unlocks: Vec::new(),
     };
     for (block, &length) in schedule[..draft.blocks()].iter().enumerate() {
@@ -116,6 +119,9 @@ impl Watched<'_> {
         let locals = &self.locals[thread];
         let guarded_in = line.guard_is_true(line.guard_local().map_or(0, |local| locals[local]));
         let new_value = self.new_value(thread, number, &line);
+        if guarded_in && line.can_violate() {
+            self.reached.push(number);
+        }
         if matches!(line.kind, ASSERT | ASSUME) {
             let holds = !guarded_in || new_value != 0;
             if line.kind == ASSERT && !holds {

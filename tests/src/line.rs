@@ -53,6 +53,11 @@ impl Line {
         matches!(self.kind, COMPUTE | STORE | ASSERT | ASSUME)
     }
 
+    /// Whether a run may violate at the line.
+    pub fn can_violate(&self) -> bool {
+        matches!(self.kind, ASSERT | UNLOCK)
+    }
+
     /// The value that stands for the line where it is not run.
     pub fn unrun_value(&self) -> u16 {
         match self.kind {

@@ -9,7 +9,7 @@ use crate::calls::{Calls, Replayed};
 use crate::draft::Draft;
 use crate::enumerate::{lines_run, runs_all_lines};
 use crate::fill::fill;
-use crate::generate::{accepted, Shape, ANY, BUSY_WITH_INPUTS, FOUR_THREADS, LONG};
+use crate::generate::{accepted, Shape, ANY, BUSY_WITH_INPUTS, FOUR_THREADS, HOLDERS_WITH_INPUTS, LONG, MANY_HOLDERS};
 use crate::line::INPUT;
 use crate::program;
 use crate::random::Random;
@@ -26,6 +26,11 @@ pub fn run(_: &dyn Calls, report: &mut Report) {
     });
     report.check("four threads", |tally| compare(FOUR_THREADS, 60, tally));
     report.check("long threads", |tally| compare(LONG, 40, tally));
+    report.check("holders", |tally| {
+        compare(HOLDERS_WITH_INPUTS, 60, tally)?;
+        compare(MANY_HOLDERS, 40, tally)?;
+        ["violated", "clean", "cut off"].iter().try_for_each(|what| tally.saw_often(what, 5))
+    });
     report.check("any case", |tally| {
         compare(ANY, 40, tally)?;
         ["switch", "rest", "undo"].iter().try_for_each(|what| tally.saw_often(what, 5))
