@@ -12,6 +12,7 @@ use crate::draft::Draft;
 use crate::generate::{
     accepted, Shape, ANY, BUSY, FULL, HOLDERS, HOLDERS_WITH_INPUTS, LONG, MANY_HOLDERS, SMALL, SMALL_WITH_INPUTS,
 };
+use crate::line::ASSERT;
 use crate::random::Random;
 use crate::report::{Outcome, Tally};
 use crate::second;
@@ -168,6 +169,12 @@ fn kind_of(case: &[u8], constraint: u16) -> u16 {
     table[6 * (usize::from(constraint) - 1)]
 }
 
+/// The kind of a line of an accepted case.
+fn kind_of_line(case: &[u8], line: u16) -> u16 {
+    let at = 32 + 16 * (usize::from(line) - 1) + 2;
+    u16::from_le_bytes([case[at], case[at + 1]])
+}
+
 fn same_decoding(calls: &dyn Calls, case: &[u8], assignment: &[u16], room: usize, tally: &mut Tally) -> Outcome {
     let (mut got, mut wanted) = (marks(room), marks(room));
     let reply = calls.decode(case, assignment, &mut got);
@@ -186,7 +193,8 @@ fn same_replay(calls: &dyn Calls, case: &[u8], schedule: &[u16], room: usize, ta
     let reply = calls.replay(case, schedule, &mut got);
     let wanted_reply = second::replay(case, schedule, &mut wanted);
     match wanted_reply {
-        Replayed::Violated(_) => tally.saw("violated"),
+        Replayed::Violated(line) if kind_of_line(case, line) == ASSERT => tally.saw("violated by an assert"),
+        Replayed::Violated(_) => tally.saw("violated by an unlock"),
         Replayed::Clean => tally.saw("clean"),
         Replayed::CutOff(_) => tally.saw("cut off"),
         Replayed::Refused { number, .. } => tally.saw(format!("refused {number}")),

@@ -175,9 +175,10 @@ impl<'a> Way<'a> {
 
     fn items_in_words(&self) -> String {
         let globals = usize::from(self.draft.globals);
-        let words = self.items.iter().enumerate().map(|(item, value)| match item < globals {
-            true => format!("G{item} = {value}"),
-            false => format!("M{} = {value}", item - globals),
+        let words = self.items.iter().enumerate().map(|(item, &value)| match (item < globals, value) {
+            (true, _) => format!("G{item} = {value}"),
+            (false, 0) => format!("M{} = 0 (free)", item - globals),
+            (false, _) => format!("M{} = {value} (held by thread {})", item - globals, value - 1),
         });
         let words: Vec<String> = words.collect();
         match words.is_empty() {
