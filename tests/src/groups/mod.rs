@@ -14,6 +14,7 @@ mod differential;
 mod fields;
 mod generator;
 mod holders;
+mod holders_in_constraints;
 mod limits;
 mod lines;
 mod listing;

@@ -14,7 +14,7 @@ use crate::second::{Second, Wrong, RIGHT};
 /// Rounds for each comparison: few, since a mistake should be found soon.
 const ROUNDS: u64 = 150;
 
-const MISTAKES: [(Wrong, &[Comparison]); 63] = [
+const MISTAKES: [(Wrong, &[Comparison]); 64] = [
     (Wrong::StrayNextUnseen, &[verdicts]),
     (Wrong::DropsA6, &[tables, demand_3]),
     (Wrong::FivesLast, &[tables]),
@@ -48,7 +48,7 @@ const MISTAKES: [(Wrong, &[Comparison]); 63] = [
     (Wrong::FreeIsOwn, &[checks, replays, demand_3_holders, holders_by_hand]),
     (Wrong::StrangerFreesNot, &[checks, replays, demand_3_holders, holders_by_hand]),
     (Wrong::PassedUnlockViolates, &[checks, replays, demand_3_holders, texts, holders_by_hand]),
-    (Wrong::UnrunUnlockViolates, &[checks, replays, demand_3_holders, texts, holders_by_hand]),
+    (Wrong::UnrunUnlockViolates, &[checks, replays, demand_3_holders, holders_by_hand]),
     (Wrong::OnlyAssertsIn7, &[checks, decodings, demand_3_holders, texts, holders_by_hand]),
     (Wrong::AssertNamedFirst, &[replays, demand_3_holders, holders_by_hand]),
     (Wrong::LastNamed, &[replays, demand_3, demand_3_holders, holders_by_hand]),
@@ -77,6 +77,7 @@ const MISTAKES: [(Wrong, &[Comparison]); 63] = [
     (Wrong::InitialValueForgotten, &[texts, truths]),
     (Wrong::OldValueOpen, &[texts, truths]),
     (Wrong::ThreadAskedFor, &[texts, truths, holders_by_hand]),
+    (Wrong::UnrunPartHolds, &[texts, truths, holders_by_hand]),
     (Wrong::UnlocksBehindAsserts, &[texts, holders_by_hand]),
 ];
 

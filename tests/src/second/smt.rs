@@ -369,7 +369,7 @@ impl<'a> Speller<'a> {
                 };
                 let holds = self.finds_mutex_at(holder, line, guard_copy, target_copy);
                 Some(match self.case.wrong {
-                    Wrong::UnrunUnlockViolates => format!("(not {holds})"),
+                    Wrong::UnrunPartHolds => format!("(not {holds})"),
                     _ => format!("(not (or {} {holds}))", self.not_run(line)),
                 })
             }

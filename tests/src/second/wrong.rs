@@ -144,6 +144,8 @@ pub enum Wrong {
     OldValueOpen,
     /// The text's 7 looks for t in the mutex that thread t unlocks.
     ThreadAskedFor,
+    /// The text's 7 does not ask whether an unlock was run.
+    UnrunPartHolds,
     /// In the text's 7 all unlocks stand behind all asserts.
     UnlocksBehindAsserts,
 }
