@@ -90,7 +90,7 @@ pub fn agree(sample: &Sample) -> Result<(), String> {
     }
     let (_, _, checked, _, replayed, ..) = proved;
     let decoded = &proved_buffers.schedule[..schedule.len()];
-    if checked != Checked::Meets || decoded != schedule || !matches!(replayed, Replayed::Violated(_)) {
+    if checked != Checked::Meets || decoded != schedule || replayed != Replayed::Violated(sample.violation) {
         return failure(format!("not the answers that it was made for: {proved:?}"));
     }
     Ok(())

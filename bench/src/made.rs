@@ -1,17 +1,19 @@
 //! Makes a case along a run: each line is chosen as its turn comes, knowing the state of the run, so that the run is legal and
-//! its last line breaks an assertion. The assignment is written down on the way. Lines that the run leaves come last.
+//! its last line violates. The assignment is written down on the way, and the first line that violates. Lines that the run leaves
+//! come last.
 //!
 //! All that is random comes from a fixed seed. Records are numbered as the run meets them.
 
+use crate::plain::case::holder;
 use crate::plain::record::{Record, ASSERT, ASSUME, COMPUTE, CONSTANT, INPUT, LOAD, LOCK, STORE, UNLOCK};
-use crate::sample::Shape;
+use crate::sample::{Faults, Shape};
 
 const OPS: usize = 7;
 const EQUAL: u16 = 5;
 const LESS: u16 = 6;
 
-/// The case file, its assignment and its schedule.
-pub fn made(shape: Shape) -> (Vec<u8>, Vec<u16>, Vec<u16>) {
+/// The case file, its assignment, its schedule, and the first line that violates.
+pub fn made(shape: Shape) -> (Vec<u8>, Vec<u16>, Vec<u16>, u16) {
     let mut run = Run::new(shape);
     let lengths = block_lengths(shape);
     let lines: usize = lengths.iter().sum();
@@ -29,7 +31,8 @@ pub fn made(shape: Shape) -> (Vec<u8>, Vec<u16>, Vec<u16>) {
     }
     let mut schedule: Vec<u16> = lengths.iter().map(|&length| length as u16).collect();
     schedule.extend(run.inputs.iter().flatten());
-    (run.case(), [run.line_numbers, run.block_values].concat(), schedule)
+    let violation = run.violation.expect("the last line violates");
+    (run.case(), [run.line_numbers, run.block_values].concat(), schedule, violation)
 }
 
 /// The lines that a thread runs, spread evenly over its blocks.
@@ -59,6 +62,8 @@ struct Run {
     /// The block number and the value of each record.
     line_numbers: Vec<u16>,
     block_values: Vec<u16>,
+    /// The first line that violates.
+    violation: Option<u16>,
 }
 
 impl Run {
@@ -79,13 +84,18 @@ impl Run {
             inputs: [const { Vec::new() }; 4],
             line_numbers: Vec::new(),
             block_values: Vec::new(),
+            violation: None,
         }
     }
 
     /// Adds a line to the thread of a block, and runs it.
     fn add_line(&mut self, block: usize, is_last: bool) {
         let thread = block % self.shape.lines.len();
-        let record = if is_last { self.test(thread, ASSERT, false) } else { self.line(thread) };
+        let record = match (is_last, self.shape.faults) {
+            (false, _) => self.line(thread),
+            (true, Faults::LastUnlock) => self.stray_unlock(thread),
+            (true, _) => self.test(thread, ASSERT, false),
+        };
         self.link(thread, record);
         let value = self.run_line(thread, &record);
         self.line_numbers.extend([block as u16, value]);
@@ -126,7 +136,7 @@ impl Run {
             13 => Record { kind: INPUT, target: local, ..Record::default() },
             14..=15 => self.test(thread, ASSERT, true),
             16..=17 => self.test(thread, ASSUME, guarded_in),
-            _ => self.lock_or_unlock(),
+            _ => self.lock_or_unlock(thread),
         };
         Record { guard, ..record }
     }
@@ -172,21 +182,45 @@ impl Run {
         Record { kind, op, a, b: CONSTANT, c, ..Record::default() }
     }
 
-    fn lock_or_unlock(&mut self) -> Record {
+    /// A mutex that is free is locked. One that another thread holds is unlocked only where strangers may.
+    fn lock_or_unlock(&mut self, thread: usize) -> Record {
         let mutex = self.random.below(self.shape.mutexes);
-        let is_free = self.items[self.shape.globals + mutex] == 0;
-        Record { kind: if is_free { LOCK } else { UNLOCK }, target: mutex as u16, ..Record::default() }
+        let kind = match self.mutex(mutex) {
+            0 => LOCK,
+            held if held == holder(thread) || self.shape.faults == Faults::Strangers => UNLOCK,
+            _ => return self.test(thread, ASSERT, true),
+        };
+        Record { kind, target: mutex as u16, ..Record::default() }
+    }
+
+    /// The unlock of a mutex that the thread does not hold.
+    fn stray_unlock(&self, thread: usize) -> Record {
+        let stray = (0..self.shape.mutexes).find(|&mutex| self.mutex(mutex) != holder(thread));
+        let target = stray.expect("no thread holds all mutexes at the end") as u16;
+        Record { kind: UNLOCK, target, ..Record::default() }
+    }
+
+    fn mutex(&self, mutex: usize) -> u16 {
+        self.items[self.shape.globals + mutex]
     }
 
     /// Runs a line, and gives the value that stands for it.
     fn run_line(&mut self, thread: usize, record: &Record) -> u16 {
         let locals = &self.locals[thread];
         let guarded_in = record.guard_is_true(locals);
+        let violates = match record.kind {
+            ASSERT => record.expression(locals) == 0,
+            UNLOCK => self.mutex(record.target.into()) != holder(thread),
+            _ => false,
+        };
+        if guarded_in && violates {
+            self.violation.get_or_insert(self.records.len() as u16);
+        }
         let new = match record.kind {
             ASSERT | ASSUME => return u16::from(!guarded_in || record.expression(locals) != 0),
             LOAD => self.items[usize::from(record.a)],
             INPUT => self.input(thread, guarded_in),
-            LOCK => 1,
+            LOCK => holder(thread),
             UNLOCK => 0,
             _ => record.expression(locals),
         };

@@ -2,9 +2,9 @@
 //! one of docs/SMT-TEXT.md and no other; these are here to be measured beside it. They are written formula by formula, from
 //! strings, since no time is taken of the writing.
 
-use crate::plain::case::Case;
+use crate::plain::case::{holder, Case};
 use crate::plain::encode::put_rows;
-use crate::plain::record::{Record, ASSERT, ASSUME, COMPUTE, CONSTANT, INPUT, LOAD, LOCK, STORE};
+use crate::plain::record::{Record, ASSERT, ASSUME, COMPUTE, CONSTANT, INPUT, LOAD, LOCK, STORE, UNLOCK};
 
 /// What a spelling has.
 #[derive(Clone, Copy, Default)]
@@ -128,8 +128,9 @@ struct Writer<'a> {
     spelling: Spelling,
     case: &'a Case<'a>,
     sources: Vec<String>,
-    /// The thread of each line, and the copy of its target, as far as the constraints have told.
+    /// The thread of each line, and the copies of its guard and its target, as far as the constraints have told.
     threads: [usize; 257],
+    guards: [u16; 257],
     targets: [u16; 257],
 }
 
@@ -138,7 +139,7 @@ impl Writer<'_> {
         let lines = 1..=case.records() as u16;
         let inputs = lines.filter(|&line| case.record(line).kind == INPUT);
         let sources = inputs.take(6).map(value_of).collect();
-        Writer { spelling, case, sources, threads: [0; 257], targets: [0; 257] }
+        Writer { spelling, case, sources, threads: [0; 257], guards: [0; 257], targets: [0; 257] }
     }
 
     fn formula(&mut self, row: [u16; 6]) -> String {
@@ -153,12 +154,13 @@ impl Writer<'_> {
             1 => self.in_order(line, second),
             2 => self.in_bounds(line),
             4 => {
+                self.guards[usize::from(line)] = second;
                 self.targets[usize::from(line)] = target;
                 self.value(row)
             }
             5 => format!("(or {} {})", self.not_run(line), self.demand(line, second, third)),
             6 => self.item_after_block(usize::from(line), number, third),
-            _ => self.some_assert_is_zero(),
+            _ => self.some_line_violates(),
         }
     }
 
@@ -271,9 +273,14 @@ impl Writer<'_> {
             }
             LOAD => self.is_read(&value, usize::from(record.a), line, a_copy),
             INPUT => "true".to_string(),
-            LOCK => equal(&value, &constant(1)),
+            LOCK => equal(&value, &self.holder(line)),
             _ => equal(&value, &constant(0)),
         }
+    }
+
+    /// What a mutex has that the thread of a line holds.
+    fn holder(&self, line: u16) -> String {
+        constant(usize::from(holder(self.threads[usize::from(line)])))
     }
 
     fn guarded_out(&self, record: &Record, [_, line, _, _, _, target_copy]: [u16; 6]) -> String {
@@ -298,14 +305,19 @@ impl Writer<'_> {
     }
 
     fn demand(&self, line: u16, guard_copy: u16, target_copy: u16) -> String {
-        let record = self.case.record(line);
-        if record.kind == ASSUME {
-            return equal(&value_of(line), &constant(1));
+        match self.case.record(line).kind {
+            ASSUME => equal(&value_of(line), &constant(1)),
+            _ => self.finds(&constant(0), line, guard_copy, target_copy),
         }
-        let is_free = self.is_read(&constant(0), self.case.globals + usize::from(record.target), line, target_copy);
+    }
+
+    /// That a lock or unlock with a true guard finds this in its mutex.
+    fn finds(&self, x: &str, line: u16, guard_copy: u16, target_copy: u16) -> String {
+        let record = self.case.record(line);
+        let reads = self.is_read(x, self.case.globals + usize::from(record.target), line, target_copy);
         match record.guard {
-            0 => is_free,
-            _ => format!("(=> {} {is_free})", guard(&record, guard_copy)),
+            0 => reads,
+            _ => format!("(=> {} {reads})", guard(&record, guard_copy)),
         }
     }
 
@@ -319,9 +331,20 @@ impl Writer<'_> {
         self.is_chosen(&self.item_after(item, block), choices, Some(self.item_before(item, block)))
     }
 
-    fn some_assert_is_zero(&self) -> String {
+    fn some_line_violates(&self) -> String {
         let lines = (0..self.case.threads).flat_map(|thread| self.case.chain(thread));
-        let asserts: Vec<u16> = lines.filter(|(_, record)| record.kind == ASSERT).map(|(line, _)| line).collect();
-        or(asserts.into_iter().map(|line| equal(&value_of(line), &constant(0))))
+        let part = |(line, record): (u16, Record)| match record.kind {
+            ASSERT => Some(equal(&value_of(line), &constant(0))),
+            UNLOCK => Some(self.is_stranger(line)),
+            _ => None,
+        };
+        or(lines.filter_map(part).collect::<Vec<_>>().into_iter())
+    }
+
+    /// That an unlock was run with a true guard by a thread that does not hold the mutex.
+    fn is_stranger(&self, line: u16) -> String {
+        let (guard_copy, target_copy) = (self.guards[usize::from(line)], self.targets[usize::from(line)]);
+        let finds_itself = self.finds(&self.holder(line), line, guard_copy, target_copy);
+        format!("(not (or {} {finds_itself}))", self.not_run(line))
     }
 }

@@ -47,7 +47,8 @@ pub enum Decoded {
 
 #[derive(Clone, Copy, Debug, PartialEq, Eq)]
 pub enum Replayed {
-    /// "the first zero assert in running order"
+    /// "the first of either sort" in running order: a zero assert, or an unlock
+    /// by a thread that does not hold the mutex
     Violated(u16),
     Clean,
     /// "the line whose assume or lock failed first"

@@ -9,7 +9,10 @@ use crate::ask::{byte_marks, listing, marks};
 use crate::calls::{Calls, Checked, Decoded, Encoded, Listed, Replayed, Verdict};
 use crate::damage::{damaged, random_bytes, scratched};
 use crate::draft::Draft;
-use crate::generate::{accepted, Shape, ANY, BUSY, FULL, LONG, SMALL, SMALL_WITH_INPUTS};
+use crate::generate::{
+    accepted, Shape, ANY, BUSY, FULL, HOLDERS, HOLDERS_WITH_INPUTS, LONG, MANY_HOLDERS, SMALL, SMALL_WITH_INPUTS,
+};
+use crate::line::ASSERT;
 use crate::random::Random;
 use crate::report::{Outcome, Tally};
 use crate::second;
@@ -20,7 +23,7 @@ use crate::vary::{assignments, damage_schedule, filled, schedule, some_room};
 pub type Comparison = fn(&dyn Calls, u64, &mut Tally) -> Outcome;
 
 /// The shapes of random cases, taken in turn.
-pub const SHAPES: [Shape; 6] = [SMALL, SMALL_WITH_INPUTS, ANY, LONG, BUSY, FULL];
+pub const SHAPES: [Shape; 9] = [SMALL, SMALL_WITH_INPUTS, ANY, LONG, BUSY, FULL, HOLDERS, HOLDERS_WITH_INPUTS, MANY_HOLDERS];
 
 /// Verdicts on accepted, damaged and random files.
 pub fn verdicts(calls: &dyn Calls, count: u64, tally: &mut Tally) -> Outcome {
@@ -166,6 +169,12 @@ fn kind_of(case: &[u8], constraint: u16) -> u16 {
     table[6 * (usize::from(constraint) - 1)]
 }
 
+/// The kind of a line of an accepted case.
+fn kind_of_line(case: &[u8], line: u16) -> u16 {
+    let at = 32 + 16 * (usize::from(line) - 1) + 2;
+    u16::from_le_bytes([case[at], case[at + 1]])
+}
+
 fn same_decoding(calls: &dyn Calls, case: &[u8], assignment: &[u16], room: usize, tally: &mut Tally) -> Outcome {
     let (mut got, mut wanted) = (marks(room), marks(room));
     let reply = calls.decode(case, assignment, &mut got);
@@ -184,7 +193,8 @@ fn same_replay(calls: &dyn Calls, case: &[u8], schedule: &[u16], room: usize, ta
     let reply = calls.replay(case, schedule, &mut got);
     let wanted_reply = second::replay(case, schedule, &mut wanted);
     match wanted_reply {
-        Replayed::Violated(_) => tally.saw("violated"),
+        Replayed::Violated(line) if kind_of_line(case, line) == ASSERT => tally.saw("violated by an assert"),
+        Replayed::Violated(_) => tally.saw("violated by an unlock"),
         Replayed::Clean => tally.saw("clean"),
         Replayed::CutOff(_) => tally.saw("cut off"),
         Replayed::Refused { number, .. } => tally.saw(format!("refused {number}")),

@@ -5,18 +5,23 @@ use crate::ask::byte_marks;
 use crate::calls::{Calls, Checked, Spelled, Verdict};
 use crate::compare::{files, rounds_of};
 use crate::draft::Draft;
-use crate::generate::{Shape, ANY, BUSY, FULL, LONG, MANY_INPUTS, SMALL, SMALL_WITH_INPUTS};
+use crate::generate::{
+    Shape, ANY, BUSY, FULL, HOLDERS, HOLDERS_WITH_INPUTS, LONG, MANY_HOLDERS, MANY_INPUTS, SMALL, SMALL_WITH_INPUTS,
+};
 use crate::random::Random;
 use crate::report::{Outcome, Tally};
 use crate::script::Script;
 use crate::second;
 use crate::vary::assignments;
 
-const SHAPES: [Shape; 7] = [SMALL, SMALL_WITH_INPUTS, MANY_INPUTS, ANY, BUSY, LONG, FULL];
+const SHAPES: [Shape; 10] =
+    [SMALL, SMALL_WITH_INPUTS, MANY_INPUTS, ANY, BUSY, LONG, FULL, HOLDERS, HOLDERS_WITH_INPUTS, MANY_HOLDERS];
 
-/// The beginnings of a link, of a fact, of a fact about op 6, of a guarded lock's
-/// demand, of two expressions, and the end of what a line reads.
-pub const NOTED: [&str; 7] = ["(not (xor (= ", "(=> (and (= ", "(not (xor (bvult ", "(=> (not ", "(bvsub ", "(bvor ", " true)"];
+/// The beginnings of a link, of a fact, of a fact about op 6, of what a guarded
+/// lock or unlock asks, of an unlock's part in the 7, of two expressions, and the
+/// end of what a line reads.
+pub const NOTED: [&str; 8] =
+    ["(not (xor (= ", "(=> (and (= ", "(not (xor (bvult ", "(=> (not ", "(not (or ", "(bvsub ", "(bvor ", " true)"];
 
 /// The whole text of an accepted case, in a slice of just its length.
 pub fn text_of(calls: &dyn Calls, case: &[u8]) -> Result<Vec<u8>, String> {

@@ -9,7 +9,7 @@ use crate::calls::{Calls, Checked, Replayed};
 use crate::determined::Determined;
 use crate::draft::Draft;
 use crate::enumerate::{runs_all_lines, schedules, with_each};
-use crate::fill::fill;
+use crate::fill::{fill, watch};
 use crate::generate::{accepted, Shape};
 use crate::random::Random;
 use crate::report::{Outcome, Tally};
@@ -87,13 +87,14 @@ pub fn seen_alike(
     tally: &mut Tally,
 ) -> Result<Replayed, String> {
     let reply = reply(calls, draft, schedule);
-    let numbers = fill(draft, schedule);
-    let checked = check(calls, draft, &numbers);
+    let watched = watch(draft, schedule);
+    let (numbers, first) = (&watched.assignment, watched.violations.first());
+    let checked = check(calls, draft, numbers);
     let rows = &table.rows;
     let agrees = match (reply, checked) {
-        (Replayed::Violated(_), Checked::Meets) => decode(calls, draft, &numbers)? == schedule,
+        (Replayed::Violated(line), Checked::Meets) => first == Some(&line) && decode(calls, draft, numbers)? == schedule,
         // Only the 7, which is the last, is not met.
-        (Replayed::Clean, Checked::Fails(row)) => usize::from(row) == rows.len(),
+        (Replayed::Clean, Checked::Fails(row)) => first.is_none() && usize::from(row) == rows.len(),
         // The 5 of the line that failed is not met, and maybe one before it.
         (Replayed::CutOff(line), Checked::Fails(row)) => {
             let from_failed = &rows[usize::from(row).clamp(1, rows.len()) - 1..];
@@ -112,6 +113,9 @@ pub fn seen_alike(
         Replayed::CutOff(_) => "cut off",
         Replayed::Refused { .. } => "refused 14",
     });
+    if matches!(reply, Replayed::Violated(_) | Replayed::Clean) {
+        watched.note(tally);
+    }
     Ok(reply)
 }
 

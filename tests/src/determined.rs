@@ -113,7 +113,7 @@ impl<'a> Determined<'a> {
         match line.kind {
             LOAD => self.item_read(usize::from(line.a), number, a_copy),
             INPUT => self.inputs[usize::from(number) - 1],
-            LOCK => 1,
+            LOCK => holder(self.draft.thread_of(number)),
             UNLOCK => 0,
             ASSERT | ASSUME => u16::from(self.expression(line, a_copy, b_copy) != 0),
             _ => self.expression(line, a_copy, b_copy),

@@ -94,6 +94,11 @@ impl Draft {
         (0..usize::from(self.threads)).map(|thread| self.chain(thread)).collect()
     }
 
+    /// The thread that has a line in its chain.
+    pub fn thread_of(&self, number: u16) -> usize {
+        self.chains().iter().position(|chain| chain.contains(&number)).expect("the line is in a chain")
+    }
+
     /// Input lines by thread and then by chain.
     pub fn inputs(&self) -> Vec<u16> {
         let lines = self.chains().into_iter().flatten();

@@ -21,6 +21,8 @@ pub struct Shape {
     /// How often, in a hundred, lines that belong together are made: such that
     /// read a global and then use it.
     pub together: usize,
+    /// How often, in a hundred, such lines are about a mutex instead.
+    pub holding: usize,
 }
 
 /// Everything that is allowed.
@@ -34,6 +36,7 @@ pub const ANY: Shape = Shape {
     inputs: 8,
     cutting: 12,
     together: 10,
+    holding: 0,
 };
 
 /// Long threads whose runs are seldom cut off, so that violations are met.
@@ -53,6 +56,7 @@ pub const SMALL: Shape = Shape {
     inputs: 0,
     cutting: 15,
     together: 45,
+    holding: 0,
 };
 
 /// As small, with inputs.
@@ -70,6 +74,7 @@ pub const BUSY: Shape = Shape {
     inputs: 0,
     cutting: 25,
     together: 75,
+    holding: 0,
 };
 
 /// As busy, with inputs.
@@ -87,6 +92,30 @@ pub const MANY_INPUTS: Shape = Shape { inputs: 30, globals: (1, 3), mutexes: (0,
 /// Four threads, most of them short.
 pub const FOUR_THREADS: Shape = Shape { threads: (4, 4), switches: (4, 6), lines: (0, 3), ..BUSY };
 
+/// Several mutexes, which are unlocked by their holders and by others.
+pub const HOLDERS: Shape = Shape { globals: (1, 1), mutexes: (1, 3), cutting: 10, together: 90, holding: 75, ..BUSY };
+
+/// As many, with inputs.
+pub const HOLDERS_WITH_INPUTS: Shape = Shape { inputs: 40, switches: (2, 4), together: 70, ..HOLDERS };
+
+/// So few runs that a solver can be asked for every one that violates.
+pub const TINY_HOLDERS: Shape = Shape { threads: (2, 2), switches: (1, 3), mutexes: (1, 2), lines: (1, 3), ..HOLDERS };
+
+/// Four threads, most of them short.
+pub const FOUR_HOLDERS: Shape = Shape { mutexes: (2, 4), holding: 85, ..FOUR_THREADS };
+
+/// Longer threads, with many mutexes.
+pub const MANY_HOLDERS: Shape = Shape {
+    threads: (2, 4),
+    switches: (3, 15),
+    mutexes: (2, 4),
+    lines: (4, 24),
+    locals: 4,
+    cutting: 1,
+    together: 60,
+    ..HOLDERS
+};
+
 /// An accepted case with shuffled record numbers.
 pub fn accepted(random: &mut Random, shape: Shape) -> Draft {
     let threads = random.between(shape.threads.0, shape.threads.1);
@@ -95,9 +124,9 @@ pub fn accepted(random: &mut Random, shape: Shape) -> Draft {
     let initial = random.words(usize::from(globals));
     let mut draft =
         Draft::new(threads, switches).with_globals(&initial).with_mutexes(random.between(shape.mutexes.0, shape.mutexes.1));
-    for thread in 0..usize::from(threads) {
-        let lines = thread_lines(random, shape, &draft);
-        draft = draft.with_thread(thread, &lines);
+    for thread in 0..threads {
+        let lines = thread_lines(random, shape, &draft, thread);
+        draft = draft.with_thread(thread.into(), &lines);
     }
     shuffled(random, &draft)
 }
@@ -109,19 +138,25 @@ pub fn shuffled(random: &mut Random, draft: &Draft) -> Draft {
     draft.renumbered(&numbers)
 }
 
-fn thread_lines(random: &mut Random, shape: Shape, draft: &Draft) -> Vec<Line> {
+fn thread_lines(random: &mut Random, shape: Shape, draft: &Draft, thread: u16) -> Vec<Line> {
     let count = usize::from(line_count(random, shape));
     let mut lines = Vec::new();
     while lines.len() < count {
         if draft.globals > 0 && random.chance(shape.together) {
-            lines.extend(lines_together(random, shape, draft));
+            // No number is drawn for a shape without them, so that it keeps its cases.
+            let of_mutex = shape.holding > 0 && random.chance(shape.holding);
+            lines.extend(match of_mutex {
+                true => lines_of_mutex(random, shape, draft, thread),
+                false => lines_together(random, shape, draft),
+            });
         } else {
             lines.push(line(random, shape, draft));
         }
     }
     lines.truncate(count);
+    let freed = if shape.holding > 0 { 25 } else { 75 };
     for place in 0..lines.len() {
-        if lines[place].kind == LOCK && random.chance(75) {
+        if lines[place].kind == LOCK && random.chance(freed) {
             free_later(random, &mut lines, place);
         }
     }
@@ -168,6 +203,41 @@ fn lines_together(random: &mut Random, shape: Shape, draft: &Draft) -> Vec<Line>
             vec![lock(mutex), store(global, expression(random, shape)), unlock(mutex)]
         }
         _ => vec![store(global, constant(random.word()))],
+    }
+}
+
+/// A mutex is locked, and mostly unlocked, both under one guard or only one of
+/// them; or one is unlocked that the thread did not lock, often just where a global
+/// says so, and with a test before or behind.
+fn lines_of_mutex(random: &mut Random, shape: Shape, draft: &Draft, thread: u16) -> Vec<Line> {
+    let (mine, global) = (some_local(random, shape), some_global(random, draft));
+    let guard = random.pick(&[1, 17]) + mine;
+    let first = load(mine, global);
+    let holds = assert(test(random, shape));
+    // Each mutex has a thread that mostly locks it, so that few locks fail.
+    let (own, others): (Vec<u16>, Vec<u16>) = (0..draft.mutexes).partition(|mutex| mutex % draft.threads == thread);
+    let (mutex, other) = (mostly(random, &own, draft), mostly(random, &others, draft));
+    match random.below(18) {
+        0..=2 => vec![lock(mutex), line(random, shape, draft), unlock(mutex)],
+        3 => vec![lock(mutex), holds, unlock(mutex)],
+        4 => vec![first, lock(mutex).guarded(guard), unlock(mutex).guarded(guard)],
+        5 => vec![first, lock(mutex).guarded(guard), unlock(mutex)],
+        6 => vec![lock(mutex), unlock(mutex).guarded(guard)],
+        7..=10 => vec![lock(mutex), store(global, constant(random.word()))],
+        11..=12 => vec![first, unlock(other).guarded(guard)],
+        13 => vec![first, holds, unlock(other).guarded(guard)],
+        14 => vec![unlock(other)],
+        15 => vec![unlock(other), holds],
+        16 => vec![holds, unlock(other)],
+        _ => vec![unlock(other).guarded(guard), assume(test(random, shape))],
+    }
+}
+
+/// Mostly one of these mutexes, at times any.
+fn mostly(random: &mut Random, mutexes: &[u16], draft: &Draft) -> u16 {
+    match mutexes.is_empty() || random.chance(20) {
+        true => some_mutex(random, draft),
+        false => random.pick(mutexes),
     }
 }
 

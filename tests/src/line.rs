@@ -53,6 +53,11 @@ impl Line {
         matches!(self.kind, COMPUTE | STORE | ASSERT | ASSUME)
     }
 
+    /// Whether a run may violate at the line.
+    pub fn can_violate(&self) -> bool {
+        matches!(self.kind, ASSERT | UNLOCK)
+    }
+
     /// The value that stands for the line where it is not run.
     pub fn unrun_value(&self) -> u16 {
         match self.kind {
@@ -70,6 +75,11 @@ impl Line {
     pub fn guard_is_true(&self, local: u16) -> bool {
         self.guard == 0 || (self.guard <= 16) == (local != 0)
     }
+}
+
+/// What a mutex has that this thread holds.
+pub fn holder(thread: usize) -> u16 {
+    1 + thread as u16
 }
 
 /// What an op gives.

@@ -102,6 +102,26 @@ pub fn handshake() -> Draft {
     Draft::new(2, 4).with_globals(&[0, 0, 0]).with_thread(0, &first.concat()).with_thread(1, &second.concat())
 }
 
+/// A thread holds a mutex and has global 0 at 1 meanwhile; another unlocks the mutex
+/// where it finds the global at 1. That is the last record, and the only fault.
+pub fn wrong_release(threads: u16, [holder, other]: [u16; 2], mutex: u16) -> Draft {
+    released(threads, [holder, other], mutex, &[load(0, 0), unlock(mutex).guarded(1)])
+}
+
+/// The same, but that the other locks the mutex before it unlocks it.
+pub fn right_release(threads: u16, [holder, other]: [u16; 2], mutex: u16) -> Draft {
+    let lines = [load(0, 0), lock(mutex).guarded(1), unlock(mutex).guarded(1)];
+    released(threads, [holder, other], mutex, &lines)
+}
+
+/// The holder and the other have a block each, in this order.
+fn released(threads: u16, [holder, other]: [u16; 2], mutex: u16, lines: &[Line]) -> Draft {
+    let switches = if holder < other { other } else { other + threads };
+    let draft = Draft::new(threads, switches).with_globals(&[0]).with_mutexes(mutex + 1);
+    let held = [lock(mutex), store(0, constant(1)), store(0, constant(0)), unlock(mutex)];
+    draft.with_thread(holder.into(), &held).with_thread(other.into(), lines)
+}
+
 /// Four threads of 64 lines, as many switches and items as there can be: six
 /// inputs with the highest record numbers, so that their names are long, and 250
 /// times the same line, guarded.

@@ -85,12 +85,14 @@ fn damaged_assignment(random: &mut Random, draft: &Draft, numbers: &[u16]) -> Ve
     }
     for _ in 0..random.between(1, 2) {
         let place = random.below(numbers.len());
-        numbers[place] = match random.below(6) {
+        numbers[place] = match random.below(7) {
             0 => numbers[place].wrapping_add(1),
             1 => numbers[place].wrapping_add(threads),
             2 => numbers[place].wrapping_sub(threads),
             3 => switches + random.between(0, threads),
             4 => random.pick(&[0, 1, 65_534, 65_535]),
+            // What a mutex has that is free, or that a thread holds.
+            5 => random.between(0, threads),
             _ => random.word(),
         };
     }

@@ -15,6 +15,11 @@ pub fn refuse_if(condition: bool, number: u16) -> Result<(), Refusal> {
     Ok(())
 }
 
+/// What a mutex has that a thread holds.
+pub fn holder(thread: usize) -> u16 {
+    thread as u16 + 1
+}
+
 pub struct Case<'a> {
     pub threads: usize,
     pub switches: usize,

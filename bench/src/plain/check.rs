@@ -1,7 +1,7 @@
 //! Whether an assignment meets the constraints of an accepted case. No table is made: the constraints are gone through in its
 //! order, and counted.
 
-use super::case::Case;
+use super::case::{holder, Case};
 use super::record::{Locals, Record, ASSERT, ASSUME, COMPUTE, INPUT, LOAD, LOCK, STORE};
 
 /// For each block the values of the items, as far as its lines have been gone through: first what the block begins with, then
@@ -29,18 +29,17 @@ pub fn check(case: &Case, assignment: &[u16]) -> Result<(), u16> {
     check_order(case, assignment, &mut count)?;
     // No block number of a line that was run is over n from here on.
     let mut items = items_at_start(case, assignment);
-    let mut some_assert_is_zero = false;
+    let mut some_line_violates = false;
     for thread in 0..case.threads {
         let mut locals = [0; 16];
         for (line, record) in case.chain(thread) {
             let (block, value) = numbers_of(assignment, line);
             if case.was_run(block) {
                 let items = &mut items[usize::from(block)];
-                check_line(&record, value, case.globals, &mut locals, items, &mut count)?;
+                some_line_violates |= check_line(&record, value, case.globals, holder(thread), &mut locals, items, &mut count)?;
             } else {
                 check_unrun(&record, value, &mut count)?;
             }
-            some_assert_is_zero |= record.kind == ASSERT && value == 0;
         }
     }
     for (block, items) in items[..case.switches].iter().enumerate() {
@@ -48,7 +47,7 @@ pub fn check(case: &Case, assignment: &[u16]) -> Result<(), u16> {
             count.next(number == item)?;
         }
     }
-    count.next(some_assert_is_zero)
+    count.next(some_line_violates)
 }
 
 /// A line's block number and value.
@@ -89,7 +88,7 @@ fn items_at_start(case: &Case, assignment: &[u16]) -> Items {
     items
 }
 
-/// The 4 of a line that was not run, and its 5 if it has one, which holds.
+/// The 4 of a line that was not run, and its 5 if it has one, which holds. With it no assert has value 0, so none meets the 7.
 fn check_unrun(record: &Record, value: u16, count: &mut Count) -> Result<(), u16> {
     count.next(value == u16::from(matches!(record.kind, ASSERT | ASSUME)))?;
     if matches!(record.kind, ASSUME | LOCK) {
@@ -98,15 +97,16 @@ fn check_unrun(record: &Record, value: u16, count: &mut Count) -> Result<(), u16
     Ok(())
 }
 
-/// The 4 of a line, and its 5 if it has one; then its target has its value.
+/// The 4 of a line, and its 5 if it has one; then its target has its value. Whether the line meets the 7.
 fn check_line(
     record: &Record,
     value: u16,
     globals: usize,
+    holder: u16,
     locals: &mut Locals,
     items: &mut [u16; 12],
     count: &mut Count,
-) -> Result<(), u16> {
+) -> Result<bool, u16> {
     let guarded_in = record.guard_is_true(locals);
     let target = usize::from(record.target);
     match record.kind {
@@ -118,12 +118,14 @@ fn check_line(
                 _ => value,
             };
             locals[target] = value;
-            count.next(value == wanted)
+            count.next(value == wanted)?;
+            Ok(false)
         }
         STORE => {
             let wanted = if guarded_in { record.expression(locals) } else { items[target] };
             items[target] = value;
-            count.next(value == wanted)
+            count.next(value == wanted)?;
+            Ok(false)
         }
         ASSERT | ASSUME => {
             let wanted = !guarded_in || record.expression(locals) != 0;
@@ -131,17 +133,18 @@ fn check_line(
             if record.kind == ASSUME {
                 count.next(value == 1)?;
             }
-            Ok(())
+            Ok(value == 0)
         }
-        kind => {
-            let mutex = &mut items[globals + target];
-            let old = std::mem::replace(mutex, value);
-            let wanted = if guarded_in { u16::from(kind == LOCK) } else { old };
-            count.next(value == wanted)?;
-            if kind == LOCK {
-                count.next(!guarded_in || old == 0)?;
-            }
-            Ok(())
+        LOCK => {
+            let old = std::mem::replace(&mut items[globals + target], value);
+            count.next(value == if guarded_in { holder } else { old })?;
+            count.next(!guarded_in || old == 0)?;
+            Ok(false)
+        }
+        _ => {
+            let old = std::mem::replace(&mut items[globals + target], value);
+            count.next(value == if guarded_in { 0 } else { old })?;
+            Ok(guarded_in && old != holder)
         }
     }
 }

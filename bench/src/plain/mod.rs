@@ -106,7 +106,7 @@ fn replayed(case: &[u8], schedule: &[u16], items: &mut [u16]) -> Result<Replayed
         return Err(Refusal { number: 14, place });
     }
     items[..case.items()].copy_from_slice(&run.items[..case.items()]);
-    Ok(match (run.stop, run.zero_assert) {
+    Ok(match (run.stop, run.violation) {
         (Some(Stop::CutOff(line)), _) => Replayed::CutOff(line),
         (_, Some(line)) => Replayed::Violated(line),
         _ => Replayed::Clean,

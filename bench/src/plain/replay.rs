@@ -1,6 +1,6 @@
 //! The run of a schedule of an accepted case.
 
-use super::case::Case;
+use super::case::{holder, Case};
 use super::record::{Locals, Record, ASSERT, ASSUME, COMPUTE, INPUT, LOAD, LOCK, STORE};
 
 /// What ends a run before its last step, and the line where.
@@ -13,12 +13,15 @@ pub enum Stop {
 /// What a run came to.
 pub struct Run {
     pub items: [u16; 12],
-    pub zero_assert: Option<u16>,
+    /// The first line that violates.
+    pub violation: Option<u16>,
     pub stop: Option<Stop>,
 }
 
 #[derive(Clone, Copy, Default)]
 struct Thread {
+    /// What a mutex has that the thread holds.
+    holder: u16,
     next_line: u16,
     /// Where the schedule has the value of the thread's next input line, and where those of its inputs end.
     next_input: usize,
@@ -38,7 +41,7 @@ pub fn lengths_fit(case: &Case, schedule: &[u16]) -> bool {
 /// Runs a schedule that checks 12 and 13 pass.
 pub fn run(case: &Case, schedule: &[u16]) -> Run {
     let mut threads = threads_at_start(case);
-    let mut run = Run { items: case.items_at_start(), zero_assert: None, stop: None };
+    let mut run = Run { items: case.items_at_start(), violation: None, stop: None };
     for (block, &length) in schedule[..=case.switches].iter().enumerate() {
         let thread = &mut threads[block % case.threads];
         for _ in 0..length {
@@ -63,6 +66,7 @@ fn threads_at_start(case: &Case) -> [Thread; 4] {
     let mut threads = [Thread::default(); 4];
     let mut next_input = case.switches + 1;
     for (number, thread) in threads[..case.threads].iter_mut().enumerate() {
+        thread.holder = holder(number);
         thread.next_line = case.first(number);
         thread.next_input = next_input;
         next_input += case.inputs[number];
@@ -86,13 +90,13 @@ impl Run {
                 self.stop = Some(Stop::FalseInput(line));
             }
         } else if guarded_in {
-            self.run_line(case, line, &record, &mut thread.locals);
+            self.run_line(case, line, &record, thread.holder, &mut thread.locals);
         }
         thread.next_line = record.next;
     }
 
     /// A line with a true guard that is no input.
-    fn run_line(&mut self, case: &Case, line: u16, record: &Record, locals: &mut Locals) {
+    fn run_line(&mut self, case: &Case, line: u16, record: &Record, holder: u16, locals: &mut Locals) {
         let target = usize::from(record.target);
         match record.kind {
             COMPUTE => locals[target] = record.expression(locals),
@@ -100,7 +104,7 @@ impl Run {
             LOAD => locals[target] = self.items[usize::from(record.a)],
             ASSERT => {
                 if record.expression(locals) == 0 {
-                    self.zero_assert.get_or_insert(line);
+                    self.violation.get_or_insert(line);
                 }
             }
             ASSUME => {
@@ -111,12 +115,16 @@ impl Run {
             LOCK => {
                 let mutex = &mut self.items[case.globals + target];
                 if *mutex == 0 {
-                    *mutex = 1;
+                    *mutex = holder;
                 } else {
                     self.stop = Some(Stop::CutOff(line));
                 }
             }
-            _ => self.items[case.globals + target] = 0,
+            _ => {
+                if std::mem::take(&mut self.items[case.globals + target]) != holder {
+                    self.violation.get_or_insert(line);
+                }
+            }
         }
     }
 }

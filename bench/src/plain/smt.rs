@@ -1,9 +1,9 @@
 //! The text of an accepted case: its constraints in SMT-LIB, as docs/SMT-TEXT.md fixes them. No table is made: each constraint
 //! becomes an assertion as it comes.
 
-use super::case::Case;
+use super::case::{holder, Case};
 use super::encode::put_rows;
-use super::record::{Record, ASSERT, ASSUME, COMPUTE, CONSTANT, INPUT, LOAD, LOCK, STORE};
+use super::record::{Record, ASSERT, ASSUME, COMPUTE, CONSTANT, INPUT, LOAD, LOCK, STORE, UNLOCK};
 
 /// What takes the bytes of a text.
 trait Sink {
@@ -51,7 +51,8 @@ fn put_text(case: &Case, to: &mut impl Sink) {
         to.put(Term::variable(number).spelling());
         to.put(b" () (_ BitVec 16))\n");
     }
-    let mut writer = Writer { case, sources: [Term::constant(0); 6], links: 0, threads: [0; 257], targets: [0; 257], to };
+    let sources = [Term::constant(0); 6];
+    let mut writer = Writer { case, sources, links: 0, threads: [0; 257], guards: [0; 257], targets: [0; 257], to };
     let inputs = (1..=case.records() as u16).filter(|&line| case.record(line).kind == INPUT);
     for (source, line) in writer.sources.iter_mut().zip(inputs) {
         *source = value_of(line);
@@ -125,8 +126,9 @@ struct Writer<'a, S: Sink> {
     /// The values of the first input lines by record number, and how many there are.
     sources: [Term; 6],
     links: usize,
-    /// The thread of each line, and the copy of its target, as far as the constraints have told.
+    /// The thread of each line, and the copies of its guard and its target, as far as the constraints have told.
     threads: [usize; 257],
+    guards: [u16; 257],
     targets: [u16; 257],
     to: &'a mut S,
 }
@@ -143,12 +145,13 @@ impl<S: Sink> Writer<'_, S> {
             1 => self.put_two(b"(bvule ", block_of(line), block_of(second)),
             2 => self.put_two(b"(bvule ", block_of(line), Term::constant(second + 1)),
             4 => {
+                self.guards[usize::from(line)] = second;
                 self.targets[usize::from(line)] = row[5];
                 self.put_value(row);
             }
             5 => self.put_demand(line, second, third),
             6 => self.put_item_after(usize::from(line), usize::from(second), third),
-            _ => self.put_some_assert_is_zero(),
+            _ => self.put_some_line_violates(),
         }
         self.to.put(b")\n");
     }
@@ -278,9 +281,14 @@ impl<S: Sink> Writer<'_, S> {
             COMPUTE | STORE | ASSERT | ASSUME => self.put_expression_line(record, value, a, b),
             LOAD => self.put_read(value, usize::from(record.a), line, a),
             INPUT => self.to.put(b"true"),
-            LOCK => self.put_is_constant(value, ONE),
+            LOCK => self.put_two(b"(= ", value, self.holder(line)),
             _ => self.put_is_constant(value, ZERO),
         }
+    }
+
+    /// What a mutex has that the thread of a line holds.
+    fn holder(&self, line: u16) -> Term {
+        Term::constant(holder(self.threads[usize::from(line)]))
     }
 
     fn put_guarded_out(&mut self, record: &Record, [_, line, _, _, _, target]: [u16; 6]) {
@@ -363,15 +371,20 @@ impl<S: Sink> Writer<'_, S> {
 
     fn put_demand_when_run(&mut self, line: u16, guard: u16, target: u16) {
         let record = self.case.record(line);
-        if record.kind == ASSUME {
-            return self.put_is_constant(value_of(line), ONE);
+        match record.kind {
+            ASSUME => self.put_is_constant(value_of(line), ONE),
+            _ => self.put_finds(Term::constant(0), &record, line, guard, target),
         }
+    }
+
+    /// That a lock or unlock with a true guard finds this in its mutex.
+    fn put_finds(&mut self, x: Term, record: &Record, line: u16, guard: u16, target: u16) {
         if record.guard != 0 {
             self.to.put(b"(=> ");
-            self.put_guard(&record, guard);
+            self.put_guard(record, guard);
             self.to.put(b" ");
         }
-        self.put_read(Term::constant(0), self.case.globals + usize::from(record.target), line, target);
+        self.put_read(x, self.case.globals + usize::from(record.target), line, target);
         self.close(usize::from(record.guard != 0));
     }
 
@@ -393,17 +406,28 @@ impl<S: Sink> Writer<'_, S> {
     }
 
     /// The 7.
-    fn put_some_assert_is_zero(&mut self) {
+    fn put_some_line_violates(&mut self) {
         let mut opened = 0;
         for thread in 0..self.case.threads {
-            for (line, _) in self.case.chain(thread).filter(|(_, record)| record.kind == ASSERT) {
+            for (line, record) in self.case.chain(thread).filter(|(_, record)| matches!(record.kind, ASSERT | UNLOCK)) {
                 self.to.put(b"(or ");
-                self.put_is_constant(value_of(line), ZERO);
+                match record.kind {
+                    ASSERT => self.put_is_constant(value_of(line), ZERO),
+                    _ => self.put_stranger(&record, line),
+                }
                 self.to.put(b" ");
                 opened += 1;
             }
         }
         self.to.put(b"false");
         self.close(opened);
+    }
+
+    /// That an unlock was run with a true guard by a thread that does not hold the mutex.
+    fn put_stranger(&mut self, record: &Record, line: u16) {
+        let (guard, target) = (self.guards[usize::from(line)], self.targets[usize::from(line)]);
+        self.open_with_not_run(b"(not (or ", line);
+        self.put_finds(self.holder(line), record, line, guard, target);
+        self.to.put(b"))");
     }
 }

@@ -1,6 +1,6 @@
 //! The answers of `menduvo solve` on random small cases, beside what trying
-//! every schedule finds: violated, unsat or vacuous, and which asserts a legal
-//! run reaches with a true guard.
+//! every schedule finds: violated, unsat or vacuous, and which asserts and unlocks
+//! a legal run reaches with a true guard.
 
 use std::collections::BTreeSet;
 use std::env;
@@ -12,8 +12,8 @@ use crate::calls::{Calls, Replayed};
 use crate::command::PROGRAM;
 use crate::draft::Draft;
 use crate::enumerate::schedules;
-use crate::generate::{accepted, Shape, BUSY, FOUR_THREADS, SMALL};
-use crate::line::{ASSERT, CONSTANT, COPY};
+use crate::fill::watch;
+use crate::generate::{accepted, Shape, BUSY, FOUR_HOLDERS, FOUR_THREADS, HOLDERS, SMALL};
 use crate::program;
 use crate::random::Random;
 use crate::report::{Outcome, Report, Tally};
@@ -27,9 +27,15 @@ pub fn run(_: &dyn Calls, report: &mut Report) {
     report.check("busy cases", |tally| {
         compare(BUSY, 240, tally)?;
         ["vacuous", "unsat", "violated", "reached"].iter().try_for_each(|what| tally.saw_often(what, 10))?;
-        tally.saw_often("some asserts reached, and some not", 3)
+        tally.saw_often("some lines reached, and some not", 3)
     });
     report.check("four threads", |tally| compare(FOUR_THREADS, 40, tally));
+    report.check("holders", |tally| {
+        compare(HOLDERS, 80, tally)?;
+        ["unsat", "violated", "reached"].iter().try_for_each(|what| tally.saw_often(what, 10))?;
+        tally.saw_often("some lines reached, and some not", 3)
+    });
+    report.check("holders, four threads", |tally| compare(FOUR_HOLDERS, 30, tally));
 }
 
 /// A folder that goes when it is dropped.
@@ -88,52 +94,51 @@ fn compare(shape: Shape, cases: u64, tally: &mut Tally) -> Outcome {
 }
 
 fn same_answer(draft: &Draft, object: &str, tally: &mut Tally) -> Outcome {
-    let asserts = asserts(draft);
-    let all = schedules(draft, &[0]);
-    let violates = |draft: &Draft| all.iter().any(|all| matches!(reply(&second::RIGHT, draft, all), Replayed::Violated(_)));
-    let reached: BTreeSet<u16> = asserts.iter().copied().filter(|&record| violates(&changed(draft, record))).collect();
-    let word = match (violates(draft), reached.is_empty()) {
-        (true, _) => "violated",
-        (false, true) => "vacuous",
-        (false, false) => "unsat",
+    let lines = lines_that_can_violate(draft);
+    let Legal { reached, violating } = Legal::of(draft);
+    let word = match (violating.is_empty(), reached.is_empty()) {
+        (false, _) => "violated",
+        (true, true) => "vacuous",
+        (true, false) => "unsat",
     };
     tally.saw(word);
     if !reached.is_empty() {
         tally.saw("reached");
     }
-    if (1..asserts.len()).contains(&reached.len()) {
-        tally.saw("some asserts reached, and some not");
+    if (1..lines.len()).contains(&reached.len()) {
+        tally.saw("some lines reached, and some not");
     }
     tally.holds(object.contains(&format!("\"answer\":\"{word}\"")), || format!("it is {word}"))?;
-    for record in asserts {
+    for record in lines {
         let told = format!("{{\"record\":{record},\"reached\":{},", reached.contains(&record));
         tally.holds(object.contains(&told), || format!("it should say {told}"))?;
     }
     Ok(())
 }
 
-/// The records of the asserts.
-pub fn asserts(draft: &Draft) -> Vec<u16> {
-    let asserts = (1..).zip(&draft.records).filter(|(_, line)| line.kind == ASSERT);
-    asserts.map(|(number, _)| number).collect()
+/// The records of the asserts and unlocks.
+pub fn lines_that_can_violate(draft: &Draft) -> Vec<u16> {
+    let lines = (1..).zip(&draft.records).filter(|(_, line)| line.can_violate());
+    lines.map(|(number, _)| number).collect()
 }
 
-/// The case that is violated just where this assert is reached: its expression
-/// is 0, and that of every other assert 1.
-pub fn changed(draft: &Draft, record: u16) -> Draft {
-    let mut changed = alone(draft, record);
-    let line = &mut changed.records[usize::from(record) - 1];
-    (line.op, line.a, line.b, line.c) = (COPY, CONSTANT, 0, 0);
-    changed
+/// The asserts and unlocks of a case that some legal run reaches with a true guard,
+/// and those at which one violates, be it the first time or not. There are no inputs.
+pub struct Legal {
+    pub reached: BTreeSet<u16>,
+    pub violating: BTreeSet<u16>,
 }
 
-/// The case in which the expression of every other assert is 1.
-pub fn alone(draft: &Draft, record: u16) -> Draft {
-    let mut alone = draft.clone();
-    for (number, line) in (1..).zip(&mut alone.records) {
-        if line.kind == ASSERT && number != record {
-            (line.op, line.a, line.b, line.c) = (COPY, CONSTANT, 0, 1);
+impl Legal {
+    pub fn of(draft: &Draft) -> Legal {
+        let mut legal = Legal { reached: BTreeSet::new(), violating: BTreeSet::new() };
+        for schedule in schedules(draft, &[]) {
+            if let Replayed::Violated(_) | Replayed::Clean = reply(&second::RIGHT, draft, &schedule) {
+                let watched = watch(draft, &schedule);
+                legal.reached.extend(watched.reached);
+                legal.violating.extend(watched.violations);
+            }
         }
+        legal
     }
-    alone
 }

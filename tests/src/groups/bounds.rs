@@ -1,13 +1,14 @@
 //! What `menduvo solve` says with `--least`, `--each` and `--short` on random
 //! small cases, beside what trying every schedule finds: the smallest n with a
-//! violation, the answer of each assert alone, and the shortest run.
+//! violation, the answer of each assert and unlock alone, and the shortest run.
 
 use crate::ask::reply;
 use crate::calls::{Calls, Replayed};
 use crate::draft::Draft;
-use crate::enumerate::{block_lengths, schedules, schedules_with_all_values};
-use crate::generate::{accepted, Shape, BUSY, FOUR_THREADS, SMALL, TINY_WITH_INPUTS};
-use crate::groups::answers::{alone, asserts, changed, program, write_all, Folder};
+use crate::enumerate::{block_lengths, schedules_with_all_values};
+use crate::fill::watch;
+use crate::generate::{accepted, Shape, BUSY, FOUR_THREADS, HOLDERS, SMALL, TINY_WITH_INPUTS};
+use crate::groups::answers::{lines_that_can_violate, program, write_all, Folder, Legal};
 use crate::line::{assert, compute, constant, input, load, store, CONSTANT, LESS, OR};
 use crate::program;
 use crate::random::Random;
@@ -24,13 +25,16 @@ pub fn run(_: &dyn Calls, report: &mut Report) {
         ["first at 1", "first at 2", "none"].iter().try_for_each(|what| tally.saw_often(what, 3))
     });
     report.check("the smallest n, four threads", |tally| least(&drafts(82_000_000, FOUR_THREADS, 20), tally));
-    report.check("each assert alone", |tally| {
+    report.check("the smallest n, holders", |tally| least(&drafts(87_000_000, HOLDERS, 30), tally));
+    report.check("each assert and unlock alone", |tally| {
         drafts(83_000_000, BUSY, 50).iter().try_for_each(|draft| each(draft, tally))?;
+        drafts(88_000_000, HOLDERS, 30).iter().try_for_each(|draft| each(draft, tally))?;
         ["violated", "unsat", "vacuous", "another is first"].iter().try_for_each(|what| tally.saw_often(what, 3))
     });
     report.check("the shortest run", |tally| {
         short(&drafts(84_000_000, BUSY, 110), block_lengths, tally)?;
         short(&drafts(85_000_000, FOUR_THREADS, 40), block_lengths, tally)?;
+        short(&drafts(89_000_000, HOLDERS, 40), block_lengths, tally)?;
         tally.saw_often("violated", 20)?;
         tally.saw_often("lines left", 20)?;
         tally.saw_often("an empty block between", 2)
@@ -80,15 +84,11 @@ fn least(drafts: &[Draft], tally: &mut Tally) -> Outcome {
     for (number, draft) in drafts.iter().enumerate() {
         let object = object(&printed, number, "\"least\":true")?;
         let about = |wanted: &str| format!("it should say {wanted}; {object}; case {draft}");
-        let bounds: Vec<Draft> = (0..=MOST).map(|switches| Draft { switches, ..draft.clone() }).collect();
-        let any = |draft: &Draft, all: &[Vec<u16>]| all.iter().any(|schedule| violates(draft, schedule));
-        let first = bounds.iter().position(|draft| any(draft, &schedules(draft, &[0])));
+        let legal = |switches: u16| Legal::of(&Draft { switches, ..draft.clone() });
+        let bounds: Vec<Legal> = (0..=MOST).map(legal).collect();
+        let first = bounds.iter().position(|legal| !legal.violating.is_empty());
         let unsat: Vec<usize> = (0..first.unwrap_or(bounds.len())).collect();
-        let is_vacuous = |n: &usize| {
-            let all = schedules(&bounds[*n], &[0]);
-            !asserts(draft).iter().any(|&record| any(&changed(&bounds[*n], record), &all))
-        };
-        let vacuous: Vec<usize> = unsat.iter().copied().filter(is_vacuous).collect();
+        let vacuous: Vec<usize> = unsat.iter().copied().filter(|&n| bounds[n].reached.is_empty()).collect();
         let first = first.map_or("null".to_string(), |first| first.to_string());
         tally.saw(if first == "null" { "none".to_string() } else { format!("first at {first}") });
         let list = |numbers: &[usize]| format!("{numbers:?}").replace(' ', "");
@@ -107,23 +107,21 @@ fn each(draft: &Draft, tally: &mut Tally) -> Outcome {
     write_all(&folder.0, std::slice::from_ref(draft))?;
     let case = format!("{}/000.case", folder.name()?);
     let printed = program::run(&program()?, &["solve", &case, "--json", "--solver", "z3", "--each"], &[])?;
-    let all = schedules(draft, &[0]);
-    for record in asserts(draft) {
+    let Legal { reached, violating } = Legal::of(draft);
+    for record in lines_that_can_violate(draft) {
         let object = object(&printed, 0, &format!("\"assert\":{record},"))?;
-        let (one, reached) = (alone(draft, record), changed(draft, record));
-        let word = match all.iter().any(|schedule| violates(&one, schedule)) {
-            true => "violated",
-            false if all.iter().any(|schedule| violates(&reached, schedule)) => "unsat",
-            false => "vacuous",
+        let word = match (violating.contains(&record), reached.contains(&record)) {
+            (true, _) => "violated",
+            (false, true) => "unsat",
+            (false, false) => "vacuous",
         };
         tally.saw(word);
         let answer = format!("\"answer\":\"{word}\"");
         tally.holds(object.contains(&answer), || format!("record {record} is {word}; {object}; case {draft}"))?;
         if word == "violated" {
             let schedule = numbers(object, "\"schedule\":[")?;
-            tally.same(reply(&second::RIGHT, &one, &schedule), Replayed::Violated(record), || {
-                format!("{object}; case {draft}")
-            })?;
+            let violations = watch(draft, &schedule).violations;
+            tally.holds(violations.contains(&record), || format!("not at {record}: {object}; case {draft}"))?;
             let Replayed::Violated(first) = reply(&second::RIGHT, draft, &schedule) else {
                 return Err(format!("the run is none of the case: {object}; case {draft}"));
             };

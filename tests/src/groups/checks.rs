@@ -25,7 +25,7 @@ fn storing(number: u16) -> Draft {
 
 /// Thread 0 in block 0, then thread 1 in block 1: the assert is zero. Block
 /// number and value of each line, then global and mutex after blocks 0 to 2.
-const MEETS: [u16; 22] = [0, 1, 0, 4, 0, 0, 1, 1, 1, 4, 1, 1, 1, 0, 1, 0, 4, 0, 4, 0, 4, 0];
+const MEETS: [u16; 22] = [0, 1, 0, 4, 0, 0, 1, 2, 1, 4, 1, 1, 1, 0, 1, 0, 4, 0, 4, 0, 4, 0];
 
 pub fn run(calls: &dyn Calls, report: &mut Report) {
     let mut fails = |name: &str, draft: Draft, numbers: [u16; 22], constraint: u16| {
@@ -59,18 +59,18 @@ pub fn run(calls: &dyn Calls, report: &mut Report) {
     // Nothing reads the global after block 2 but its own 6.
     fails("a 6 fails first", shared(), with(&[(20, 5)]), 32);
     // Thread 0 comes after thread 1, in block 2: the assert holds.
-    let after = [2, 1, 2, 4, 2, 0, 1, 1, 1, 0, 1, 1, 1, 1, 1, 0, 0, 0, 0, 0, 4, 0];
+    let after = [2, 1, 2, 4, 2, 0, 1, 2, 1, 0, 1, 1, 1, 1, 1, 0, 0, 0, 0, 0, 4, 0];
     fails("the 7 fails first", shared(), after, 34);
     // Line 7 was not run, but line 8 after it was.
     fails("a line is run after one that was not", shared(), with(&[(12, 4), (13, 1)]), 14);
-    // Line 8 was not run; the mutex stays at 1 from block 1 on.
-    let last_left = with(&[(14, 4), (19, 1), (21, 1)]);
+    // Line 8 was not run; the mutex stays at 2 from block 1 on.
+    let last_left = with(&[(14, 4), (19, 2), (21, 2)]);
     fails("an unlock that was not run is no 0 in a 6", shared(), with(&[(14, 4)]), 31);
     let mut not_zero = last_left;
     not_zero[15] = 1;
     fails("an unlock that was not run has 0", shared(), not_zero, 27);
     // Nor were lines 6 and 7, an assume and an assert; they have 1.
-    let tests_left = [(10, 4), (12, 4), (13, 1), (14, 4), (19, 1), (21, 1)];
+    let tests_left = [(10, 4), (12, 4), (13, 1), (14, 4), (19, 2), (21, 2)];
     let tests_left = |changes: &[(usize, u16)]| with(&[&tests_left[..], changes].concat());
     fails("an assert that was not run is not broken", shared(), tests_left(&[]), 34);
     fails("an assert that was not run has 1", shared(), tests_left(&[(13, 0)]), 26);
@@ -79,9 +79,9 @@ pub fn run(calls: &dyn Calls, report: &mut Report) {
     // and its assume demand nothing.
     let held = [0, 1, 0, 4, 4, 0, 4, 0, 4, 0, 4, 1, 4, 1, 4, 0, 4, 1, 4, 1, 4, 1];
     fails("the 5s of lines that were not run are met", shared(), held, 34);
-    let mut lock_is_1 = held;
-    lock_is_1[7] = 1;
-    fails("a lock that was not run has 0", shared(), lock_is_1, 21);
+    let mut lock_is_2 = held;
+    lock_is_2[7] = 2;
+    fails("a lock that was not run has 0", shared(), lock_is_2, 21);
     for (name, numbers) in [("all are met", MEETS), ("all are met, and the last line was not run", last_left)] {
         report.check(name, |tally| {
             let checked = check(calls, &shared(), &numbers);

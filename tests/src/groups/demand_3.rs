@@ -3,15 +3,18 @@
 
 use crate::calls::Calls;
 use crate::demand3::{compare, seen_alike};
+use crate::fill::{of_several, UNLOCKS, VIOLATIONS};
 use crate::generate::{accepted, Shape};
-use crate::generate::{ANY, BUSY, BUSY_WITH_INPUTS, FOUR_THREADS, FULL, LONG, SMALL};
+use crate::generate::{
+    ANY, BUSY, BUSY_WITH_INPUTS, FOUR_HOLDERS, FOUR_THREADS, FULL, HOLDERS, HOLDERS_WITH_INPUTS, LONG, MANY_HOLDERS, SMALL,
+};
 use crate::random::Random;
 use crate::report::{Outcome, Report, Tally};
 use crate::table::table_of;
 use crate::vary::schedule;
 
 /// How many large cases are taken.
-const LARGE_CASES: u64 = 900;
+const LARGE_CASES: u64 = 1_200;
 
 /// Values for each input: 0, which a false guard wants, and both ends.
 const INPUT_VALUES: [u16; 4] = [0, 1, 2, 65_535];
@@ -24,6 +27,19 @@ pub fn run(calls: &dyn Calls, report: &mut Report) {
     report.check("four threads", |tally| enough(calls, FOUR_THREADS, 300, 40, &[0], tally));
     report.check("large cases, some schedules each", |tally| some_schedules(calls, tally));
     report.check("with inputs", |tally| enough(calls, BUSY_WITH_INPUTS, 500, 75, &INPUT_VALUES, tally));
+    // Unlocks by holders and by others, of several mutexes.
+    report.check("holders", |tally| {
+        enough(calls, HOLDERS, 400, 150, &[0], tally)?;
+        enough_unlocks(400, tally)
+    });
+    report.check("holders, four threads", |tally| {
+        enough(calls, FOUR_HOLDERS, 150, 40, &[0], tally)?;
+        enough_unlocks(400, tally)
+    });
+    report.check("holders with inputs", |tally| {
+        enough(calls, HOLDERS_WITH_INPUTS, 150, 50, &INPUT_VALUES, tally)?;
+        enough_unlocks(400, tally)
+    });
 }
 
 /// Compares, and demands that the cases were of use: that there were so many
@@ -39,11 +55,18 @@ fn enough(calls: &dyn Calls, shape: Shape, cases: u64, mixed: u64, input_values:
     tally.saw_often("refused 14", stray_inputs)
 }
 
+/// Demands that runs had unlocks of every sort so often, and violations of both
+/// sorts, alone and in either order.
+fn enough_unlocks(times: u64, tally: &mut Tally) -> Outcome {
+    UNLOCKS.iter().try_for_each(|sort| tally.saw_often(&of_several(sort), times))?;
+    VIOLATIONS.iter().try_for_each(|sort| tally.saw_often(sort, times))
+}
+
 /// Large cases have too many schedules; random ones are taken.
 fn some_schedules(calls: &dyn Calls, tally: &mut Tally) -> Outcome {
     for seed in 0..LARGE_CASES {
         let mut random = Random::from_seed(80_000_000 + seed);
-        let draft = accepted(&mut random, [ANY, LONG, FULL][seed as usize % 3]);
+        let draft = accepted(&mut random, [ANY, LONG, FULL, MANY_HOLDERS][seed as usize % 4]);
         let table = table_of(calls, &draft.bytes())?;
         for _ in 0..10 {
             let schedule = schedule(&mut random, &draft);
@@ -54,5 +77,5 @@ fn some_schedules(calls: &dyn Calls, tally: &mut Tally) -> Outcome {
     for reply in ["violated by all lines", "violated", "clean", "cut off", "refused 14"] {
         tally.saw_often(reply, 100)?;
     }
-    Ok(())
+    enough_unlocks(100, tally)
 }

@@ -36,7 +36,16 @@ const CHECKS: [&str; 9] = [
 
 const DECODINGS: [&str; 4] = ["decoded", "refused 10", "refused 11", "refused 15"];
 
-const REPLAYS: [&str; 7] = ["violated", "clean", "cut off", "refused 10", "refused 12", "refused 13", "refused 14"];
+const REPLAYS: [&str; 8] = [
+    "violated by an assert",
+    "violated by an unlock",
+    "clean",
+    "cut off",
+    "refused 10",
+    "refused 12",
+    "refused 13",
+    "refused 14",
+];
 
 const LISTINGS: [&str; 11] = [
     "listed",
@@ -69,9 +78,9 @@ const LINES: [&str; 11] = [
 const COMPARISONS: [(&str, Comparison, u64, &[&str]); 8] = [
     ("verdicts", verdicts, 20_000, &VERDICTS),
     ("tables", tables, 10_000, &["encoded", "refused 6", "refused 9"]),
-    ("checks", checks, 4_000, &CHECKS),
-    ("decodings", decodings, 4_000, &DECODINGS),
-    ("replays", replays, 20_000, &REPLAYS),
+    ("checks", checks, 6_000, &CHECKS),
+    ("decodings", decodings, 6_000, &DECODINGS),
+    ("replays", replays, 30_000, &REPLAYS),
     ("listings", listings, 2_000, &LISTINGS),
     ("single lines", single_lines, 20_000, &LINES),
     ("every length of every slice", lengths, 200, &["encoded", "refused 10", "decoded", "listed"]),

@@ -1,12 +1,13 @@
 //! The random cases themselves: all are accepted, and between them they have
 //! everything that document 01 allows. Their random schedules stop early, or not,
-//! with all that comes of it.
+//! with all that comes of it, and unlock what is theirs, and what is not.
 
 use crate::ask::reply;
 use crate::calls::{Calls, Replayed, Verdict};
 use crate::compare::SHAPES;
 use crate::draft::Draft;
 use crate::enumerate::{lines_run, runs_all_lines};
+use crate::fill::{of_several, watch, UNLOCKS, VIOLATIONS};
 use crate::generate::accepted;
 use crate::line::{Line, COMPUTE, INPUT, LOAD};
 use crate::random::Random;
@@ -63,6 +64,21 @@ pub fn run(calls: &dyn Calls, report: &mut Report) {
             tally.saw_often(what, 20)?;
         }
         tally.saw_often("lines without a block", 20)
+    });
+    report.check("unlocks of all sorts", |tally| {
+        for seed in 72_000_000..72_000_000 + CASES {
+            let mut random = Random::from_seed(seed);
+            let draft = accepted(&mut random, SHAPES[seed as usize % SHAPES.len()]);
+            let schedule = schedule(&mut random, &draft);
+            if let Replayed::Violated(_) | Replayed::Clean = reply(calls, &draft, &schedule) {
+                watch(&draft, &schedule).note(tally);
+            }
+        }
+        for unlock in UNLOCKS {
+            tally.saw_often(unlock, 20)?;
+            tally.saw_often(&of_several(unlock), 50)?;
+        }
+        VIOLATIONS.iter().try_for_each(|sort| tally.saw_often(sort, 50))
     });
 }
 

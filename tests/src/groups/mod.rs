@@ -13,6 +13,8 @@ mod demand_3;
 mod differential;
 mod fields;
 mod generator;
+mod holders;
+mod holders_in_constraints;
 mod limits;
 mod lines;
 mod listing;
@@ -47,6 +49,7 @@ pub fn all() -> Vec<Group> {
         group("case-a", "case A's listing and P1 to P10", case_a::run),
         group("tables", "tables worked out by hand", tables::run),
         group("runs", "runs worked out by hand", runs::run),
+        group("holders", "mutexes and who unlocks them", holders::run),
         group("checks", "each kind of constraint fails first", checks::run),
         group("decodings", "decodings worked out by hand", decodings::run),
         group("fields", "refusal 9, field by field", fields::run),

@@ -1,19 +1,20 @@
 //! Deliberate mistakes in the second implementation. Each must be found by
 //! every comparison named for it; the right one must pass them all.
 
+use super::holders;
 use crate::calls::Calls;
 use crate::compare::{checks, decodings, lengths, listings, replays, tables, verdicts, Comparison};
 use crate::compare_lines::{single_lines, whole_threads};
 use crate::compare_text::{texts, truths};
 use crate::demand3::compare;
-use crate::generate::{BUSY, BUSY_WITH_INPUTS, SMALL};
+use crate::generate::{BUSY, BUSY_WITH_INPUTS, HOLDERS, SMALL};
 use crate::report::{outcome_of, Outcome, Report, Tally};
 use crate::second::{Second, Wrong, RIGHT};
 
 /// Rounds for each comparison: few, since a mistake should be found soon.
 const ROUNDS: u64 = 150;
 
-const MISTAKES: [(Wrong, &[Comparison]); 53] = [
+const MISTAKES: [(Wrong, &[Comparison]); 64] = [
     (Wrong::StrayNextUnseen, &[verdicts]),
     (Wrong::DropsA6, &[tables, demand_3]),
     (Wrong::FivesLast, &[tables]),
@@ -43,6 +44,14 @@ const MISTAKES: [(Wrong, &[Comparison]); 53] = [
     (Wrong::StrayLeftFirst, &[replays]),
     (Wrong::StrayLeftUnseen, &[replays, demand_3_with_inputs]),
     (Wrong::StrayLeftByRecord, &[replays]),
+    (Wrong::HolderIsThread, &[checks, replays, demand_3_holders, texts, holders_by_hand]),
+    (Wrong::FreeIsOwn, &[checks, replays, demand_3_holders, holders_by_hand]),
+    (Wrong::StrangerFreesNot, &[checks, replays, demand_3_holders, holders_by_hand]),
+    (Wrong::PassedUnlockViolates, &[checks, replays, demand_3_holders, texts, holders_by_hand]),
+    (Wrong::UnrunUnlockViolates, &[checks, replays, demand_3_holders, holders_by_hand]),
+    (Wrong::OnlyAssertsIn7, &[checks, decodings, demand_3_holders, texts, holders_by_hand]),
+    (Wrong::AssertNamedFirst, &[replays, demand_3_holders, holders_by_hand]),
+    (Wrong::LastNamed, &[replays, demand_3, demand_3_holders, holders_by_hand]),
     (Wrong::GuardedLineNotTaken, &[single_lines, whole_threads]),
     (Wrong::FirstLineStays, &[single_lines, whole_threads]),
     (Wrong::MutexAmongGlobals, &[single_lines, whole_threads]),
@@ -67,9 +76,12 @@ const MISTAKES: [(Wrong, &[Comparison]); 53] = [
     (Wrong::LessOrEqual, &[texts, truths]),
     (Wrong::InitialValueForgotten, &[texts, truths]),
     (Wrong::OldValueOpen, &[texts, truths]),
+    (Wrong::ThreadAskedFor, &[texts, truths, holders_by_hand]),
+    (Wrong::UnrunPartHolds, &[texts, truths, holders_by_hand]),
+    (Wrong::UnlocksBehindAsserts, &[texts, holders_by_hand]),
 ];
 
-const ALL: [Comparison; 14] = [
+const ALL: [Comparison; 16] = [
     verdicts,
     tables,
     checks,
@@ -84,6 +96,8 @@ const ALL: [Comparison; 14] = [
     demand_3,
     demand_3_small,
     demand_3_with_inputs,
+    demand_3_holders,
+    holders_by_hand,
 ];
 
 pub fn run(_: &dyn Calls, report: &mut Report) {
@@ -113,4 +127,12 @@ fn demand_3_small(calls: &dyn Calls, rounds: u64, tally: &mut Tally) -> Outcome 
 
 fn demand_3_with_inputs(calls: &dyn Calls, rounds: u64, tally: &mut Tally) -> Outcome {
     compare(calls, BUSY_WITH_INPUTS, rounds, &[0, 3], tally)
+}
+
+fn demand_3_holders(calls: &dyn Calls, rounds: u64, tally: &mut Tally) -> Outcome {
+    compare(calls, HOLDERS, rounds, &[0], tally)
+}
+
+fn holders_by_hand(calls: &dyn Calls, _: u64, tally: &mut Tally) -> Outcome {
+    holders::all(calls, tally)
 }

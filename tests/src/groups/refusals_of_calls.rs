@@ -286,7 +286,8 @@ fn looked_for_last(calls: &dyn Calls, tally: &mut Tally) -> Outcome {
         let draft = Draft::new(2, 1).with_globals(&[3]).with_mutexes(2);
         let draft = draft.with_thread(0, &[store(0, constant(9)), input(0)]).with_thread(1, &cut);
         let steps = if cut[0].kind == ASSUME { 1 } else { 2 };
-        let items = vec![9, 0, steps - 1];
+        // Thread 1 holds what it locked.
+        let items = vec![9, 0, 2 * (steps - 1)];
         let wanted = (Replayed::CutOff(2 + steps), items);
         tally.same(replay(calls, &draft, &[1, steps, 7]), wanted, || format!("{cut:?}"))?;
         let refused = (Replayed::Refused { number: 14, place: 2 }, marks(3));

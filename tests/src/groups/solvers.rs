@@ -10,14 +10,17 @@ use crate::compare_text::text_of;
 use crate::demand3::small_case;
 use crate::draft::Draft;
 use crate::enumerate::{block_lengths, runs_all_lines, schedules, schedules_with_all_values};
-use crate::generate::{Shape, BUSY, FOUR_THREADS, SMALL, TINY, TINY_WITH_INPUTS};
+use crate::generate::{Shape, BUSY, FOUR_HOLDERS, FOUR_THREADS, HOLDERS, SMALL, TINY, TINY_HOLDERS, TINY_WITH_INPUTS};
+use crate::line::{assert, constant, Line, ASSERT, UNLOCK};
 use crate::random::Random;
 use crate::report::{Outcome, Report, Tally};
-use crate::samples::{case_a, guarded_counter, handshake, largest};
+use crate::samples::{case_a, guarded_counter, handshake, largest, right_release, wrong_release};
 use crate::solver::{other_than, Answer, Solver, ALL};
 
-/// Random cases for each solver: without inputs, and with one input each.
-const CASES: u64 = 130;
+/// Random cases for each solver: without inputs, with faults of one sort alone,
+/// and with one input each.
+const CASES: u64 = 150;
+const ONLY_UNLOCKS: u64 = 40;
 const WITH_AN_INPUT: usize = 10;
 /// At least so many of those without inputs must be sat, and so many unsat.
 const OF_EACH: u64 = 30;
@@ -28,9 +31,10 @@ const ALL_MODELS: usize = 12;
 
 type Check = fn(&dyn Calls, Solver, &mut Tally) -> Outcome;
 
-const CHECKS: [(&str, Check); 7] = [
+const CHECKS: [(&str, Check); 8] = [
     ("cases by hand", by_hand),
     ("random cases", many),
+    ("random cases in which unlocks alone violate", only_unlocks),
     ("random cases with an input", with_an_input),
     ("all models of a case", all_models),
     ("an assertion that is left out", left_out),
@@ -57,19 +61,26 @@ fn text(calls: &dyn Calls, draft: &Draft) -> Result<String, String> {
 }
 
 /// Case A, also with one switch less than it needs, larger cases, one of which
-/// no run finishes, and one without any line.
+/// no run finishes, and one without any line; and wrong releases of a mutex, each
+/// with its right twin. Each has at most one line that can violate.
 fn by_hand(calls: &dyn Calls, solver: Solver, tally: &mut Tally) -> Outcome {
-    let cases = [
-        (case_a(), true),
-        (short(), false),
-        (guarded_counter(), true),
-        (handshake(), true),
-        (Draft { switches: 1, ..handshake() }, false),
-        (Draft::new(2, 0), false),
+    let mut cases = vec![
+        (case_a(), Some(4)),
+        (short(), None),
+        (guarded_counter(), Some(13)),
+        (handshake(), Some(3)),
+        (Draft { switches: 1, ..handshake() }, None),
+        (Draft::new(2, 0), None),
+        (Draft { switches: 0, ..wrong_release(2, [0, 1], 0) }, None),
     ];
-    for (draft, sat) in cases {
-        let is_sat = answers_like_replay(calls, solver, &draft, tally)?;
-        tally.same(is_sat, sat, || format!("sat; case {draft}"))?;
+    for (threads, both, mutex) in [(2, [0, 1], 0), (2, [1, 0], 1), (3, [2, 1], 2), (4, [1, 3], 3), (4, [3, 0], 0)] {
+        cases.push((wrong_release(threads, both, mutex), Some(6)));
+        cases.push((right_release(threads, both, mutex), None));
+    }
+    for (draft, line) in cases {
+        let schedule = answers_like_replay(calls, solver, &draft, tally)?;
+        let named = schedule.map(|schedule| reply(calls, &draft, &schedule));
+        tally.same(named, line.map(Replayed::Violated), || format!("sat; case {draft}"))?;
     }
     Ok(())
 }
@@ -84,28 +95,53 @@ fn case_of(seed: u64, shape: Shape) -> Draft {
 }
 
 fn many(calls: &dyn Calls, solver: Solver, tally: &mut Tally) -> Outcome {
-    let (mut sat, mut unsat) = (0, 0);
     for seed in 0..CASES {
-        let shape = [BUSY, SMALL, BUSY, FOUR_THREADS][seed as usize % 4];
+        let shape = [BUSY, SMALL, HOLDERS, BUSY, FOUR_THREADS, FOUR_HOLDERS][seed as usize % 6];
         let draft = case_of(seed, shape);
-        let is_sat = answers_like_replay(calls, solver, &draft, tally).map_err(|message| format!("seed {seed}: {message}"))?;
-        sat += u64::from(is_sat);
-        unsat += u64::from(!is_sat);
+        answers_like_replay(calls, solver, &draft, tally).map_err(|message| format!("seed {seed}: {message}"))?;
     }
-    tally.holds(sat >= OF_EACH && unsat >= OF_EACH, || format!("{sat} sat, {unsat} unsat"))
+    ["sat", "unsat"].iter().try_for_each(|answer| tally.saw_often(answer, OF_EACH))?;
+    ["an assert is named", "an unlock is named"].iter().try_for_each(|named| tally.saw_often(named, 15))
 }
 
-/// Without inputs: sat exactly when some schedule violates.
-fn answers_like_replay(calls: &dyn Calls, solver: Solver, draft: &Draft, tally: &mut Tally) -> Result<bool, String> {
+/// Every assert is made to hold, so that what violates is an unlock.
+fn only_unlocks(calls: &dyn Calls, solver: Solver, tally: &mut Tally) -> Outcome {
+    for seed in 0..ONLY_UNLOCKS {
+        let draft = with_asserts_met(&case_of(40_000 + seed, [HOLDERS, FOUR_HOLDERS][seed as usize % 2]));
+        let schedule =
+            answers_like_replay(calls, solver, &draft, tally).map_err(|message| format!("seed {seed}: {message}"))?;
+        if let Some(Replayed::Violated(line)) = schedule.map(|schedule| reply(calls, &draft, &schedule)) {
+            tally.same(draft.line(line).kind, UNLOCK, || format!("the kind of line {line} of {draft}"))?;
+        }
+    }
+    ["sat", "unsat"].iter().try_for_each(|answer| tally.saw_often(answer, 10))
+}
+
+fn with_asserts_met(draft: &Draft) -> Draft {
+    let mut met = draft.clone();
+    for line in met.records.iter_mut().filter(|line| line.kind == ASSERT) {
+        *line = Line { next: line.next, guard: line.guard, ..assert(constant(1)) };
+    }
+    met
+}
+
+/// Without inputs: sat exactly when some schedule violates. Gives the schedule of
+/// the model.
+fn answers_like_replay(
+    calls: &dyn Calls,
+    solver: Solver,
+    draft: &Draft,
+    tally: &mut Tally,
+) -> Result<Option<Vec<u16>>, String> {
     let violating = violating(calls, draft);
     let answer = solver.ask(&text(calls, draft)?, !violating.is_empty())?;
     let is_sat = matches!(answer, Answer::Sat(_));
     tally.same(is_sat, !violating.is_empty(), || format!("sat; case {draft}"))?;
-    if let Answer::Sat(model) = answer {
-        let schedule = model_violates(calls, draft, &model, tally)?;
-        tally.holds(violating.contains(&schedule), || format!("{schedule:?} decoded"))?;
-    }
-    Ok(is_sat)
+    tally.saw(if is_sat { "sat" } else { "unsat" });
+    let Answer::Sat(model) = answer else { return Ok(None) };
+    let schedule = model_violates(calls, draft, &model, tally)?;
+    tally.holds(violating.contains(&schedule), || format!("{schedule:?} decoded"))?;
+    Ok(Some(schedule))
 }
 
 fn violates(calls: &dyn Calls, draft: &Draft, schedule: &[u16]) -> bool {
@@ -121,8 +157,11 @@ fn model_violates(calls: &dyn Calls, draft: &Draft, model: &[u16], tally: &mut T
     let about = || format!("model {model:?} of {draft}");
     tally.same(check(calls, draft, model), Checked::Meets, about)?;
     let schedule = decode(calls, draft, model)?;
-    let reply = reply(calls, draft, &schedule);
-    tally.holds(matches!(reply, Replayed::Violated(_)), || format!("{}: {schedule:?} is replayed as {reply:?}", about()))?;
+    match reply(calls, draft, &schedule) {
+        Replayed::Violated(line) if draft.line(line).kind == ASSERT => tally.saw("an assert is named"),
+        Replayed::Violated(line) if draft.line(line).kind == UNLOCK => tally.saw("an unlock is named"),
+        reply => return Err(format!("{}: {schedule:?} is replayed as {reply:?}", about())),
+    }
     Ok(schedule)
 }
 
@@ -140,7 +179,10 @@ fn fitting_cases(seeds: Range<u64>, shape: Shape, count: usize, fits: impl Fn(&D
 /// 65,536 values.
 fn with_an_input(calls: &dyn Calls, solver: Solver, tally: &mut Tally) -> Outcome {
     let fits = |draft: &Draft| draft.inputs().len() == 1 && block_lengths(draft).len() <= FEW;
-    for draft in fitting_cases(10_000..20_000, TINY_WITH_INPUTS, WITH_AN_INPUT, fits)? {
+    let holders = Shape { inputs: 40, switches: (1, 2), together: 70, ..TINY_HOLDERS };
+    let mut cases = fitting_cases(10_000..20_000, TINY_WITH_INPUTS, WITH_AN_INPUT, fits)?;
+    cases.extend(fitting_cases(10_000..20_000, holders, WITH_AN_INPUT / 2, fits)?);
+    for draft in cases {
         match solver.ask(&text(calls, &draft)?, false)? {
             Answer::Sat(model) => {
                 model_violates(calls, &draft, &model, tally)?;
@@ -162,7 +204,9 @@ fn with_an_input(calls: &dyn Calls, solver: Solver, tally: &mut Tally) -> Outcom
 /// schedules must be all that violate, each from one model.
 fn all_models(calls: &dyn Calls, solver: Solver, tally: &mut Tally) -> Outcome {
     let fits = |draft: &Draft| (2..=6).contains(&violating(calls, draft).len());
-    for draft in fitting_cases(20_000..30_000, TINY, ALL_MODELS, fits)? {
+    let mut cases = fitting_cases(20_000..30_000, TINY, ALL_MODELS, fits)?;
+    cases.extend(fitting_cases(20_000..30_000, TINY_HOLDERS, ALL_MODELS / 2, fits)?);
+    for draft in cases {
         let wanted = violating(calls, &draft);
         let mut text = text(calls, &draft)?;
         let mut found = BTreeSet::new();
@@ -175,7 +219,8 @@ fn all_models(calls: &dyn Calls, solver: Solver, tally: &mut Tally) -> Outcome {
         }
         tally.same(&found, &wanted, || format!("all models of {draft}"))?;
     }
-    ["all lines", "lines left"].iter().try_for_each(|what| tally.saw_often(what, 10))
+    let all = ["all lines", "lines left", "an assert is named", "an unlock is named"];
+    all.iter().try_for_each(|what| tally.saw_often(what, 10))
 }
 
 /// What is left of a text without the assertion of this number, from 1; or with
@@ -227,15 +272,36 @@ const UNSAT_CHANGES: [(usize, &str); 6] = [
 ];
 
 /// Assertions of case A with one switch, each with a formula that makes the text
-/// sat: line 4 may be run after line 3 was not, and is broken where it is not run.
+/// sat: line 4 may be run after line 3 was not, and is 0 where it is not run.
 const SAT_CHANGES: [(usize, &str); 2] =
     [(6, "(or (= v4 #x0002) (bvule v4 v6))"), (14, "(ite (= v6 #x0002) (= v7 #x0000) (= v7 #x0001))")];
 
+/// The 7 of a wrong release, number 22, so changed that the text is unsat: no line
+/// counts, the holder's unlock alone counts, or the stranger's where it does not
+/// find the holder's 1.
+const WRONG_RELEASE_CHANGES: [(usize, &str); 3] = [
+    (22, "false"),
+    (22, "(not (or (= v6 #x0002) (ite (= v0 v6) (= #x0001 v1) (ite (= v6 #x0000) (= #x0001 #x0000) true))))"),
+    (22, "(not (or (= v10 #x0002) (=> (not (= v9 #x0000)) (ite (= v10 #x0001) (= #x0001 v13) true))))"),
+];
+
+/// The 7 of a right release, number 26, so changed that the text is sat: the other
+/// one's unlock counts where it was not run, or where its guard is false; the
+/// holder's counts where it does not find 0.
+const RIGHT_RELEASE_CHANGES: [(usize, &str); 3] = [
+    (26, "(not (=> (not (= v9 #x0000)) (ite (= v10 v12) (= #x0002 v11) (ite (= v12 #x0001) (= #x0002 v15) true))))"),
+    (26, "(not (or (= v12 #x0002) (ite (= v10 v12) (= #x0002 v11) (ite (= v12 #x0001) (= #x0002 v15) true))))"),
+    (26, "(not (or (= v6 #x0002) (ite (= v0 v6) (= #x0000 v1) (ite (= v6 #x0000) (= #x0000 #x0000) true))))"),
+];
+
 /// Case A is sat, and is not with one formula changed; with one switch it is
-/// unsat, and then is not.
+/// unsat, and then is not. So with a wrong release, and a right one.
 fn changed(calls: &dyn Calls, solver: Solver, tally: &mut Tally) -> Outcome {
+    let (wrong, right) = (wrong_release(2, [0, 1], 0), right_release(2, [0, 1], 0));
     let unsat = UNSAT_CHANGES.iter().map(|change| (case_a(), change, false));
     let sat = SAT_CHANGES.iter().map(|change| (short(), change, true));
+    let unsat = unsat.chain(WRONG_RELEASE_CHANGES.iter().map(|change| (wrong.clone(), change, false)));
+    let sat = sat.chain(RIGHT_RELEASE_CHANGES.iter().map(|change| (right.clone(), change, true)));
     for (draft, &(number, formula), wanted) in unsat.chain(sat) {
         let whole = text(calls, &draft)?;
         let text = with_assertion(&whole, number, Some(formula));
@@ -246,7 +312,7 @@ fn changed(calls: &dyn Calls, solver: Solver, tally: &mut Tally) -> Outcome {
     Ok(())
 }
 
-/// It has no assert, and so no model.
+/// It has no assert and no unlock, and so no model.
 fn largest_text(calls: &dyn Calls, solver: Solver, tally: &mut Tally) -> Outcome {
     let answer = solver.ask(&text(calls, &largest())?, false)?;
     tally.holds(matches!(answer, Answer::Unsat), || format!("{answer:?}"))

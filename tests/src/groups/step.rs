@@ -9,7 +9,7 @@ use crate::calls::{Calls, Replayed};
 use crate::draft::Draft;
 use crate::enumerate::{lines_run, runs_all_lines};
 use crate::fill::fill;
-use crate::generate::{accepted, Shape, ANY, BUSY_WITH_INPUTS, FOUR_THREADS, LONG};
+use crate::generate::{accepted, Shape, ANY, BUSY_WITH_INPUTS, FOUR_THREADS, HOLDERS_WITH_INPUTS, LONG, MANY_HOLDERS};
 use crate::line::INPUT;
 use crate::program;
 use crate::random::Random;
@@ -26,6 +26,11 @@ pub fn run(_: &dyn Calls, report: &mut Report) {
     });
     report.check("four threads", |tally| compare(FOUR_THREADS, 60, tally));
     report.check("long threads", |tally| compare(LONG, 40, tally));
+    report.check("holders", |tally| {
+        compare(HOLDERS_WITH_INPUTS, 60, tally)?;
+        compare(MANY_HOLDERS, 40, tally)?;
+        ["violated", "clean", "cut off"].iter().try_for_each(|what| tally.saw_often(what, 5))
+    });
     report.check("any case", |tally| {
         compare(ANY, 40, tally)?;
         ["switch", "rest", "undo"].iter().try_for_each(|what| tally.saw_often(what, 5))
@@ -170,9 +175,10 @@ impl<'a> Way<'a> {
 
     fn items_in_words(&self) -> String {
         let globals = usize::from(self.draft.globals);
-        let words = self.items.iter().enumerate().map(|(item, value)| match item < globals {
-            true => format!("G{item} = {value}"),
-            false => format!("M{} = {value}", item - globals),
+        let words = self.items.iter().enumerate().map(|(item, &value)| match (item < globals, value) {
+            (true, _) => format!("G{item} = {value}"),
+            (false, 0) => format!("M{} = 0 (free)", item - globals),
+            (false, _) => format!("M{} = {value} (held by thread {})", item - globals, value - 1),
         });
         let words: Vec<String> = words.collect();
         match words.is_empty() {

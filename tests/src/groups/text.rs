@@ -12,7 +12,7 @@ use crate::demand3::small_case;
 use crate::draft::Draft;
 use crate::enumerate::schedules;
 use crate::fill::fill;
-use crate::generate::{accepted, shuffled, BUSY, BUSY_WITH_INPUTS, FULL};
+use crate::generate::{accepted, shuffled, BUSY, BUSY_WITH_INPUTS, FULL, HOLDERS, HOLDERS_WITH_INPUTS};
 use crate::line::*;
 use crate::random::Random;
 use crate::report::{Outcome, Report, Tally};
@@ -77,14 +77,14 @@ fn shipped_cases(calls: &dyn Calls, tally: &mut Tally) -> Outcome {
 }
 
 fn random_cases(calls: &dyn Calls, tally: &mut Tally) -> Outcome {
-    texts(calls, 420, tally)?;
+    texts(calls, 600, tally)?;
     for spelled in NOTED {
         tally.saw_often(spelled, 50)?;
     }
     for number in 1..=10 {
         tally.saw_often(&format!("refused {number}"), 50)?;
     }
-    tally.saw_often("text", 840)
+    tally.saw_often("text", 1_200)
 }
 
 /// Both calls refuse what accept refuses, with its number and place, whatever
@@ -173,7 +173,7 @@ fn largest_text(calls: &dyn Calls, draft: &Draft, tally: &mut Tally) -> Result<u
 }
 
 fn first_false(calls: &dyn Calls, tally: &mut Tally) -> Outcome {
-    truths(calls, 350, tally)?;
+    truths(calls, 500, tally)?;
     tally.saw_often("failed", 1_000)?;
     tally.saw_often("met", 50)
 }
@@ -181,9 +181,9 @@ fn first_false(calls: &dyn Calls, tally: &mut Tally) -> Outcome {
 /// Assignments of violating schedules make every assertion true; a changed
 /// number makes one false, the one that the checker names.
 fn meeting(calls: &dyn Calls, tally: &mut Tally) -> Outcome {
-    for seed in 0..200 {
+    for seed in 0..300 {
         let mut random = Random::from_seed(72_000_000 + seed);
-        let draft = small_case(&mut random, [BUSY, BUSY_WITH_INPUTS][seed as usize % 2]);
+        let draft = small_case(&mut random, [BUSY, BUSY_WITH_INPUTS, HOLDERS, HOLDERS_WITH_INPUTS][seed as usize % 4]);
         let script = script_of(calls, &draft, tally)?;
         let violates = |schedule: &Vec<u16>| matches!(reply(calls, &draft, schedule), Replayed::Violated(_));
         for schedule in schedules(&draft, &[0, 3]).into_iter().filter(violates).take(6) {

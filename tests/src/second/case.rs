@@ -138,6 +138,34 @@ impl Case {
         (block + usize::from(skipped)) % self.threads
     }
 
+    /// The thread that has the line in its chain.
+    pub fn thread_of_line(&self, line: u16) -> usize {
+        let thread = self.chains.iter().position(|chain| chain.contains(&line));
+        thread.expect("each line is in a chain")
+    }
+
+    /// "A lock by thread t now puts t + 1 in the mutex".
+    pub fn holder(&self, thread: usize) -> u16 {
+        match self.wrong {
+            Wrong::HolderIsThread => thread as u16,
+            _ => thread as u16 + 1,
+        }
+    }
+
+    /// Whether an unlock by the thread is no violation: the mutex reads t + 1.
+    pub fn is_holder(&self, thread: usize, mutex: u16) -> bool {
+        let free_is_own = self.wrong == Wrong::FreeIsOwn && mutex == 0;
+        mutex == self.holder(thread) || free_is_own
+    }
+
+    /// What an unlock leaves in a mutex; one by a stranger "still frees the mutex".
+    pub fn unlocked(&self, thread: usize, mutex: u16) -> u16 {
+        match self.wrong {
+            Wrong::StrangerFreesNot if !self.is_holder(thread, mutex) => mutex,
+            _ => 0,
+        }
+    }
+
     /// "A line with block number n + 1 was not run".
     pub fn unrun_block(&self) -> u16 {
         self.switches as u16 + 1

@@ -1,23 +1,24 @@
 //! What the constraints say of an assignment.
 
 use super::case::{Case, Name, Record, ASSERT, ASSUME, INPUT, LOAD, LOCK, UNLOCK};
-use super::encode::{is_copy, Row};
+use super::encode::{is_copy, value_row_of, Row};
 use super::wrong::Wrong;
 
-/// An assignment to the variables of a case.
+/// An assignment to the variables of a case, and its table.
 pub struct Assigned<'a> {
     pub case: &'a Case,
+    pub rows: &'a [Row],
     pub numbers: &'a [u16],
 }
 
 impl Assigned<'_> {
     /// The first failed constraint, counted from 1; none if all are met.
-    pub fn first_failed(&self, rows: &[Row]) -> Option<u16> {
-        let mut order: Vec<usize> = (0..rows.len()).collect();
+    pub fn first_failed(&self) -> Option<u16> {
+        let mut order: Vec<usize> = (0..self.rows.len()).collect();
         if self.case.wrong == Wrong::ValuesBeforeBlocks {
-            order.sort_by_key(|&index| rows[index][0] <= 3);
+            order.sort_by_key(|&index| self.rows[index][0] <= 3);
         }
-        let failed = order.into_iter().find(|&index| !self.holds(rows[index]))?;
+        let failed = order.into_iter().find(|&index| !self.holds(self.rows[index]))?;
         Some(failed as u16 + 1)
     }
 
@@ -38,8 +39,7 @@ impl Assigned<'_> {
             4 => self.value_is_kept(row),
             5 => self.demand_is_met(row),
             6 => self.block_value_is_kept(row),
-            // "some assert has value 0"
-            _ => self.some_assert_is_zero(),
+            _ => self.some_line_violates(),
         }
     }
 
@@ -133,13 +133,14 @@ impl Assigned<'_> {
 
     /// "Guard true: the expression; for a load, the item read with the a copy;
     /// 1 for lock, 0 for unlock; assert and assume give 1 if the expression is
-    /// not zero, else 0".
+    /// not zero, else 0"; but "A lock by thread t now puts t + 1 in the mutex".
     fn value_if_guard_is_true(&self, record: &Record, row: Row) -> u16 {
-        let [_, line, _, a_copy, b_copy, _] = row;
+        let [_, line, _, a_copy, b_copy, target_copy] = row;
+        let thread = self.case.thread_of_line(line);
         match record.kind {
             LOAD => self.item_read(usize::from(record.a), line, a_copy),
-            LOCK => 1,
-            UNLOCK => 0,
+            LOCK => self.case.holder(thread),
+            UNLOCK => self.case.unlocked(thread, self.name_read(Name::Mutex(record.target), line, target_copy)),
             ASSERT | ASSUME => u16::from(self.expression(record, a_copy, b_copy) != 0),
             _ => self.expression(record, a_copy, b_copy),
         }
@@ -204,8 +205,25 @@ impl Assigned<'_> {
         copies_back.find(is_here)
     }
 
-    fn some_assert_is_zero(&self) -> bool {
+    /// "some assert has value 0", run or not; and "Constraint 7 is met by such a
+    /// line too", an unlock by a stranger.
+    fn some_line_violates(&self) -> bool {
         let mut lines = self.case.chains.iter().flatten();
-        lines.any(|&line| self.case.record(line).kind == ASSERT && self.value(line) == 0)
+        lines.any(|&line| match self.case.record(line).kind {
+            ASSERT => self.value(line) == 0,
+            UNLOCK => self.unlocks_as_stranger(line) && self.case.wrong != Wrong::OnlyAssertsIn7,
+            _ => false,
+        })
+    }
+
+    /// "a run line that unlocks with its guard true while the mutex does not read
+    /// t + 1"; it is read with the copies in the line's 4.
+    fn unlocks_as_stranger(&self, line: u16) -> bool {
+        let [_, _, guard_copy, _, _, target_copy] = value_row_of(self.rows, line);
+        let record = self.case.record(line);
+        let is_run = self.was_run(line) || self.case.wrong == Wrong::UnrunUnlockViolates;
+        let guarded_in = self.guard_is_true(record, guard_copy) || self.case.wrong == Wrong::PassedUnlockViolates;
+        let mutex = self.name_read(Name::Mutex(record.target), line, target_copy);
+        is_run && guarded_in && !self.case.is_holder(self.case.thread_of_line(line), mutex)
     }
 }

@@ -1,15 +1,15 @@
 //! The schedule that an assignment stands for.
 
 use super::check::Assigned;
-use super::encode::Row;
+use super::encode::value_row_of;
 use super::wrong::Wrong;
 
 /// The block lengths, then the input values "by thread and then by chain".
-pub fn schedule(assigned: &Assigned, rows: &[Row]) -> Vec<u16> {
+pub fn schedule(assigned: &Assigned) -> Vec<u16> {
     let case = assigned.case;
     let blocks = 0..=case.switches;
     let mut schedule: Vec<u16> = blocks.map(|block| block_length(assigned, block)).collect();
-    schedule.extend(case.inputs().iter().map(|&line| input_value(assigned, rows, line)));
+    schedule.extend(case.inputs().iter().map(|&line| input_value(assigned, line)));
     schedule
 }
 
@@ -25,19 +25,14 @@ fn block_length(assigned: &Assigned, block: usize) -> u16 {
 
 /// "a run input line with a true guard has its variable's value, any other
 /// input line 0"
-fn input_value(assigned: &Assigned, rows: &[Row], line: u16) -> u16 {
+fn input_value(assigned: &Assigned, line: u16) -> u16 {
     let record = assigned.case.record(line);
-    let guarded_in = assigned.guard_is_true(record, guard_copy(rows, line));
+    let [_, _, guard_copy, ..] = value_row_of(assigned.rows, line);
+    let guarded_in = assigned.guard_is_true(record, guard_copy);
     match assigned.case.wrong {
         Wrong::FalseInputKept => assigned.value(line),
         Wrong::UnrunInputFree if !assigned.was_run(line) => assigned.value(line),
         _ if assigned.was_run(line) && guarded_in => assigned.value(line),
         _ => 0,
     }
-}
-
-/// The guard copy stands in the line's 4.
-fn guard_copy(rows: &[Row], line: u16) -> u16 {
-    let mut rows = rows.iter();
-    rows.find(|row| row[0] == 4 && row[1] == line).map_or(0, |row| row[2])
 }

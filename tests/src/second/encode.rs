@@ -113,3 +113,9 @@ pub fn is_copy(case: &Case, line: u16, name: Name) -> bool {
     let left_out = case.wrong == Wrong::GuardedStoreIsNoCopy && record.kind == STORE && record.guard != 0;
     record.target_name() == Some(name) && !left_out
 }
+
+/// The 4 of a line, which has the copies of its names.
+pub fn value_row_of(rows: &[Row], line: u16) -> Row {
+    let row = rows.iter().find(|row| row[0] == 4 && row[1] == line);
+    *row.expect("each line has a 4")
+}

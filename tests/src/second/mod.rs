@@ -118,8 +118,8 @@ impl Second {
     fn try_check(&self, bytes: &[u8], assignment: &[u16]) -> Result<Checked, Refusal> {
         let case = read(bytes, self.wrong)?;
         fits_variables(&case, assignment)?;
-        let assigned = Assigned { case: &case, numbers: assignment };
-        let failed = assigned.first_failed(&encode::rows(&case));
+        let assigned = Assigned { case: &case, rows: &encode::rows(&case), numbers: assignment };
+        let failed = assigned.first_failed();
         Ok(failed.map_or(Checked::Meets, Checked::Fails))
     }
 
@@ -130,12 +130,11 @@ impl Second {
         }
         room_for(case.schedule_numbers(), schedule)?;
         fits_variables(&case, assignment)?;
-        let rows = encode::rows(&case);
-        let assigned = Assigned { case: &case, numbers: assignment };
-        if let Some(place) = assigned.first_failed(&rows) {
+        let assigned = Assigned { case: &case, rows: &encode::rows(&case), numbers: assignment };
+        if let Some(place) = assigned.first_failed() {
             return Err(Refusal { number: 15, place });
         }
-        let decoded = decode::schedule(&assigned, &rows);
+        let decoded = decode::schedule(&assigned);
         self.write(&decoded, schedule);
         Ok(Decoded::Schedule { numbers: decoded.len() as u16 })
     }
@@ -154,14 +153,15 @@ impl Second {
             return Err(Refusal { number: 14, place });
         }
         self.write(&machine.items(), items);
-        Ok(self.answer(stop, machine.zero_assert))
+        Ok(self.answer(stop, machine.violation()))
     }
 
-    /// "After a zero assert it goes on; a later cut-off is then the reply."
-    fn answer(&self, stop: Option<Stop>, zero_assert: Option<u16>) -> Replayed {
-        let assert_decides = self.wrong == Wrong::ViolatedThoughCutOff;
-        match (stop, zero_assert) {
-            (_, Some(line)) if assert_decides => Replayed::Violated(line),
+    /// "After a zero assert it goes on; a later cut-off is then the reply", and so
+    /// after an unlock by a stranger.
+    fn answer(&self, stop: Option<Stop>, violation: Option<u16>) -> Replayed {
+        let violation_decides = self.wrong == Wrong::ViolatedThoughCutOff;
+        match (stop, violation) {
+            (_, Some(line)) if violation_decides => Replayed::Violated(line),
             (Some(Stop::CutOff(line)), _) => Replayed::CutOff(line),
             (_, Some(line)) => Replayed::Violated(line),
             (_, None) => Replayed::Clean,

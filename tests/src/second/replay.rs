@@ -28,8 +28,8 @@ pub struct Machine<'a> {
     /// "globals are at their initial values and mutexes at 0"
     globals: Vec<u16>,
     mutexes: Vec<u16>,
-    /// "the first zero assert in running order"
-    pub zero_assert: Option<u16>,
+    /// The lines that violate, in running order.
+    violations: Vec<u16>,
 }
 
 impl<'a> Machine<'a> {
@@ -42,7 +42,7 @@ impl<'a> Machine<'a> {
             threads: firsts.iter().map(at_start).collect(),
             globals: case.initial[..case.globals].to_vec(),
             mutexes: vec![0; case.mutexes],
-            zero_assert: None,
+            violations: Vec::new(),
         }
     }
 
@@ -63,9 +63,33 @@ impl<'a> Machine<'a> {
                 }
             }
         }
+        if self.case.wrong == Wrong::UnrunUnlockViolates {
+            self.note_unlocks_left();
+        }
         // "An unrun input has value 0, otherwise 14 [...], looked for after the
         // last step."
         self.first_stray(self.lines_left())
+    }
+
+    /// "replay names the first of either sort" in running order.
+    pub fn violation(&self) -> Option<u16> {
+        let is_assert = |line: &&u16| self.case.record(**line).kind == ASSERT;
+        let first = match self.case.wrong {
+            Wrong::AssertNamedFirst => self.violations.iter().find(is_assert).or(self.violations.first()),
+            Wrong::LastNamed => self.violations.last(),
+            _ => self.violations.first(),
+        };
+        first.copied()
+    }
+
+    /// A mistake: the unlocks that the threads come to next.
+    fn note_unlocks_left(&mut self) {
+        for thread in 0..self.threads.len() {
+            let line = self.threads[thread].next_line;
+            if line != 0 && self.case.record(line).kind == UNLOCK && self.is_stranger(thread, line) {
+                self.violations.push(line);
+            }
+        }
     }
 
     /// "at the first such record by thread and chain"
@@ -114,7 +138,8 @@ impl<'a> Machine<'a> {
             return None;
         }
         let record = case.record(line);
-        let stop = if self.guard_is_true(thread, record) { self.run_line(thread, line, record) } else { self.pass_line(line) };
+        let stop =
+            if self.guard_is_true(thread, record) { self.run_line(thread, line, record) } else { self.pass_line(thread, line) };
         if stop.is_none() {
             // "After any other step the record that follows becomes the next
             // line."
@@ -130,7 +155,11 @@ impl<'a> Machine<'a> {
 
     /// "Guard false: no local, global or mutex changes, and an input's
     /// schedule value must be 0".
-    fn pass_line(&self, line: u16) -> Option<Stop> {
+    fn pass_line(&mut self, thread: usize, line: u16) -> Option<Stop> {
+        let passes_unlock = self.case.record(line).kind == UNLOCK && self.is_stranger(thread, line);
+        if passes_unlock && self.case.wrong == Wrong::PassedUnlockViolates {
+            self.violations.push(line);
+        }
         self.is_stray(line).then_some(Stop::StrayInput(line))
     }
 
@@ -141,7 +170,8 @@ impl<'a> Machine<'a> {
 
     /// "Guard true: compute, store, load, lock and unlock do what Kinds says,
     /// an input puts its schedule value in its target, an assert that is zero
-    /// is noted and changes nothing."
+    /// is noted and changes nothing." An unlock by a stranger "is a violation,
+    /// though it still frees the mutex".
     fn run_line(&mut self, thread: usize, line: u16, record: &Record) -> Option<Stop> {
         let target = usize::from(record.target);
         let expression = self.expression(thread, record);
@@ -150,16 +180,25 @@ impl<'a> Machine<'a> {
             STORE => self.globals[target] = expression,
             LOAD => self.threads[thread].locals[target] = self.globals[usize::from(record.a)],
             INPUT => self.threads[thread].locals[target] = self.input_value(line),
-            ASSERT if expression == 0 => {
-                self.zero_assert.get_or_insert(line);
-            }
+            ASSERT if expression == 0 => self.violations.push(line),
             ASSUME if expression == 0 => return self.cut_off(line),
             LOCK if self.mutexes[target] != 0 => return Some(Stop::CutOff(line)),
-            LOCK => self.mutexes[target] = 1,
-            UNLOCK => self.mutexes[target] = 0,
+            LOCK => self.mutexes[target] = self.case.holder(thread),
+            UNLOCK => {
+                if self.is_stranger(thread, line) {
+                    self.violations.push(line);
+                }
+                self.mutexes[target] = self.case.unlocked(thread, self.mutexes[target]);
+            }
             _ => {}
         }
         None
+    }
+
+    /// Whether "the mutex does not read t + 1" where thread t comes to an unlock.
+    fn is_stranger(&self, thread: usize, unlock: u16) -> bool {
+        let mutex = self.mutexes[usize::from(self.case.record(unlock).target)];
+        !self.case.is_holder(thread, mutex)
     }
 
     fn cut_off(&self, line: u16) -> Option<Stop> {

@@ -2,7 +2,7 @@
 //! document 01 alone. What is quoted here stands on that page.
 
 use super::case::{Case, Record, ASSERT, ASSUME, COMPUTE, INPUT, LOAD, LOCK, STORE, UNLOCK};
-use super::encode::Row;
+use super::encode::{value_row_of, Row};
 use super::wrong::Wrong;
 
 const MOST_SOURCES: usize = 6;
@@ -114,8 +114,7 @@ impl<'a> Speller<'a> {
 
     /// "The own blocks of a thread t: t, t + T, t + 2T and on, up to n".
     fn own_blocks(&self, line: u16) -> Vec<usize> {
-        let mut chains = self.case.chains.iter();
-        let thread = chains.position(|chain| chain.contains(&line)).expect("each line is in a chain");
+        let thread = self.case.thread_of_line(line);
         (thread..=self.case.switches).step_by(self.case.threads).collect()
     }
 
@@ -247,7 +246,7 @@ impl<'a> Speller<'a> {
             COMPUTE | STORE => self.with_facts(record, &a, &b, equal(&value, &expression(self.case.wrong, record, &a, &b))),
             LOAD => self.is_read(&value, usize::from(record.a), line, a_copy),
             INPUT => "true".into(),
-            LOCK => equal(&value, &constant(1)),
+            LOCK => equal(&value, &constant(self.case.holder(self.case.thread_of_line(line)))),
             UNLOCK => equal(&value, &constant(0)),
             _ => {
                 let is_zero = equal(&expression(self.case.wrong, record, &a, &b), &constant(0));
@@ -297,19 +296,25 @@ impl<'a> Speller<'a> {
         }
     }
 
-    /// "For an assume `F` is `(= V #x0001)`. For a lock: with `D` for '`#x0000`
-    /// is the mutex as line k reads it with the target copy', for guard 0 `F` is
-    /// `D`, else `(=> G D)`".
+    /// "For an assume `F` is `(= V #x0001)`"; a lock finds its mutex at 0.
     fn demand_of_run(&self, row: Row) -> String {
         let [_, line, guard_copy, target_copy, ..] = row;
-        let record = self.case.record(line);
-        if record.kind == ASSUME {
-            return equal(&self.value(line), &constant(1));
+        match self.case.record(line).kind {
+            ASSUME => equal(&self.value(line), &constant(1)),
+            _ => self.finds_mutex_at(0, line, guard_copy, target_copy),
         }
-        let is_free = self.is_read(&constant(0), self.target_item(record), line, target_copy);
+    }
+
+    /// "with `D` for '`#x0000` is the mutex as line k reads it with the target
+    /// copy', for guard 0 `F` is `D`, else `(=> G D)`", for this number.
+    fn finds_mutex_at(&self, number: u16, line: u16, guard_copy: u16, target_copy: u16) -> String {
+        let record = self.case.record(line);
+        let reads = self.is_read(&constant(number), self.target_item(record), line, target_copy);
         match self.guard(record, guard_copy) {
-            None => is_free,
-            Some(guard) => format!("(=> {guard} {is_free})"),
+            Some(guard) if !(record.kind == UNLOCK && self.case.wrong == Wrong::PassedUnlockViolates) => {
+                format!("(=> {guard} {reads})")
+            }
+            _ => reads,
         }
     }
 
@@ -322,7 +327,7 @@ impl<'a> Speller<'a> {
         let mut copy = last_copy;
         while copy != 0 {
             cases.push((equal(&self.block(copy), &constant(block)), self.is(&after, &self.value(copy))));
-            copy = self.target_copy(copy);
+            [_, _, _, _, _, copy] = value_row_of(self.rows, copy);
         }
         if self.case.wrong == Wrong::NoWalkBack {
             cases.truncate(1);
@@ -330,25 +335,46 @@ impl<'a> Speller<'a> {
         chosen(cases, self.is(&after, &self.before(usize::from(item), usize::from(block))))
     }
 
-    /// The target copy in the 4 of a line.
-    fn target_copy(&self, line: u16) -> u16 {
-        let row = self.rows.iter().find(|row| row[0] == 4 && row[1] == line);
-        row.expect("each line has a 4")[5]
-    }
-
-    /// "7: with the assert lines by thread and chain".
+    /// "7: with a part for each assert and each unlock, by thread and chain:
+    /// `(or A (or B .. false..))`. Without any it is `false`."
     fn violation_formula(&self) -> String {
-        let lines = self.case.chains.iter().flatten().copied();
-        let asserts = lines.filter(|&line| self.case.record(line).kind == ASSERT);
-        let mut zeros: Vec<String> = asserts.map(|line| equal(&self.value(line), &constant(0))).collect();
-        let innermost = match (self.case.wrong, zeros.pop()) {
-            (Wrong::NoFalseInnermost, Some(zero)) => zero,
+        let mut lines = self.case.chains.concat();
+        if self.case.wrong == Wrong::UnlocksBehindAsserts {
+            lines.sort_by_key(|&line| self.case.record(line).kind == UNLOCK);
+        }
+        let mut parts: Vec<String> = lines.into_iter().filter_map(|line| self.violation_part(line)).collect();
+        let innermost = match (self.case.wrong, parts.pop()) {
+            (Wrong::NoFalseInnermost, Some(part)) => part,
             (_, last) => {
-                zeros.extend(last);
+                parts.extend(last);
                 "false".into()
             }
         };
-        nested("or", zeros, innermost)
+        nested("or", parts, innermost)
+    }
+
+    /// "The part of an assert is `(= V #x0000)` [...]. The part of an unlock, line
+    /// k of thread t, is `(not (or U F))`", and `F` as in the 5 of a lock, but for
+    /// the constant t + 1. "The copies of guard and target are those of the line's
+    /// 4."
+    fn violation_part(&self, line: u16) -> Option<String> {
+        match self.case.record(line).kind {
+            ASSERT => Some(equal(&self.value(line), &constant(0))),
+            UNLOCK if self.case.wrong != Wrong::OnlyAssertsIn7 => {
+                let [_, _, guard_copy, _, _, target_copy] = value_row_of(self.rows, line);
+                let thread = self.case.thread_of_line(line);
+                let holder = match self.case.wrong {
+                    Wrong::ThreadAskedFor => thread as u16,
+                    _ => self.case.holder(thread),
+                };
+                let holds = self.finds_mutex_at(holder, line, guard_copy, target_copy);
+                Some(match self.case.wrong {
+                    Wrong::UnrunPartHolds => format!("(not {holds})"),
+                    _ => format!("(not (or {} {holds}))", self.not_run(line)),
+                })
+            }
+            _ => None,
+        }
     }
 }
 

@@ -27,7 +27,7 @@ pub enum Wrong {
     FalseInputKept,
     /// The replayer goes on after a failed assume.
     GoesOnAfterAssume,
-    /// A zero assert is the reply, whatever cuts the run off later.
+    /// A violation is the reply, whatever cuts the run off later.
     ViolatedThoughCutOff,
     /// Block lengths are added modulo 65,536.
     LengthsWrap,
@@ -70,6 +70,22 @@ pub enum Wrong {
     StrayLeftUnseen,
     /// Of such inputs the one with the lowest record number is named.
     StrayLeftByRecord,
+    /// A lock by thread t puts t in the mutex, and an unlock looks for t.
+    HolderIsThread,
+    /// An unlock of a free mutex is taken as one by its holder.
+    FreeIsOwn,
+    /// An unlock by a stranger leaves the mutex as it is.
+    StrangerFreesNot,
+    /// An unlock by a stranger violates, though its guard is false.
+    PassedUnlockViolates,
+    /// An unlock by a stranger violates, though it was not run.
+    UnrunUnlockViolates,
+    /// The 7 looks at asserts alone.
+    OnlyAssertsIn7,
+    /// A zero assert is named, though a stranger unlocked before it.
+    AssertNamedFirst,
+    /// Of several lines that violate the last one is named.
+    LastNamed,
     /// A line with a guard is not taken as a copy.
     GuardedLineNotTaken,
     /// A name keeps the first line that has it as target.
@@ -118,7 +134,7 @@ pub enum Wrong {
     ReaderBeforeCopy,
     /// The facts of a comparison take two sources in one order alone.
     FactsOnce,
-    /// The last assert of a 7 stands without a `false`.
+    /// The last part of a 7 stands without a `false`.
     NoFalseInnermost,
     /// Op 6 is spelled as less or equal.
     LessOrEqual,
@@ -126,4 +142,10 @@ pub enum Wrong {
     InitialValueForgotten,
     /// The text leaves the value of a line open where its guard is false.
     OldValueOpen,
+    /// The text's 7 looks for t in the mutex that thread t unlocks.
+    ThreadAskedFor,
+    /// The text's 7 does not ask whether an unlock was run.
+    UnrunPartHolds,
+    /// In the text's 7 all unlocks stand behind all asserts.
+    UnlocksBehindAsserts,
 }
