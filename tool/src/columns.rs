@@ -8,7 +8,7 @@ use crate::folds::{fold_in_words, parts, Part};
 use crate::run::{verdict, Run};
 use crate::svg::{Style, Svg, PAGE};
 use crate::walk::{Event, Step};
-use crate::words::item_name;
+use crate::words::{item_value, value_in_words};
 
 const MARGIN: u32 = 8;
 const WIDTH: u32 = PAGE[0] - 2 * MARGIN;
@@ -80,7 +80,7 @@ fn item_width(case: &Case, run: &Run) -> u32 {
 
 fn at_start(case: &Case) -> Vec<(String, bool)> {
     let items = case.items_at_start().into_iter().enumerate();
-    items.map(|(item, value)| (format!("{} = {value}", item_name(case, item)), false)).collect()
+    items.map(|(item, value)| (item_value(case, item, value), false)).collect()
 }
 
 impl Pages<'_> {
@@ -157,9 +157,11 @@ impl Pages<'_> {
 
     /// What came of a line. Where that is a value and is too long, the name is left out, which the line has before.
     fn result(&self, step: &Step, width: u32) -> String {
-        let words = step.event.words(&self.case.names);
+        let words = step.event.words(self.case);
         match step.event {
-            Event::Set(_, value) if TEXT.width(&words) > width => format!("= {value}"),
+            Event::Set(name, value) if TEXT.width(&words) > width => {
+                format!("= {}", value_in_words(self.case, name, value, None))
+            }
             _ => words,
         }
     }
@@ -198,14 +200,14 @@ impl Pages<'_> {
         svg
     }
 
-    /// The page, from 1, that has the broken assertion or the line that ends the run.
+    /// The page, from 1, that has the first line that violates, or the line that ends the run.
     fn page_of_the_end(&self, placed: &[Vec<Placed>]) -> Option<usize> {
-        let wanted = match self.run.ending {
-            Ending::Violated(_) => Look::Broken,
-            Ending::CutOff(_) => Look::CutOff,
-            Ending::Clean => return None,
+        let is_wanted = |look: Look| match self.run.ending {
+            Ending::Violated(_) => look.violates(),
+            Ending::CutOff(_) => look == Look::CutOff,
+            Ending::Clean => false,
         };
-        let has = |rows: &Vec<Placed>| rows.iter().any(|(_, row)| matches!(row, Row::Cell { look, .. } if *look == wanted));
+        let has = |rows: &Vec<Placed>| rows.iter().any(|(_, row)| matches!(row, Row::Cell { look, .. } if is_wanted(*look)));
         placed.iter().position(has).map(|page| page + 1)
     }
 

@@ -15,7 +15,7 @@ use crate::orders::{Order, Orders};
 use crate::output::Output;
 use crate::run::{self, Run};
 use crate::values;
-use crate::walk::{first_broken, is_cut_off};
+use crate::walk::{first_fault, is_cut_off};
 use crate::words::{count, items_in_words, numbers_in_lines, record_in_words};
 use std::ffi::OsString;
 
@@ -217,8 +217,8 @@ impl Talk<'_> {
             text.push_str(format!("   thread {thread}  {line}").trim_end());
             text.push('\n');
         }
-        if let Some(record) = first_broken(&self.run.steps) {
-            text.push_str(&format!("record {record} is broken: a run that stops here violates\n"));
+        if let Some(fault) = first_fault(&self.run.steps) {
+            text.push_str(&format!("record {} {}: a run that stops here violates\n", fault.record, fault.sort()));
         }
         text
     }
