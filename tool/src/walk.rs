@@ -191,9 +191,12 @@ impl<'a> Machine<'a> {
         }
     }
 
-    /// The mutex that is the line's target.
-    fn mutex(&self, record: &Record) -> u16 {
-        self.items[self.case.globals + usize::from(record.target)]
+    /// The mutex that is the target of a lock or unlock; of any other line 0.
+    pub fn mutex(&self, record: &Record) -> u16 {
+        match record.kind {
+            Kind::Lock | Kind::Unlock => self.items[self.case.globals + usize::from(record.target)],
+            _ => 0,
+        }
     }
 
     fn demand(&self, thread: usize, record: &Record) -> Event {
