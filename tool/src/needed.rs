@@ -146,7 +146,7 @@ impl Rows<'_> {
         Seen {
             holds: records.contains_key(&0) || unlocks.iter().any(|(by_stranger, _)| *by_stranger),
             needed: needed.to_string(),
-            found: if found.is_empty() { "no assert and no unlock".to_string() } else { found.join(", ") },
+            found: if found.is_empty() { "no assert and no unlock".to_string() } else { found.join("; ") },
         }
     }
 
@@ -156,11 +156,14 @@ impl Rows<'_> {
         let mutex = self.reads.term(record, Term::mutex(self.case, record, copy));
         let value = mutex.as_ref().map_or(0, |mutex| mutex.value);
         let (by_stranger, words) = match (self.reads.was_run(record.number), self.reads.guard(record, guard_copy)) {
-            (false, _) => (false, "not run".to_string()),
-            (true, (false, why)) => (false, why.unwrap_or_default()),
-            (true, (true, _)) => (value != record.holder(), mutex.map(|mutex| mutex.words).unwrap_or_default()),
+            (false, _) => (false, " was not run".to_string()),
+            (true, (false, why)) => (false, format!(" is skipped: {}", why.unwrap_or_default())),
+            (true, (true, _)) => {
+                let found = mutex.map(|mutex| mutex.words).unwrap_or_default();
+                (value != record.holder(), format!(", by thread {}, finds {found}", record.thread))
+            }
         };
-        (by_stranger, format!("record {}, an unlock by thread {}: {words}", record.number, record.thread))
+        (by_stranger, format!("the unlock of record {}{words}", record.number))
     }
 
     /// The value that a line must have; none where it is free.
