@@ -43,17 +43,15 @@ impl Loaded {
     }
 
     /// The fault that was asked about, in the run of an assignment that meets the constraints: the first of the run, unless it is
-    /// one line's. An assert that is run with a true guard, and is zero there, has the value 0, and no other has.
-    pub fn fault_asked_about(&self, assignment: &[u16], schedule: &[u16], first: Fault) -> Result<Fault, Failure> {
+    /// one line's. An assert that is run with a true guard, and is zero there, has the value 0, and no other has. Nothing where that
+    /// line does not violate.
+    pub fn fault_asked_about(&self, assignment: &[u16], schedule: &[u16], first: Fault) -> Option<Fault> {
         let Some(record) = self.asked.filter(|&record| record != first.record) else {
-            return Ok(first);
+            return Some(first);
         };
         match self.case.record(record).kind {
-            Kind::Assert if Reads { case: &self.case, assignment }.value(record) != 0 => Err(Failure::Other(format!(
-                "an assignment for a violation at {} has another: it does not meet the text that was asked about",
-                record_in_words(&self.case, record)
-            ))),
-            _ => self.fault(record, schedule),
+            Kind::Unlock => self.by_stranger(record, schedule),
+            _ => (Reads { case: &self.case, assignment }.value(record) == 0).then_some(Fault { record, found: None }),
         }
     }
 

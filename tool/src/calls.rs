@@ -154,7 +154,7 @@ impl Loaded {
     pub fn replay(&self, name: &str, schedule: &[u16]) -> Result<(Ending, Vec<u16>), Failure> {
         let mut items = vec![0; self.case.items()];
         let ending = match menduvo::replay(&self.case.bytes, schedule, &mut items) {
-            Replayed::Violated(record) => Ending::Violated(self.fault(record, schedule)?),
+            Replayed::Violated(record) => Ending::Violated(self.first_fault(record, schedule)?),
             Replayed::Clean => Ending::Clean,
             Replayed::CutOff(record) => Ending::CutOff(record),
             Replayed::Refused { number, place } => {

@@ -124,20 +124,23 @@ impl Loaded {
         }
     }
 
-    /// The fault of a line that violates in the run of this schedule, by the library's word.
-    pub fn fault(&self, record: u16, schedule: &[u16]) -> Result<Fault, Failure> {
-        let unlock = self.case.records.get(usize::from(record).wrapping_sub(1)).filter(|record| record.kind == Kind::Unlock);
-        let Some(unlock) = unlock else {
-            return Ok(Fault { record, found: None });
-        };
-        let items = self.items_before(record, schedule);
-        let found = items.map(|items| items[self.case.globals + usize::from(unlock.target)]);
-        match found.filter(|&found| found != unlock.holder()) {
-            Some(found) => Ok(Fault { record, found: Some(found) }),
-            None => Err(Failure::Other(format!(
-                "{} violates, and is no unlock by a stranger: this is not the proved library",
-                record_in_words(&self.case, record)
-            ))),
+    /// The fault of an unlock that is by a stranger in the run of a schedule; nothing where it is not.
+    pub fn by_stranger(&self, record: u16, schedule: &[u16]) -> Option<Fault> {
+        let unlock = self.case.record(record);
+        let found = self.items_before(record, schedule)?[self.case.globals + usize::from(unlock.target)];
+        (found != unlock.holder()).then_some(Fault { record, found: Some(found) })
+    }
+
+    /// The fault of the line that violates first in the run of a schedule, by the library's word.
+    pub fn first_fault(&self, record: u16, schedule: &[u16]) -> Result<Fault, Failure> {
+        match self.case.records.get(usize::from(record).wrapping_sub(1)).map(|record| record.kind) {
+            Some(Kind::Unlock) => self.by_stranger(record, schedule).ok_or_else(|| {
+                Failure::Other(format!(
+                    "{} violates, and is no unlock by a stranger: this is not the proved library",
+                    record_in_words(&self.case, record)
+                ))
+            }),
+            _ => Ok(Fault { record, found: None }),
         }
     }
 }

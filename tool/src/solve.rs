@@ -263,7 +263,12 @@ fn followed(loaded: &Loaded, solver: &str, model: &Model) -> Result<Found, Failu
             run::verdict(&loaded.case, run.ending)
         )));
     };
-    let fault = loaded.fault_asked_about(assignment, &schedule, first)?;
+    let Some(fault) = loaded.fault_asked_about(assignment, &schedule, first) else {
+        return Err(Failure::Other(format!(
+            "{name} violates, but not where it was asked for, so {solver} or the text that it was given is wrong\n  {}",
+            run::verdict(&loaded.case, run.ending)
+        )));
+    };
     let (solver, left_out) = (solver.to_string(), model.left_out_in_words());
     Ok(Found { solver, assignment: assignment.clone(), schedule, run, fault, left_out, short: None })
 }

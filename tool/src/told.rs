@@ -113,13 +113,23 @@ fn not_yet_short(loaded: &Loaded, found: &Found) -> String {
 
 /// What unsat means, and what it does not.
 fn unsat(loaded: &Loaded, solvers: &[&str]) -> String {
-    let constraints = these(loaded.table.rows.len(), "constraint", "constraints");
+    let rows = loaded.table.rows.len();
     let switches = loaded.case.switches;
     let bound = if switches == 1 { "switch" } else { "switches" };
     let threads = loaded.case.threads;
-    let (place, other) = match loaded.asked {
-        None => (String::new(), "no run violates"),
-        Some(record) => (format!(" at record {record}"), "no run violates elsewhere, or there"),
+    let (constraints, place, other) = match loaded.asked {
+        None => (these(rows, "constraint", "constraints"), String::new(), "no run violates"),
+        Some(record) => {
+            let others = count(rows - 1, "constraint", "constraints");
+            let constraints = format!("the part of record {record} in the last constraint and the {others} before it");
+            (constraints, format!(" at record {record}"), "no run violates elsewhere, or there")
+        }
+    };
+    let proved = match loaded.asked {
+        None => "What the constraints say is proved. ",
+        Some(_) => {
+            "What the constraints say is proved, of the last one as a whole; what a part of it says is its definition's.\n"
+        }
     };
     let names = enumeration(solvers);
     let (say, word) = match solvers.len() {
@@ -136,7 +146,7 @@ fn unsat(loaded: &Loaded, solvers: &[&str]) -> String {
          threads get to their ends, or cannot wait for each other for ever: a run that comes to a taken lock or a\n\
          failed assume does not count, only one that stops before it; that anything was checked of an assert or\n\
          unlock that no legal run reaches; that the case says what the controller does.\n\
-         What the constraints say is proved. That nothing meets them is {word} word, and is not checked here.\n"
+         {proved}That nothing meets them is {word} word, and is not checked here.\n"
     )
 }
 
