@@ -150,11 +150,12 @@ MenduvoNumbers menduvo_decode(const uint8_t *case_, size_t case_len, const uint1
 
 /*
  * Runs the schedule, and writes the items' values at the end of the run, or where it is cut off, with the failed line not run:
- * G + M numbers, globals first, then mutexes. A thread whose block lengths add up to less than its lines stops there; an input line
- * that is not run has value 0.
- *   1  violated: the run is legal and breaks an assertion; first: the record of the first that is broken
- *   2  clean: the run is legal and breaks none
- *   3  cut off, whether or not an assertion was broken before; first: the record whose assume or lock failed
+ * G + M numbers, globals first, then mutexes. A mutex has 0 where it is free, and t + 1 where thread t holds it. A thread whose block
+ * lengths add up to less than its lines stops there; an input line that is not run has value 0.
+ *   1  violated: the run is legal and violates; first: the record of the first line that does, in running order. It is a zero assert,
+ *      or an unlock by a stranger, a thread that does not hold the mutex; it frees it all the same. The record's kind tells which.
+ *   2  clean: the run is legal and does not violate
+ *   3  cut off, whatever came before; first: the record whose assume or lock failed
  * Refusals 1 to 10 and 12 to 14.
  */
 MenduvoNumbers menduvo_replay(const uint8_t *case_, size_t case_len, const uint16_t *schedule, size_t schedule_len,

@@ -100,6 +100,13 @@ for lie in 'text refused' 'text place' 'text refused, with bytes' 'text longer';
     lies "$lie" 'numbers that stand for no answer' smt cases/case-a.case
 done
 lies 'text bytes' 'an SMT-LIB text that is no text' smt cases/case-a.case
+lies none 'an SMT-LIB text with another last assertion' solve cases/case-a.case --assert 4 --solver-command 'echo unsat'
+# Of an unlock by a stranger, what it found: the run does not get there, it is the thread's own, or the display finds another.
+release=(cases/release-broken.case cases/release-broken.schedule)
+lies stranger 'violates, and is no unlock by a stranger: this is not the proved library' replay "${release[@]}"
+lies own 'violates, and is no unlock by a stranger: this is not the proved library' replay "${release[@]}"
+lies whose 'disagrees with the proved library' replay "${release[@]}"
+result 'both are told' eval '[[ $out = *"the library: "*": M0 was free"*"the display: "*": thread 0 held M0"* ]]'
 
 # A builder in Rust, over the same library: numbers about one line.
 run env MENDUVO_LIB_DIR="$scratch" cargo build --offline --quiet --manifest-path examples/rust/Cargo.toml --target-dir "$scratch/built"

@@ -1,6 +1,6 @@
 #!/usr/bin/env bash
 # Tests the bound as a question, with z3 and cvc5 and with fakes: a case with another n, the smallest n with a violation, one assert
-# alone or each by itself, and runs that are made short. What a solver does not answer is told, and never taken for an answer.
+# or unlock alone or each by itself, and runs that are made short. What a solver does not answer is told, and never taken for an answer.
 set -u
 cd -- "$(dirname -- "${BASH_SOURCE[0]}")/.." || exit
 . tests/helpers.sh || exit
@@ -95,7 +95,7 @@ switches() {
         says "$solver, n = 4" 1 'with n = 4: 69 constraints' "$menduvo" solve "$broken" --switches 4 --solver "$solver"
     done
     says 'several' 1 $'every case with n = 2\ncase ' "$menduvo" solve "$broken" cases/case-a.case --switches 2
-    says 'a folder' 0 '6 cases: 0 violated, 5 unsat, 1 vacuous' "$menduvo" solve cases --switches 1
+    says 'a folder' 1 '8 cases: 1 violated, 6 unsat, 1 vacuous' "$menduvo" solve cases --switches 1
     objects 1 solve "$broken" --switches 2
     result 'the object has the n' test "$(last switches)" = 2
 }
@@ -126,6 +126,8 @@ interlock-broken 1 first at n = 2; unsat at 0, 1
 interlock 0 unsat at 0 to 6: no violation up to n = 6
 lock-order 0 unsat at 0 to 6: no violation up to n = 6
 lost-update 1 first at n = 2; unsat at 0, 1 (0, 1: nothing was checked)
+release-broken 1 first at n = 1; unsat at 0
+release 0 unsat at 0 to 6: no violation up to n = 6
 CASES
     done
     says 'up to the largest' 0 'unsat at 0 to 15: no violation up to the largest n' \
@@ -140,7 +142,7 @@ CASES
     shows 'a case on standard input' '[ "$status" = 1 ] && [[ $out = *"first at n = 2; unsat at 0, 1"* ]]'
     says 'a bound over the largest' 3 '--least looks up to n = 15, the largest of a case, and not to 16' \
         "$menduvo" solve "$broken" --least --switches 16
-    says 'a folder' 1 '6 cases: 4 violated, 2 unsat, 0 vacuous' "$menduvo" solve cases --least --switches 4 --jobs 2
+    says 'a folder' 1 '8 cases: 5 violated, 3 unsat, 0 vacuous' "$menduvo" solve cases --least --switches 4 --jobs 2
     shows 'a line of it' '[[ $out = *"lost-update.source       violated    42 over 28"*"first at n = 2; unsat at 0, 1 (0, 1: nothing was checked); record 9"* ]]'
     damaged 0 5
     says 'a refused case' 2 'refusal 2' "$menduvo" solve "$scratch/damaged.case" --least
@@ -243,28 +245,29 @@ asserts() {
         # Which lines run behind the assert is up to the solver.
         sed -i 's/  [0-9]\.[0-9][0-9]  /  -.--  /; s/schedule [1-4] 0/schedule - 0/' "$scratch/out"
         matches solve-each 1
-        says "$solver, one is unsat at n = 2" 1 '2 asserts: 1 violated, 1 unsat' "$menduvo" solve "$broken" --each --switches 2 --solver "$solver"
+        says "$solver, one is violated at n = 2" 1 '4 asserts and unlocks: 1 violated, 3 unsat' "$menduvo" solve "$broken" --each --switches 2 --solver "$solver"
         says "$solver, each by its first n" 1 'first at n = 3; unsat at 0, 1, 2 (0: nothing was checked); e.g. schedule' \
             "$menduvo" solve "$broken" --each --least --switches 5 --solver "$solver"
         says "$solver, one alone" 1 'record 2, which was asked about, is broken too, after record 1' \
             "$menduvo" solve "$scratch/four.case" --assert 2 --solver "$solver"
         shows 'the run is that of the case' '[[ $out = *"record   1  assert 0"*"BROKEN"*"record   2  assert 0"*"violated: record 1 "* ]]'
-        says "$solver, one alone that is unsat" 0 'no legal run breaks the assertion of record 17 within n = 2' \
+        says "$solver, one alone that is unsat" 0 'no legal run violates at record 17 within n = 2' \
             "$menduvo" solve "$broken" --assert 17 --switches 2 --solver "$solver"
+        shows 'what nothing meets' '[[ $out = *"nothing meets the part of record 17 in the last constraint and the 62 constraints before it."* ]]'
         says "$solver, one alone with more switches" 1 'violated: record 17' "$menduvo" solve "$broken" --assert 17 --solver "$solver"
         says "$solver, one alone by its first n" 1 'first at n = 3; unsat at 0, 1, 2' "$menduvo" solve "$broken" --assert 17 --least --solver "$solver"
     done
     says 'one that is never reached' 0 'VACUOUS: this unsat says nothing' "$menduvo" solve "$scratch/four.case" --assert 3
     says 'which is no success where it is strict' 1 'VACUOUS' "$menduvo" solve "$scratch/four.case" --assert 3 --strict
     says 'one that holds' 0 'record 4 (thread 0, line 4: assert 1): reached' "$menduvo" solve "$scratch/four.case" --assert 4
-    says 'no assert' 3 $'record 5 (thread 0, line 5: L1 = G0) is not an assert; these are:\n  record 8 (thread 0, line 8: assert L3 == 0)\n  record 17' \
+    says 'no assert' 3 $'line 5: L1 = G0) is not an assert and not an unlock; these are:\n  record 3 (thread 0, line 3: unlock M0)\n  record 8 (thread 0, line 8: assert L3 == 0)\n  record 12' \
         "$menduvo" solve "$broken" --assert 5
-    says 'no record' 3 'record 0, which this case does not have is not an assert' "$menduvo" solve "$broken" --assert 0
+    says 'no record' 3 'record 0, which this case does not have is not an assert and not an unlock' "$menduvo" solve "$broken" --assert 0
     says 'no record, of a large number' 3 'record 65535' "$menduvo" solve "$broken" --assert 65535
     says 'no number' 3 '--assert needs a number' "$menduvo" solve "$broken" --assert first
-    says 'a case without asserts' 3 'is not an assert; the case has none' "$menduvo" solve "$scratch/none.case" --assert 1
-    says 'a case without asserts, each' 0 '0 asserts: 0 violated' "$menduvo" solve "$scratch/none.case" --each
-    says 'a case without asserts, strict' 1 '0 asserts' "$menduvo" solve "$scratch/none.case" --each --strict
+    says 'a case without asserts' 3 'is not an assert and not an unlock; the case has none' "$menduvo" solve "$scratch/none.case" --assert 1
+    says 'a case without asserts, each' 0 '0 asserts and unlocks: 0 violated' "$menduvo" solve "$scratch/none.case" --each
+    says 'a case without asserts, strict' 1 '0 asserts and unlocks' "$menduvo" solve "$scratch/none.case" --each --strict
     says 'both options' 3 '--assert and --each exclude each other' "$menduvo" solve "$broken" --each --assert 8
     says 'kept' 3 '--each and --keep exclude each other' "$menduvo" solve "$broken" --each --keep "$scratch/no"
     says 'resumed' 3 '--assert and --resume exclude each other' "$menduvo" solve "$broken" --assert 8 --resume "$scratch/no"
@@ -275,13 +278,61 @@ asserts() {
     objects 1 solve "$scratch/damaged.case" --each
     objects 5 solve "$scratch/four.case" --each
     shows 'the answers' '[ "$status, $(for i in 0 1 2 3; do last answers $i answer; done | tr "\n" " ")" = "1, violated violated vacuous unsat " ]'
-    objects 10 solve "$broken" --each --least --switches 3
+    objects 20 solve "$broken" --each --least --switches 3
     objects 1 solve "$broken" --assert 8
     result 'the object names the assert' test "$(last assert), $(last answer)" = '8, violated'
-    # The question about record 17 alone has record 8 made 1.
-    asked_z3 '(= v15 (ite (= #x0001 #x0000)' 'exec sleep 60'
-    says 'no time for one assert' 1 '2 asserts: 1 violated, 0 unsat, 0 vacuous, 1 timeout' "$menduvo" solve "$broken" --each --timeout 3
-    shows 'it is told' '[[ $out = *"menduvo: 1 assert was not done"* ]]'
+    # The question about record 17 alone has its part alone in its last assertion.
+    asked_z3 '(assert (or (= v33 #x0000) false))' 'exec sleep 60'
+    says 'no time for one assert' 1 '4 asserts and unlocks: 1 violated, 2 unsat, 0 vacuous, 1 timeout' "$menduvo" solve "$broken" --each --timeout 3
+    shows 'it is told' '[[ $out = *"menduvo: 1 assert or unlock was not done"* ]]'
+    rm "$scratch/fakes/z3"
+    unlocks
+}
+
+# Unlocks alone, and asserts beside them. The lower gate's way out is record 11, by a stranger; then it can take what thread 0 holds.
+unlocks() {
+    local solver release=cases/release-broken.source
+    # unlock M0, and if L0: unlock M0, and lock M0, unlock M0, each in thread 1; thread 0 locks M1. And assert 0 behind.
+    fields 2 1 0 2 1 2 0 0 0 0 0 0 0 0 0 0 \
+        0 7 0 1 0 0 0 0  3 8 0 0 0 0 0 0  4 8 1 0 0 0 0 0  5 7 0 0 0 0 0 0  6 8 0 0 0 0 0 0  7 8 0 1 0 0 0 0  0 5 0 0 0 16 0 0 >"$scratch/strangers.case"
+    for solver in z3 cvc5; do
+        run "$menduvo" solve "$scratch/strangers.case" --each --solver "$solver"
+        # Which lines run behind it, or beside it, is up to the solver.
+        sed -i 's/  [0-9]\.[0-9][0-9]  /  -.--  /; s/schedule [01] [1-6]/schedule - -/; s/M1 was free\|thread 0 held M1/whose M1 was/' "$scratch/out"
+        matches solve-each-unlock 1
+        says "$solver, an unlock alone" 1 'is an unlock by a stranger: thread 0 held interlock' "$menduvo" solve $release --assert 11 --solver "$solver"
+        shows 'what was asked' '[[ $out = *"asked about record 11 (thread 1, line 5: unlock interlock) alone"* && $out != *"which was asked about"* ]]'
+        says "$solver, an assert behind it" 1 'record 4, which was asked about, is broken too, after record 11' \
+            "$menduvo" solve $release --assert 4 --solver "$solver"
+        shows 'its assignment meets all, and its run shows both' '[[ $out = *"checked: it meets all 55 constraints"*"STRANGER: thread 0 held interlock"*"BROKEN: 1 == 0"*"violated: record 11 "* ]]'
+        says "$solver, an unlock behind it" 1 'record 6, which was asked about, is an unlock by a stranger too (' \
+            "$menduvo" solve $release --assert 6 --solver "$solver"
+        shows 'whose the mutex was' '[[ $out = *"stranger too (interlock was free), after record 11"* || $out = *"stranger too (thread 1 held interlock), after record 11"* ]]'
+        says "$solver, an unlock with more switches" 1 'first at n = 3; unsat at 0, 1, 2' "$menduvo" solve $release --assert 15 --least --solver "$solver"
+        says "$solver, an unlock that is unsat" 0 'no legal run violates at record 15 within n = 2' "$menduvo" solve $release --assert 15 --solver "$solver"
+        says "$solver, an unlock, as short as can be" 1 'short: 1 of 9 switches used, 2 blocks with lines, 7 of 15 lines run' \
+            "$menduvo" solve $release --assert 11 --short --switches 9 --solver "$solver"
+        says "$solver, the right twin" 0 '4 asserts and unlocks: 0 violated, 4 unsat, 0 vacuous' "$menduvo" solve cases/release.case --each --solver "$solver" --strict
+        says "$solver, a short run with an unlock" 1 $'decoded: schedule 2 5 0\n' "$menduvo" solve $release --short --solver "$solver"
+    done
+    says 'one that is never reached' 0 'VACUOUS: this unsat says nothing: no legal run within the bound reaches the unlock with a true guard' \
+        "$menduvo" solve "$scratch/strangers.case" --assert 3
+    objects 6 solve "$scratch/strangers.case" --each
+    shows 'the answers' '[ "$status, $(for i in 0 1 2 3 4; do last answers $i answer; done | tr "\n" " ")" = "1, violated vacuous unsat violated violated " ]'
+    objects 1 solve $release --assert 6
+    shows 'the fault is the one that was asked about' '[ "$(last assert), $(last record), $(last fault record), $(last fault kind), $(last fault mutex)" = "6, 11, 6, unlock, interlock" ]'
+    objects 1 solve $release --assert 4
+    shows 'an assert that was asked about' '[ "$(last assert), $(last record), $(last fault record), $(last fault kind)" = "4, 11, 4, assert" ]'
+    # An assignment that meets the constraints, and not the part that was asked about: the one that ships violates at record 11 alone.
+    local model place=0 number
+    model=$(for number in $(sed 1d cases/release-broken.assignment); do printf '(v%d #x%04x)' "$place" "$number"; place=$((place + 1)); done)
+    fake z3 "cat >/dev/null; echo sat; echo '($model)'"
+    says 'the model is right for the case' 1 'violated: record 11 ' "$menduvo" solve $release
+    says 'and for record 11' 1 'violated: record 11 ' "$menduvo" solve $release --assert 11
+    for number in 4 6 15; do
+        says "but not for record $number" 3 'the assignment of z3 violates, but not where it was asked for, so z3 or the text that it was given is wrong' \
+            "$menduvo" solve $release --assert "$number"
+    done
     rm "$scratch/fakes/z3"
 }
 

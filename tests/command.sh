@@ -85,7 +85,9 @@ reading() {
     same replay-interlock-broken 1 "$menduvo" replay cases/interlock-broken.case cases/interlock-broken.schedule
     same replay-lock-order 0 "$menduvo" replay cases/lock-order.case cases/lock-order.schedule
     same replay-handshake 1 "$menduvo" replay cases/handshake.case cases/handshake.schedule
-    for name in case-a lost-update interlock-broken handshake; do
+    same replay-release-broken 1 "$menduvo" replay cases/release-broken.case cases/release-broken.schedule
+    same replay-release 0 "$menduvo" replay cases/release.case cases/release.schedule
+    for name in case-a lost-update interlock-broken handshake release-broken; do
         says "$name's assignment meets" 0 'meets: the assignment meets all' "$menduvo" check "cases/$name.case" "cases/$name.assignment"
         run "$menduvo" decode "cases/$name.case" "cases/$name.assignment"
         result "$name's assignment decodes to its schedule" cmp -s "$scratch/out" <(sed 1d "cases/$name.schedule")
@@ -98,6 +100,10 @@ reading() {
     says 'a line that was not run meets its constraints' 0 'meets all 8 constraints' "$menduvo" check "$scratch/vain.case" "$scratch/stops"
     run "$menduvo" decode "$scratch/vain.case" "$scratch/stops"
     result 'it counts in no block' test "$status, $out" = '0, 1'
+    # So is an unlock by a stranger: unlock M0, which is free, then assume 0.
+    fields 2 0 0 1 1 0 0 0 0 0 0 0 0 0 0 0 2 8 0 0 0 0 0 0 0 6 0 0 0 16 0 0 >"$scratch/vain.case"
+    same replay-stranger-in-vain 0 "$menduvo" replay "$scratch/vain.case" <(echo 2)
+    same replay-stranger-stops 1 "$menduvo" replay "$scratch/vain.case" <(echo 1)
     # A run of no line at all.
     same replay-nothing 0 "$menduvo" replay cases/case-a.case <(echo 0 0 0)
     # No record, no switch: one constraint, over no variable.
@@ -112,6 +118,7 @@ reading() {
     same picture-case-a 0 "$menduvo" picture cases/case-a.case cases/case-a.schedule -o -
     same picture-lock-order 0 "$menduvo" picture cases/lock-order.case cases/lock-order.schedule -o -
     same picture-handshake 0 "$menduvo" picture cases/handshake.case cases/handshake.schedule -o -
+    same picture-release-broken 0 "$menduvo" picture cases/release-broken.case cases/release-broken.schedule -o -
     says 'picture to a file' 0 'violated' "$menduvo" picture cases/case-a.case cases/case-a.schedule -o "$scratch/a.svg"
     result 'the file has the picture' cmp -s "$scratch/a.svg" tests/command/picture-case-a.expected
     says 'a picture replaces no file' 3 'a.svg is there already; --force replaces it' \
@@ -126,6 +133,56 @@ reading() {
     says 'a picture without a name' 3 '-o FILE.svg is missing' "$menduvo" picture cases/case-a.case cases/case-a.schedule -o ''
     says 'picture to a place that is not there' 3 'a.svg: ' \
         "$menduvo" picture cases/case-a.case cases/case-a.schedule -o "$scratch/none/a.svg"
+}
+
+# Who holds a mutex, and whose it was that a stranger unlocks. Eight blocks of four threads over two mutexes.
+holders() {
+    local case=$scratch/holders.source schedule wanted text
+    printf '%s\n' 'switches 7' 'mutex gate' 'mutex sluice' \
+        thread 'lock gate' 'unlock sluice' 'assert 0' \
+        thread 'lock sluice' 'unlock gate' 'assume 0' \
+        thread 'when L0 != 0: unlock gate' 'lock gate' 'unlock gate' 'lock sluice' \
+        thread 'unlock sluice' 'lock sluice' 'lock sluice' >"$case"
+    while IFS='~' read -r schedule wanted text; do
+        # shellcheck disable=SC2086 # several numbers
+        says "holders, $schedule: $text" "$wanted" "$text" "$menduvo" replay "$case" <(echo $schedule)
+    done <<'RUNS'
+1 0 0 0 0 0 0 0~0~lock gate  gate = 1 (held by thread 0)
+1 0 0 0 0 0 0 0~0~end: gate = 1 (held by thread 0), sluice = 0 (free)
+0 1 0 0 0 0 0 0~0~end: gate = 0 (free), sluice = 2 (held by thread 1)
+0 0 2 0 0 0 0 0~0~end: gate = 3 (held by thread 2), sluice = 0 (free)
+0 0 0 2 0 0 0 0~1~end: gate = 0 (free), sluice = 4 (held by thread 3)
+0 0 0 1 0 0 0 0~1~>> line  1  record  11  unlock sluice  STRANGER: sluice was free
+0 0 0 1 0 0 0 0~1~violated: record 11 (thread 3, line 1: unlock sluice) is an unlock by a stranger: sluice was free
+0 1 0 1 0 0 0 0~1~>> line  1  record  11  unlock sluice  STRANGER: thread 1 held sluice
+0 1 0 1 0 0 0 0~1~end: gate = 0 (free), sluice = 0 (free)
+1 2 0 0 0 0 0 0~1~(thread 1, line 2: unlock gate) is an unlock by a stranger: thread 0 held gate
+0 1 2 0 0 1 0 0~1~(thread 1, line 2: unlock gate) is an unlock by a stranger: thread 2 held gate
+1 0 0 2 1 0 0 0~1~violated: record 11 (thread 3, line 1: unlock sluice) is an unlock by a stranger: sluice was free
+1 0 0 2 1 0 0 0~1~STRANGER: thread 3 held sluice
+0 0 1 0 0 0 0 0~0~skipped: L0 is 0
+0 0 1 0 0 0 0 0~0~clean: nothing cuts the run off, and no line violates
+0 0 3 0 0 0 0 0~0~clean: nothing cuts the run off, and no line violates
+0 0 0 2 0 0 0 1~0~CUT OFF: thread 3 holds sluice
+0 0 0 2 0 0 0 1~0~record 11 is an unlock by a stranger too, but a run that is cut off is not legal; one that stops before record 13 violates
+1 3 0 0 0 0 0 0~0~record 5 is an unlock by a stranger too, but a run that is cut off is not legal; one that stops before record 6 violates
+3 0 0 0 0 0 0 0~1~violated: record 2 (thread 0, line 2: unlock sluice) is an unlock by a stranger: sluice was free
+RUNS
+    # The first of either sort: an assert, then a stranger, whose record is the lower one.
+    printf '%s\n' 'switches 1' 'mutex gate' thread 'assert 0' thread 'record 1: unlock gate' >"$case"
+    sed -i 's/^assert 0/record 2: assert 0/' "$case"
+    says 'an assert before a stranger' 1 'violated: record 2 (thread 0, line 1: assert 0) is broken' "$menduvo" replay "$case" <(echo 1 1)
+    says 'a stranger alone' 1 'violated: record 1 (thread 1, line 1: unlock gate) is an unlock by a stranger: gate was free' \
+        "$menduvo" replay "$case" <(echo 0 1)
+    # Where there are no names.
+    says 'a mutex without a name' 1 'is an unlock by a stranger: thread 0 held M0' \
+        "$menduvo" replay cases/release-broken.case cases/release-broken.schedule
+    # What a library says of it is all that is asked: a schedule with inputs that are not run, and a guard.
+    printf '%s\n' 'switches 2' 'mutex gate' thread 'lock gate' 'L0 = input' 'L1 = input' thread 'L2 = input' 'when L2 != 0: unlock gate' \
+        'L3 = input' >"$case"
+    says 'inputs before it' 1 'is an unlock by a stranger: thread 0 held gate' "$menduvo" replay "$case" <(echo 2 2 0 7 0 5 0)
+    says 'and behind it' 1 'is an unlock by a stranger: thread 0 held gate' "$menduvo" replay "$case" <(echo 2 3 1 7 8 5 9)
+    says 'and a guard that is false' 0 'clean: ' "$menduvo" replay "$case" <(echo 2 3 1 7 8 0 9)
 }
 
 # The text of case A on the page that fixes it: the first block after its head.
@@ -266,6 +323,7 @@ outputs() {
 
 calling
 reading
+holders
 texts
 numbers
 refusals

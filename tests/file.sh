@@ -120,7 +120,8 @@ filing() {
     says 'an unsat is filed' 0 'interlock.case: unsat' "$menduvo" file cases/interlock.case "$scratch/unsat" --solver cvc5
     whole unsat unsat reply.txt
     has unsat verdict.txt 'cvc5 says unsat: nothing meets these'
-    has unsat verdict.txt 'It does not mean: that no assertion breaks with more switches'
+    has unsat verdict.txt 'It does not mean: that no run violates with more switches'
+    has unsat verdict.txt 'where a thread unlocks a mutex that it does not hold'
     has unsat README.txt 'The answer: unsat.'
     three_asserts
     says 'asserts that only solvers reach' 0 'NEVER REACHED: record 6' \
@@ -128,12 +129,45 @@ filing() {
     whole three unsat reply-z3.txt reply-cvc5.txt reached-{1,2,3}.smt2 reached-{1,2,3}-reply-{z3,cvc5}.txt
     has three reached.txt 'assert 1): reached, e.g. schedule '
     has three reached.txt 'record 6 (thread 0, line 6: when L3 != 0: assert 1): NEVER REACHED within n = 1'
-    has three README.txt 'whether an assert of record 4, 5 and 6 is reached'
-    # The question about all three is the text of the case in which they are 0; the last one's, of that in which the others are 1.
+    has three README.txt 'whether one of record 4, 5 and 6 is reached: there they are asserts of 0, and the 7 is about them alone'
+    # The question about all three is the text of the case in which they are 0; in the last one the others are as they are, and have no
+    # part in the last assertion.
     asserts_made 0 0 0
     result 'the first question is a text of the library' cmp -s "$scratch/made.smt2" "$scratch/three/reached-1.smt2"
     asserts_made 1 1 0
-    result 'so is the last one' cmp -s "$scratch/made.smt2" "$scratch/three/reached-3.smt2"
+    sed -i -E 's/^\(assert \(or \(= v7 #x0000\) \(or \(= v9 #x0000\) (.*)\)\)\)$/(assert \1)/' "$scratch/made.smt2"
+    result 'the last one has one part' grep -qxF '(assert (or (= v11 #x0000) false))' "$scratch/made.smt2"
+    result 'so is the last one, but for that' cmp -s "$scratch/made.smt2" "$scratch/three/reached-3.smt2"
+    strangers
+}
+
+# A stranger's unlock as the fault, and unlocks that only solvers reach.
+strangers() {
+    says 'an unlock by a stranger is filed' 1 'release-broken.source: violated: record 11 (thread 1, line 5: unlock interlock) is an unlock by a stranger: ' \
+        "$menduvo" file cases/release-broken.source "$scratch/stranger" --solver z3
+    whole stranger violated case.source reply.txt assignment.txt schedule.txt run.txt picture.svg
+    has stranger verdict.txt 'It means: this run is legal, stays within the bound, and violates:
+record 11 (thread 1, line 5: unlock interlock) is an unlock by a stranger: thread 0 held interlock.'
+    has stranger verdict.txt 'It does not mean: that no other line violates'
+    has stranger run.txt 'STRANGER: thread 0 held interlock'
+    has stranger picture.svg '>STRANGER: thread 0 held interlock<'
+    has stranger reached.txt 'asserts and unlocks:'
+    has stranger README.txt 'is an assert whose expression is zero, or an unlock by a stranger: a thread t that finds its mutex at another'
+    has stranger README.txt '7: some assert has value 0; or some unlock by a thread t that was run'
+    has stranger show.txt '(a mutex has 0 while it is free, and t + 1 while thread t holds it)'
+    # Each unlock is reached where thread 1 has run one of its two lines.
+    printf '%s\n' 'switches 3' 'global G0 = 0' 'mutex M0' thread 'L0 = G0' 'L1 = L0 == 1' 'lock M0' 'when L1 != 0: unlock M0' \
+        'when L1 != 0: lock M0' 'when L1 != 0: unlock M0' 'when L1 == 0: unlock M0' thread 'G0 = 1' 'G0 = 2' >"$scratch/twice.source"
+    says 'unlocks that only solvers reach' 0 'twice.source: unsat: nothing within n = 3' \
+        "$menduvo" file "$scratch/twice.source" "$scratch/unlocks" --solver z3
+    has unlocks reached.txt 'line 6: when L1 != 0: unlock M0): reached, e.g. schedule '
+    result 'their question has their parts alone' grep -qxF '(assert (or (= v7 #x0000) (or (= v11 #x0000) false)))' "$scratch/unlocks/reached-1.smt2"
+    says 'it is verified without a solver' 0 'reached-1.smt2' "$binary" verify "$scratch/unlocks"
+    result 'nothing differs' eval '[[ $out = *"the same: "* && $out != *differs* ]]'
+    copied stranger && sed -i 's/STRANGER: thread 0 held/STRANGER: thread 1 held/' "$scratch/copy/run.txt" && mend run.txt
+    tells 'another holder in the run' 1 'run.txt +differs: line [0-9]+ is .*thread 1 held interlock'
+    copied stranger && sed -i 's/^thread 0 held/x/; s/: thread 0 held interlock\.$/: interlock was free./' "$scratch/copy/verdict.txt" && mend verdict.txt
+    tells 'another holder in the verdict' 1 'verdict.txt +differs: line [0-9]+ is .*interlock was free'
 }
 
 # What is filed is what the other commands print.
@@ -152,7 +186,8 @@ CALLS
     says 'the filed assignment meets' 0 meets "$binary" check "$scratch/violated/case.case" "$scratch/violated/assignment.txt"
     run "$binary" decode "$scratch/violated/case.case" "$scratch/violated/reply.txt"
     result 'the filed schedule is decoded from the reply' test "$(sed 1d "$scratch/violated/schedule.txt")" = "$out"
-    has violated verdict.txt 'It means: this run is legal'
+    has violated verdict.txt 'It means: this run is legal, stays within the bound, and violates:'
+    has violated verdict.txt 'assert L3 == 0) is broken.'
     has violated verdict.txt 'BROKEN: 1 == 0 is false'
     has violated README.txt 'A listing alone does not determine the answer'
 }

@@ -161,7 +161,7 @@ examples() {
         readme "$line"
         case $line in
             cc*) result "README.md: $line" eval '[ "$status" = 0 ] && [ "$place/replay" -nt "$scratch/before" ]' ;;
-            *' 2 1 2') result "README.md: $line" eval '[ "$status" = 1 ] && [[ $out = *"the run breaks is record 4" ]]' ;;
+            *' 2 1 2') result "README.md: $line" eval '[ "$status" = 1 ] && [[ $out = *"violated: record 4 is a zero assert" ]]' ;;
             *) result "README.md: $line" test "$status" = 0 ;;
         esac
     done < <(block 'From C and Rust')
@@ -183,6 +183,8 @@ examples() {
     done <<CALLS
 1 cases/case-a.case 2 1 2
 0 cases/case-a.case 4 1 0
+1 cases/release-broken.case 2 5 0
+0 cases/release.case 2 5 4 4 0 0
 0 cases/lock-order.case $(sed 1d cases/lock-order.schedule | tr '\n' ' ')
 2 cases/case-a.case 2 1 3
 2 cases/case-a.case

@@ -147,51 +147,52 @@ rows_of_guards() {
     local yes='the guard L0 != 0 is true with L0 = 1 by record 1' no='the guard L0 != 0 is false with L0 = 0 by record 1'
     local is='the guard L0 == 0 is true with L0 = 0 by record 1' not='the guard L0 == 0 is false with L0 = 1 by record 1'
     local keeps='the target keeps its value,'
-    needs 'a compute, guard true' "$case" '0 1 0 9 0 4 0 1 0 1 0 1 2 0 2 1 1 1 1 0 1 0 4 1 4 1' \
+    local goal='needed: an assert with value 0 or an unlock by a stranger; found: value 1 of records 5 and 8'
+    needs 'a compute, guard true' "$case" '0 1 0 9 0 4 0 1 0 1 0 1 2 0 2 1 1 2 1 0 1 0 4 1 4 2' \
         "needed: value 0 ($yes; L0 - 1 with L0 = 1 by record 1); found: 9"
-    needs 'a compute, guard false' "$case" '0 0 0 9 0 7 0 0 0 0 0 1 2 1 2 1 1 1 1 0 1 0 7 0 7 1' \
+    needs 'a compute, guard false' "$case" '0 0 0 9 0 7 0 0 0 0 0 1 2 1 2 1 1 2 1 0 1 0 7 0 7 2' \
         "needed: value 0 ($no; $keeps L1 = 0 at the start); found: 9"
-    needs 'a store, guard true' "$case" '0 0 0 0 0 8 0 0 0 0 0 1 2 1 2 1 1 1 1 0 1 0 7 0 7 1' \
+    needs 'a store, guard true' "$case" '0 0 0 0 0 8 0 0 0 0 0 1 2 1 2 1 1 2 1 0 1 0 7 0 7 2' \
         "needed: value 7 ($is; the constant 7); found: 8"
-    needs 'a store, guard false' "$case" '0 1 0 0 0 8 0 1 0 1 0 1 2 0 2 1 1 1 1 0 1 0 4 1 4 1' \
+    needs 'a store, guard false' "$case" '0 1 0 0 0 8 0 1 0 1 0 1 2 0 2 1 1 2 1 0 1 0 4 1 4 2' \
         "needed: value 4 ($not; $keeps G0 = 4 at the start); found: 8"
-    needs 'a lock, guard true' "$case" '0 1 0 0 0 4 0 0 0 1 0 1 2 0 2 1 1 1 1 0 1 0 4 1 4 1' \
-        "needed: value 1 ($yes; a lock gives 1); found: 0"
-    needs 'a lock, guard false' "$case" '0 0 0 0 0 7 0 1 0 0 0 1 2 1 2 1 1 1 1 0 1 0 7 0 7 1' \
-        "needed: value 0 ($no; $keeps M0 = 0 at the start); found: 1"
-    needs 'an assert, guard true' "$case" '0 0 0 0 0 7 0 0 0 1 0 1 2 1 2 1 1 1 1 0 1 0 7 0 7 1' \
+    needs 'a lock, guard true' "$case" '0 1 0 0 0 4 0 0 0 1 0 1 2 0 2 1 1 2 1 0 1 0 4 1 4 2' \
+        "needed: value 1 ($yes; a lock by thread 0 gives 1); found: 0"
+    needs 'a lock, guard false' "$case" '0 0 0 0 0 7 0 1 0 0 0 1 2 1 2 1 1 2 1 0 1 0 7 0 7 2' \
+        "needed: value 0 ($no; $keeps M0 = 0 (free) at the start); found: 1"
+    needs 'an assert, guard true' "$case" '0 0 0 0 0 7 0 0 0 1 0 1 2 1 2 1 1 2 1 0 1 0 7 0 7 2' \
         "needed: value 0 ($is; L1 = 0 by record 2); found: 1"
-    needs 'an assert, guard false' "$case" '0 1 0 0 0 4 0 1 0 0 0 1 2 0 2 1 1 1 1 0 1 0 4 1 4 1' \
+    needs 'an assert, guard false' "$case" '0 1 0 0 0 4 0 1 0 0 0 1 2 0 2 1 1 2 1 0 1 0 4 1 4 2' \
         "needed: value 1 ($not; an assert then has 1); found: 0"
-    needs 'an assume' "$case" '0 1 0 0 0 4 0 1 0 1 0 0 2 0 2 1 1 1 1 0 1 0 4 1 4 1' \
+    needs 'an assume' "$case" '0 1 0 0 0 4 0 1 0 1 0 0 2 0 2 1 1 2 1 0 1 0 4 1 4 2' \
         'needed: value 1 (L0 < 2 is 1 with L0 = 1 by record 1); found: 0'
-    needs 'a 5, an assume' "$case" '0 2 0 1 0 4 0 1 0 1 0 0 2 0 2 1 1 1 1 0 1 0 4 1 4 1' \
+    needs 'a 5, an assume' "$case" '0 2 0 1 0 4 0 1 0 1 0 0 2 0 2 1 1 2 1 0 1 0 4 1 4 2' \
         'needed: value 1, as the assume must hold; found: 0 (L0 < 2 is 0 with L0 = 2 by record 1)'
-    needs 'an unlock, guard true' "$case" '0 1 0 0 0 4 0 1 0 1 0 1 2 1 2 1 1 1 1 0 1 0 4 1 4 1' \
+    needs 'an unlock, guard true' "$case" '0 1 0 0 0 4 0 1 0 1 0 1 2 1 2 1 1 2 1 0 1 0 4 1 4 2' \
         "needed: value 0 ($yes; an unlock gives 0); found: 1"
-    needs 'an unlock, guard false' "$case" '0 0 0 0 0 7 0 0 0 0 0 1 2 0 2 1 1 1 1 0 1 0 7 0 7 1' \
-        "needed: value 1 ($no; $keeps M0 = 1 at the end of block 1); found: 0"
-    needs 'an assert, not 0' "$case" '0 1 0 0 0 4 0 1 0 1 0 1 0 0 0 2 1 1 1 0 1 0 4 0 4 1' \
+    needs 'an unlock, guard false' "$case" '0 0 0 0 0 7 0 0 0 0 0 1 2 0 2 1 1 2 1 0 1 0 7 0 7 2' \
+        "needed: value 2 ($no; $keeps M0 = 2 (held by thread 1) at the end of block 1); found: 0"
+    needs 'an assert, not 0' "$case" '0 1 0 0 0 4 0 1 0 1 0 1 0 0 0 2 1 2 1 0 1 0 4 0 4 2' \
         'needed: value 1 (L0 - 3 is 65534 with L0 = 1 by record 1, which is not 0); found: 2'
-    needs 'a 5, a lock' "$case" '0 1 0 0 0 4 0 1 0 1 0 1 2 0 2 1 1 1 1 0 1 0 4 1 4 1' \
-        'needed: M0 = 0; found: M0 = 1 at the end of block 0'
+    needs 'a 5, a lock' "$case" '0 1 0 0 0 4 0 1 0 1 0 1 2 0 2 1 1 2 1 0 1 0 4 1 4 2' \
+        'needed: M0 = 0; found: M0 = 1 (held by thread 0) at the end of block 0'
     needs 'a 5, a lock that was not run' "$case" '0 1 0 0 0 4 0 1 0 1 0 1 2 0 2 1 3 0 3 0 3 0 4 1 4 1' \
-        'needed: an assert with value 0; found: value 1 of records 5 and 8'
+        "$goal; the unlock of record 7, by thread 0, finds M0 = 1 (held by thread 0) at the end of block 1"
     needs 'a 5, an assume that was not run' "$case" '0 2 0 1 0 4 0 1 0 1 3 1 3 0 3 1 3 0 3 0 3 0 4 1 4 1' \
-        'needed: an assert with value 0; found: value 1 of records 5 and 8'
+        "$goal; the unlock of record 7 was not run"
     needs 'a 4, an assume that was not run' "$case" '0 2 0 1 0 4 0 1 0 1 3 0 3 0 3 1 3 0 3 0 3 0 4 1 4 1' \
         'needed: value 1 (an assume that was not run has 1); found: 0'
-    needs 'a 4, an input that was not run' "$case" '0 1 0 0 0 4 0 1 0 1 0 1 0 0 0 1 1 1 1 0 3 9 4 0 4 1' \
+    needs 'a 4, an input that was not run' "$case" '0 1 0 0 0 4 0 1 0 1 0 1 0 0 0 1 1 2 1 0 3 9 4 0 4 2' \
         'needed: value 0 (a line that was not run has 0); found: 9'
-    needs 'a 5, a lock with a guard' "$case" '2 1 2 0 2 4 2 1 2 1 2 1 2 0 2 1 1 1 1 0 1 0 4 0 4 1' \
-        "needed: M0 = 0 ($yes); found: M0 = 1 at the end of block 1"
-    needs 'a load, guard false' "$case" '0 1 0 0 0 4 0 1 0 1 0 1 0 0 0 1 1 1 1 4 1 0 4 0 4 1' \
+    needs 'a 5, a lock with a guard' "$case" '2 1 2 0 2 4 2 1 2 1 2 1 2 0 2 1 1 2 1 0 1 0 4 0 4 2' \
+        "needed: M0 = 0 ($yes); found: M0 = 2 (held by thread 1) at the end of block 1"
+    needs 'a load, guard false' "$case" '0 1 0 0 0 4 0 1 0 1 0 1 0 0 0 1 1 2 1 4 1 0 4 0 4 2' \
         "needed: value 0 (the guard L2 != 0 is false with L2 = 0 at the start; $keeps L2 = 0 at the start); found: 4"
-    needs 'an input, guard true' "$case" '0 1 0 0 0 4 0 1 0 1 0 1 0 0 0 1 1 1 1 0 1 9 4 0 4 1' \
-        'needed: an assert with value 0; found: value 1 of records 5 and 8'
-    needs 'a 6 of a mutex' "$case" '0 1 0 0 0 4 0 1 0 1 0 1 0 0 0 1 1 1 1 0 1 9 4 0 4 0' \
-        'needed: value 1 (by record 9, the last line in block 1 with target M0); found: 0'
-    needs 'a 6 without a copy, block 1' "$case" '0 1 0 0 0 4 0 1 0 1 0 1 0 0 0 1 1 1 1 0 1 9 4 0 5 1' \
+    needs 'an input, guard true' "$case" '0 1 0 0 0 4 0 1 0 1 0 1 0 0 0 1 1 2 1 0 1 9 4 0 4 2' \
+        "$goal; the unlock of record 7, by thread 0, finds M0 = 1 (held by thread 0) by record 4 in the same block"
+    needs 'a 6 of a mutex' "$case" '0 1 0 0 0 4 0 1 0 1 0 1 0 0 0 1 1 2 1 0 1 9 4 0 4 0' \
+        'needed: value 2 (by record 9, the last line in block 1 with target M0); found: 0'
+    needs 'a 6 without a copy, block 1' "$case" '0 1 0 0 0 4 0 1 0 1 0 1 0 0 0 1 1 2 1 0 1 9 4 0 5 2' \
         'needed: value 4 (G0 = 4 at the end of block 0, and no line in block 1 has target G0); found: 5'
     # An input whose guard, L0 != 0, is false; no line has an expression.
     fields 2 0 0 0 1 0 0 0 0 0 0 0 0 0 0 0  0 4 1 3 0 0 0 0 >"$case"
@@ -202,7 +203,33 @@ rows_of_guards() {
         'needed: value 1 (the guard L0 != 0 is false with L0 = 0 at the start; an assume then has 1); found: 0'
     fields 2 0 0 0 1 0 0 0 0 0 0 0 0 0 0 0  0 1 0 0 1 0 0 0 >"$scratch/double.case"
     needs 'a local twice' "$scratch/double.case" '0 5' 'needed: value 0 (L0 + L0 with L0 = 0 at the start); found: 5'
-    needs 'a 7 without an assert' "$case" '0 0' 'needed: an assert with value 0; found: no assert'
+    needs 'a 7 without an assert' "$case" '0 0' 'needed: an assert with value 0 or an unlock by a stranger; found: no assert and no unlock'
+}
+
+# Unlocks alone, n = 2: thread 0: 1 lock M0, 2 unlock M0; thread 1: 3 L0 = 1, 4 if L0 == 0: unlock M0, 5 if L0 != 0: unlock M0.
+rows_of_holders() {
+    local case=$scratch/holders.case needed='needed: an unlock by a stranger; found: the unlock of record'
+    local skipped='4 is skipped: the guard L0 == 0 is false with L0 = 1 by record 3'
+    fields 2 2 0 1 1 3 0 0 0 0 0 0 0 0 0 0 \
+        2 7 0 0 0 0 0 0  0 8 0 0 0 0 0 0  4 1 0 0 0 16 0 1  5 8 17 0 0 0 0 0  0 8 1 0 0 0 0 0 >"$case"
+    needs 'a lock that gives what another thread would' "$case" '0 2 0 0 3 0 3 0 3 0 0 0' 'needed: value 1 (a lock by thread 0 gives 1); found: 2'
+    needs 'a 7, and nothing was run' "$case" '3 0 3 0 3 0 3 0 3 0 0 0' \
+        "$needed 2 was not run; the unlock of record 4 was not run; the unlock of record 5 was not run"
+    needs 'a 7, by the holder' "$case" '0 1 2 0 1 1 1 1 3 0 1 1' \
+        "$needed 2, by thread 0, finds M0 = 1 (held by thread 0) at the end of block 1; the unlock of record $skipped; the unlock of record 5 was not run"
+    needs 'a 7, by the holder in the same block' "$case" '0 1 0 0 3 0 3 0 3 0 0 0' \
+        "$needed 2, by thread 0, finds M0 = 1 (held by thread 0) by record 1 in the same block; the unlock of record 4 was not run; the unlock of record 5 was not run"
+    # By a stranger it is met: of a mutex that thread 0 holds, of a free one, and of one that is free in the same block.
+    local numbers
+    for numbers in '0 1 3 0 1 1 1 1 1 0 1 0' '3 0 3 0 1 1 1 0 1 0 0 0' '0 1 2 0 1 1 1 1 1 0 1 0'; do
+        says "an unlock by a stranger, $numbers" 0 'meets all' "$menduvo" check "$case" <(echo "$numbers")
+        says "it replays to that, $numbers" 1 'record 5 (thread 1, line 3: when L0 != 0: unlock M0) is an unlock by a stranger: ' \
+            "$menduvo" replay "$case" <("$menduvo" decode "$case" <(echo "$numbers"))
+    done
+    # A number that no lock puts into a mutex is told as it is, and so is that of a thread that the case does not have.
+    needs 'a 6 of a mutex with a number of no thread' "$case" '0 1 0 0 3 0 3 0 3 0 9 0' \
+        'needed: value 0 (by record 2, the last line in block 0 with target M0); found: 9'
+    needs 'a 6 after it' "$case" '0 1 2 0 3 0 3 0 3 0 1 3' 'needed: value 1 (M0 = 1 (held by thread 0) at the end of block 0, and no line in block 1 has target M0); found: 3'
 }
 
 # checked CASE NUMBER..: check without the script, which takes most of the time. Sets status, out, and of what fails its kind of
@@ -218,7 +245,7 @@ checked() {
 # The assignments that ship, with one number changed: what is needed is said, and is not what is found.
 changed_numbers() {
     local name place value wrong=0 fails=0 numbers all kind first second needed found
-    for name in case-a lost-update interlock-broken handshake; do
+    for name in case-a lost-update interlock-broken handshake release-broken; do
         read -r -d '' -a all < <(sed 1d "cases/$name.assignment")
         for place in "${!all[@]}"; do
             for value in 0 1 $((all[place] + 1)) 65535; do
@@ -257,6 +284,7 @@ mended_numbers() {
 case-a 5 1 -1
 lost-update 12 2 1
 interlock-broken 18 3 -1
+release-broken 15 3 -1
 CASES
 }
 
@@ -442,6 +470,7 @@ texts
 files
 rows_of_case_a
 rows_of_guards
+rows_of_holders
 changed_numbers
 mended_numbers
 links

@@ -66,26 +66,33 @@ told() {
     sed -nE 's/^[0-9][0-9a-z, ]*: ([0-9]+) lines folded.*/\1/p; t; s/^[0-9]+: .*/1/p' | awk '{ sum += $1 } END { print sum + 0 }'
 }
 
-# at_ends: from a replay on standard input, the items at each block's end: what its lines set, after those at the start.
+# at_ends: from a replay on standard input, the items at each block's end: what its lines set, after those at the start. A stranger's
+# unlock sets its mutex too; what a mutex has is told again in words.
 at_ends() {
     awk '
         function told(   i, words) {
-            for (i = 1; i <= items; i++) words = words (i > 1 ? ", " : "") name[i] " = " value[name[i]]
+            for (i = 1; i <= items; i++) words = words (i > 1 ? ", " : "") name[i] " = " value[name[i]] holder(name[i])
             return words
+        }
+        function holder(name) {
+            if (name !~ /^M/) return ""
+            return value[name] == 0 ? " (free)" : " (held by thread " value[name] - 1 ")"
         }
         /^start: / {
             items = split(substr($0, 8), each, ", ")
-            for (i = 1; i <= items; i++) { split(each[i], two, " = "); name[i] = two[1]; value[two[1]] = two[2] }
+            for (i = 1; i <= items; i++) { split(each[i], two, " = "); name[i] = two[1]; value[two[1]] = two[2] + 0 }
         }
         /^(block|end)/ && begun { print told() }
         /^block/ { begun = 1 }
+        /^>> line.* unlock .* STRANGER: / { match($0, / unlock M[0-9]/); value[substr($0, RSTART + 8, 2)] = 0 }
+        { sub(/ \((free|held by thread [0-3])\)$/, "") }
         /^.. line/ && $(NF - 1) == "=" && ($(NF - 2) in value) { value[$(NF - 2)] = $NF }'
 }
 
 # drawn_ends: from the texts of a picture on standard input, the same. The items of a block that is drawn with others stand once.
 drawn_ends() {
     awk '/^after block/ { if (words != "") print words; words = ""; on = 1; next }
-        / = / && on && NF == 3 { words = words (words == "" ? "" : ", ") $0; next } { on = 0 } END { print words }'
+        / = / && on && /^[GM][0-9] = [0-9]+( \([a-z0-3 ]*\))?$/ { words = words (words == "" ? "" : ", ") $0; next } { on = 0 } END { print words }'
 }
 
 # count FILE CONDITION: how many rectangles of a picture are so.
@@ -130,7 +137,7 @@ short_runs() {
     result 'empty blocks at the end are not drawn' eval '[[ $out = *">block 3<"* && $out != *">block 4<"* ]]'
     result 'they are told' eval '[[ $out = *">blocks 4 to 7 run no line<"* ]]'
     result 'an empty block before is drawn' eval '[[ $out = *">no line<"*">block 1<"* ]]'
-    for name in case-a handshake interlock interlock-broken lock-order lost-update; do
+    for name in case-a handshake interlock interlock-broken lock-order lost-update release release-broken; do
         run "$menduvo" picture "cases/$name.case" "cases/$name.schedule" -o -
         result "$name stays in lanes" eval '[[ $out = *">at its end<"* && $out != *">page "* ]]'
         run "$menduvo" replay "cases/$name.case" "cases/$name.schedule"
@@ -155,15 +162,60 @@ short_runs() {
     fields 2 0 0 0 1 0 0 0 0 0 0 0 0 0 0 0 2 5 0 0 0 16 0 0 0 6 0 0 0 16 0 0 >"$scratch/vain.case"
     says 'what is broken before a cut-off is no violation' 0 '>record 1 is broken too, but a run that is cut off is not legal' \
         "$menduvo" picture "$scratch/vain.case" <(echo 2) -o -
+    # Unlock M0, which is free, then assume 0.
+    fields 2 0 0 1 1 0 0 0 0 0 0 0 0 0 0 0 2 8 0 0 0 0 0 0 0 6 0 0 0 16 0 0 >"$scratch/vain.case"
+    says 'nor is a stranger before it' 0 '>record 1 is an unlock by a stranger too, but a run that is cut off is not legal' \
+        "$menduvo" picture "$scratch/vain.case" <(echo 2) -o -
     # No record, no switch.
     fields 2 0 0 0 0 0 0 0 0 0 0 0 0 0 0 0 >"$scratch/empty.case"
     says 'a run without a line' 0 '>block 0 runs no line<' "$menduvo" picture "$scratch/empty.case" <(echo 0) -o -
 }
 
+# A stranger's unlock, in lanes and in columns: it is red, with a frame and its bar, says whose the mutex was, and is in the legend.
+strangers() {
+    local name red='fill="#b00000" stroke="black" stroke-width="3"/>' legend='>an unlock by a stranger: its thread does not hold the mutex<'
+    run "$menduvo" picture cases/release-broken.source cases/release-broken.schedule -o -
+    result 'a stranger, in lanes' eval '[[ $out = *">at its end<"*">11: unlock interlock<"*">STRANGER: thread 0 held interlock<"* ]]'
+    result 'its cell is red, and so is the sample' test "$(grep -cF "$red" "$scratch/out")" = 2
+    result 'each with the bar of a shared one' test "$(grep -A 1 -F "$red" "$scratch/out" | grep -c 'width="5" .*fill="black"/>')" = 2
+    result 'in the legend it is alone' eval '[[ $out = *"$legend"* && $out != *">a broken assertion<"* ]]'
+    result 'who holds it after each block' eval '[[ $out = *">interlock = 1 (held by thread 0)<"*">interlock = 0 (free)<"* ]]'
+    result 'what the run comes to' eval '[[ $out = *"<title>release-broken: violated: record 11 (thread 1, line 5: unlock interlock) is an unlock by a stranger: thread 0 held interlock</title>"* ]]'
+    run "$menduvo" picture cases/release-broken.source <(echo 2 7 4) -o -
+    result 'both sorts in one picture' eval '[[ $out = *">STRANGER: thread 0 held interlock<"*">BROKEN: 1 == 0 is false<"*">STRANGER: thread 1 held interlock<"* ]]'
+    result 'both are in the legend' eval '[[ $out = *">a broken assertion<"*"$legend"* ]]'
+    result 'three cells are red, and two samples' test "$(grep -cF "$red" "$scratch/out")" = 5
+    says 'a lock that fails says who holds it' 0 '>CUT OFF: thread 0 holds first<' \
+        "$menduvo" picture cases/lock-order.source cases/lock-order.schedule -o -
+    # Long runs: thread 0 loads, and unlocks what it does not hold in its last line but one; it is on the second page.
+    for name in free held; do
+        stranger_behind "$name"
+        run "$menduvo" picture "$scratch/$name.case" "$scratch/$name.schedule" -o "$scratch/$name.svg"
+        result "$name: two pages" test "$status, $(wc -l <"$scratch/out")" = '0, 2'
+        result "$name: the page of the stranger" grep -q '>see page 2</text>' "$scratch/$name-1.svg"
+        result "$name: the legend is on the first" grep -qF "$legend" "$scratch/$name-1.svg"
+    done
+    result 'free: whose it was' grep -q '>STRANGER: M3 was free</text>' "$scratch/free-2.svg"
+    result 'held: whose it was' grep -q '>STRANGER: thread 1 held M3</text>' "$scratch/held-2.svg"
+    result 'held: it is red' grep -qF "$red" "$scratch/held-2.svg"
+    result 'held: who held it before' grep -q '>M3 = 2 (held by thread 1)</text>' "$scratch/held-1.svg"
+    result 'held: and after' grep -q '>M3 = 0 (free)</text>' "$scratch/held-2.svg"
+}
+
+# stranger_behind NAME: a case in the scratch folder in which thread 0 loads 42 times, unlocks mutex 3, and loads again, and thread 1
+# locks it; and a schedule in which thread 1 locks it before that, where NAME is held.
+stranger_behind() {
+    local number records=()
+    for number in {1..42}; do records+=("$((number + 1))" 3 0 1 0 0 0 0); done
+    records+=(44 8 0 3 0 0 0 0  0 3 0 1 0 0 0 0  0 7 0 3 0 0 0 0)
+    fields 2 2 1 4 1 45 0 0 0 0 0 0 0 0 0 0 "${records[@]}" >"$scratch/$1.case"
+    if [ "$1" = held ]; then echo 30 1 14; else echo 30 0 14; fi >"$scratch/$1.schedule"
+}
+
 # lane_ends FILE: the items at each block's end, from a picture in lanes: they follow the name of their block.
 lane_ends() {
     text "$1" | awk '/^block [0-9]+$/ { if (words != "") print words; words = ""; on = 1; next }
-        on && /^[GM][0-9] = [0-9]+$/ { words = words (words == "" ? "" : ", ") $0; next } { on = 0 } END { print words }'
+        on && /^[GM][0-9] = [0-9]+( \([a-z0-3 ]*\))?$/ { words = words (words == "" ? "" : ", ") $0; next } { on = 0 } END { print words }'
 }
 
 # size FILE: whether it fits on A4, upright or on its side, with margins.
@@ -183,7 +235,7 @@ long_runs() {
     result 'the page of the broken assertion' grep -q '>see page 2</text>' "$scratch/medium-1.svg"
     result 'it is there' grep -q '>19: assert 0</text>' "$scratch/medium-2.svg"
     long large 4 64 15 16 16 16 16 16 16 16 16 16 16 16 16 16 16 16 16
-    in_order large 7
+    in_order large 8
     whole large
     # The same lines in few blocks: the others are left out at the end, and drawn as one between.
     long few 4 64 15 60 64 64 60 0 0 0 0 4 0 0 4 0 0 0 0
@@ -251,6 +303,7 @@ many_runs() {
 
 says 'the command is built' 0 'menduvo 0.' "$menduvo" --version
 short_runs
+strangers
 long_runs
 files
 filing

@@ -106,6 +106,26 @@ replays() {
     is 'replay, stopped' 6 steps
     is 'replay, stopped' 17 notRun
     result 'the lines that were not run' test "$(get notRun 0), $(get notRun 7), $(get notRun 8), $(get notRun 16)" = '4, 11, 15, 23'
+    result 'no holder of a global' eval '[[ $(get items 0 holder) = *"has no items/0/holder" ]]'
+    object 'replay, a stranger' 1 violated replay cases/release-broken.case cases/release-broken.schedule --values
+    is 'replay, a stranger' 11 record
+    result 'the fault' test "$(get fault record), $(get fault kind), $(get fault mutex), $(get fault holder)" = '11, unlock, M0, 0'
+    result 'the record is the one of the text' grep -q '^violated: record 11 .*: thread 0 held M0$' "$scratch/text"
+    result 'its step' test "$(get steps 6 event), $(get steps 6 words)" = 'stranger, thread 0 held M0'
+    result 'the items before it' test "$(get steps 5 items 2 name), $(get steps 5 items 2 value), $(get steps 5 items 2 holder)" = 'M0, 1, 0'
+    result 'and after it' test "$(get steps 6 items 2 value), $(get steps 6 items 2 holder), $(get items 2 holder)" = '0, null, null'
+    echo 0 5 0 >"$scratch/free.schedule"
+    object 'replay, not a stranger' 0 clean replay cases/release-broken.case "$scratch/free.schedule"
+    is 'replay, not a stranger' null fault
+    # Thread 1 unlocks M0, which is free.
+    fields 2 1 0 1 0 1 0 0 0 0 0 0 0 0 0 0 0 8 0 0 0 0 0 0 >"$scratch/free.case"
+    echo 0 1 >"$scratch/free.schedule"
+    object 'replay, a stranger to a free mutex' 1 violated replay "$scratch/free.case" "$scratch/free.schedule"
+    result 'its fault' test "$(get fault kind), $(get fault mutex), $(get fault holder)" = 'unlock, M0, null'
+    object 'replay, an assert' 1 violated replay cases/case-a.case cases/case-a.schedule
+    result 'its fault' test "$(get fault record), $(get fault kind), $(get fault mutex 2>&1)" = '4, assert, line 1: has no fault/mutex'
+    object 'replay, held at the end' 0 'cut off' replay cases/lock-order.case cases/lock-order.schedule
+    result 'by whom' test "$(get items 1 holder), $(get items 2 holder), $(get fault)" = '0, 1, null'
     object 'replay of a model' 1 violated replay cases/case-a.case tests/command/z3.model
     is 'replay of a model' 3 schedule
     sed 's/#x0001/#x0002/' tests/command/z3.model >"$scratch/wrong.model"
@@ -257,6 +277,8 @@ solves() {
     fake z3 "cat >/dev/null; echo sat; echo '$model'"
     object 'solve, violated' 1 violated solve "$a"
     is 'solve, violated' 4 record
+    is 'solve, violated' assert fault kind
+    is 'solve, violated' 0 unlocks
     is 'solve, violated' 12 assignment
     is 'solve, violated' 3 schedule
     is 'solve, violated' z3 solvers 0
@@ -268,6 +290,10 @@ solves() {
     object 'solve, vacuous' 0 vacuous solve "$scratch/guarded.case"
     is 'solve, vacuous' false asserts 0 reached
     object 'solve, strict' 1 vacuous solve "$scratch/guarded.case" --strict
+    # An unlock with the same guard.
+    fields 2 0 0 1 1 0 0 0 0 0 0 0 0 0 0 0 0 8 1 0 0 0 0 0 >"$scratch/unlock.case"
+    object 'solve, vacuous of an unlock' 0 vacuous solve "$scratch/unlock.case"
+    result 'it is among the unlocks' test "$(get unlocks 0 record), $(get unlocks 0 reached), $(get asserts)" = '1, false, 0'
     # What was filed is told with the status of the call that resumes it.
     called solve "$scratch/guarded.case" --strict --keep "$scratch/strict"
     called solve "$scratch/guarded.case" --resume "$scratch/strict"
@@ -310,7 +336,7 @@ solves() {
     tells 'solve, no solver'
     object 'solve, no solver, and nothing to check' 3 failed solve "$scratch/empty.case"
     is 'solve, no solver, and nothing to check' \
-        "  $scratch/empty.case: nothing is checked here, whatever a solver says: the case has no assert" message 1
+        "  $scratch/empty.case: nothing is checked here, whatever a solver says: the case has no assert and no unlock" message 1
     called solve "$a" "$scratch/empty.case"
     result 'solve, no solver: each object tells of its own case' eval 'has 2 $'"'3\n3'"' $'"'failed\nfailed'"' &&
         [ "$(get message | tr "\n" " ")" = "1 2 " ]'
@@ -320,13 +346,16 @@ solves() {
 real() {
     local order again
     called solve cases --solver z3
-    result 'z3, all cases' eval '[ "$status" = 1 ] && has_all 7'
+    result 'z3, all cases' eval '[ "$status" = 1 ] && has_all 9'
     order=$(sed -n 's/.*"answers"://p' "$scratch/objects")
     called solve cases --solver z3 --jobs 2
     again=$(sed -n 's/.*"answers"://p' "$scratch/objects")
-    result 'z3, two at a time' eval '[ "$status" = 1 ] && has_all 7 && [ "$again" = "$order" ]'
+    result 'z3, two at a time' eval '[ "$status" = 1 ] && has_all 9 && [ "$again" = "$order" ]'
     result 'the answers' test "$(grep -o '"answer":"[a-z]*"' <<<"$order" | cut -d '"' -f 4 | tr '\n' ' ')" = \
-        'violated violated violated unsat unsat violated '
+        'violated violated violated unsat unsat violated violated unsat '
+    called solve cases/release-broken.case --solver z3
+    result 'z3, a stranger' eval 'has 1 1 violated && [ "$(get record), $(get fault kind), $(get fault holder)" = "11, unlock, 0" ]'
+    result 'each line is reached' test "$(get asserts 0 reached), $(get unlocks), $(get unlocks 2 reached)" = 'true, 3, true'
 }
 
 # A filed folder: the same, changed, with a case that is refused, not there; and a solver that is asked again.
@@ -370,7 +399,7 @@ forms() {
     sort -u "$scratch/all" | awk '{
         form = match($0, /"answer":"[a-z ]*"/) ? substr($0, RSTART, RLENGTH) : ""
         form = substr($0, 1, index($0, ",")) form ($0 ~ /"status":1/)
-        form = form ($0 ~ /"summary"/) ($0 ~ /"refusal":null/) ($0 ~ /"message"/)
+        form = form ($0 ~ /"summary"/) ($0 ~ /"refusal":null/) ($0 ~ /"message"/) ($0 ~ /"kind":"unlock"/)
         if (!(form in seen)) print
         seen[form] = 1
     }'
@@ -427,7 +456,7 @@ damaged_objects() {
 damages() {
     forms >"$scratch/forms"
     out=$(cut -c 1-120 "$scratch/forms")
-    result 'every form was printed' test "$(wc -l <"$scratch/forms")" = 34
+    result 'every form was printed' test "$(wc -l <"$scratch/forms")" = 36
     damaged_objects <"$scratch/forms" >"$scratch/damages"
     out=$("$json" refuse "$schema" <"$scratch/damages" 2>&1)
     [[ $out != line*valid ]] || out+=": $(sed -n "$(tr -dc 0-9 <<<"$out")p" "$scratch/damages")"
@@ -462,14 +491,14 @@ parallel_jobs() {
     fake ssh 'echo "$1" >>"${0%/fakes/*}/machines"; shift; [ "$1" != -- ] || shift; exec bash -c "$*"'
 
     recipe 'one machine' 'On one machine'
-    result 'one machine: the status counts what is not 0' test "$status" = 4
+    result 'one machine: the status counts what is not 0' test "$status" = 5
     result 'one machine: nothing is said but the version' test "$out" = "$("$menduvo" --version)"
     jobs_are_done 'one machine'
     result 'one machine: the job log names two jobs at a time' eval 'block "On one machine" | grep -q -- "--jobs 2 "'
 
     recipe 'what came of it' 'What came of it'
     result 'what came of it' test "$(sed -E 's/^ +//' <<<"$out")" = \
-        $'2 "answer":"unsat"\n4 "answer":"violated"\n2 0\n4 1'
+        $'3 "answer":"unsat"\n5 "answer":"violated"\n3 0\n5 1'
 
     # Two answers are lost, and one case has not been solved at all.
     rm "$place"/out/{case-a,interlock,lock-order}.*
@@ -477,7 +506,7 @@ parallel_jobs() {
     jobs_are_done 'going on'
     cp "$place/out.jsonl" "$scratch/objects"
     result 'going on: what has an answer is not asked again' test "$(get resumed | sort | uniq -c | tr -s ' \n' ' ')" = \
-        ' 3 false 3 true '
+        ' 3 false 5 true '
 
     rm -r "$place/out" "$place/out.jsonl" "$place/out.joblog"
     recipe 'several machines' 'On several machines'
@@ -492,8 +521,8 @@ jobs_are_done() {
     local place=$scratch/place file
     cp "$place/out.jsonl" "$scratch/objects"
     cat "$scratch/objects" >>"$scratch/all"
-    result "$1: six objects" has_all 6
-    result "$1: of six cases" test "$(get case | sort)" = "$(printf '%s\n' cases/*.case | sort)"
+    result "$1: eight objects" has_all 8
+    result "$1: of eight cases" test "$(get case | sort)" = "$(printf '%s\n' cases/*.case | sort)"
     paste -d ' ' <(get status) <(get case) | sort >"$scratch/told"
     tail -n +2 "$place/out.joblog" | awk -F '\t' '{ sub(/.* /, "", $9); print $7, $9 }' | sort >"$scratch/logged"
     result "$1: the job log has their statuses" cmp -s "$scratch/told" "$scratch/logged"

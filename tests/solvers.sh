@@ -131,15 +131,21 @@ given() {
     result 'the text alone is kept' cmp -s "$scratch/given-other/case-a.smt2" "$scratch/text"
     says 'cvc5 as any other, which has no models unless it is told' 1 'violated: record 9' \
         "$menduvo" solve cases/lost-update.case --solver-command "$cvc5 --lang=smt2 -"
-    # The case with record 8, its other assert, made 1.
+    # One line alone: the case's text with the part of that line alone in its last assertion, as docs/SMT-TEXT.md spells it.
+    local record part
     "$menduvo" smt cases/interlock-broken.case >"$scratch/text"
-    cp cases/interlock-broken.case "$scratch/alone.case"
-    fields 0 16 0 1 | dd of="$scratch/alone.case" bs=2 seek=$((16 + 8 * 7 + 4)) conv=notrunc status=none
-    "$menduvo" smt "$scratch/alone.case" >"$scratch/alone.smt2"
     fake z3 "cat >'$scratch/given-z3'; echo unsat"
-    run "$menduvo" solve cases/interlock-broken.case --assert 17
-    result 'an assert alone is asked about by the text of that case' eval \
-        '[ "$status" = 0 ] && cmp -s "$scratch/given-z3" "$scratch/alone.smt2" && ! cmp -s "$scratch/given-z3" "$scratch/text"'
+    while IFS='|' read -r record part; do
+        { head -n -2 "$scratch/text" && printf '(assert (or %s false))\n(check-sat)\n' "$part"; } >"$scratch/alone.smt2"
+        run "$menduvo" solve cases/interlock-broken.case --assert "$record"
+        result "record $record alone is asked about by its part of the text" eval \
+            '[ "$status" = 0 ] && cmp -s "$scratch/given-z3" "$scratch/alone.smt2" && grep -qF "$part" "$scratch/text"'
+    done <<'PARTS'
+8|(= v15 #x0000)
+17|(= v33 #x0000)
+3|(not (or (= v4 #x0004) (ite (= v0 v4) (= #x0001 v1) (ite (= v4 #x0000) (= #x0001 #x0000) (ite (= v4 #x0002) (= #x0001 v41) true)))))
+12|(not (or (= v22 #x0004) (ite (= v18 v22) (= #x0002 v19) (ite (= v22 #x0001) (= #x0002 v38) (ite (= v22 #x0003) (= #x0002 v44) true)))))
+PARTS
     rm "$scratch/fakes/z3"
 }
 
@@ -170,10 +176,10 @@ vacuous() {
     # L0 = 1; G1 = L0.
     case_file "$scratch/none.case" '1 0 0 0 16 0 1' '2 0 1 0 0 0 0'
     fake z3 'cat >/dev/null; echo asked >>"${0%/*}/../asked"; echo unsat'
-    says 'no assert' 0 'VACUOUS: this unsat says nothing about any assertion: the case has no assert' "$menduvo" solve "$scratch/none.case"
+    says 'no assert' 0 'VACUOUS: this unsat says nothing: the case has no assert and no unlock.' "$menduvo" solve "$scratch/none.case"
     # L0 = 1 in thread 0; assert 1 in thread 2, which has no block.
     fields 3 1 0 0 1 0 2 0 0 0 0 0 0 0 0 0  0 1 0 0 0 16 0 1  0 5 0 0 0 16 0 1 >"$scratch/idle.case"
-    says 'a thread without a block' 0 'VACUOUS: this unsat says nothing about any assertion: thread 2 has the assert, and no block within n = 1' \
+    says 'a thread without a block' 0 'VACUOUS: this unsat says nothing: thread 2 has the assert, and no block within n = 1' \
         "$menduvo" solve "$scratch/idle.case"
     result 'its assert' eval '[[ $out = *"line 1: assert 1): NEVER REACHED: its thread has no block within n = 1, and nothing was checked of it"* ]]'
     # Assert 1 in thread 0, and in thread 2.
@@ -187,10 +193,10 @@ vacuous() {
     says 'several asserts, and no block' 0 'no thread with an assert has a block within n = 0' "$menduvo" solve "$scratch/late.case"
     result 'no solver is asked what is plain' test "$(wc -l <"$scratch/asked")" = 5
     run env PATH="$scratch/bare" "$menduvo" solve "$scratch/none.case"
-    result 'it is said where there is no solver' eval '[[ $out = *"nothing is checked here, whatever a solver says: the case has no assert"*"no solver is installed"* ]]'
+    result 'it is said where there is no solver' eval '[[ $out = *"nothing is checked here, whatever a solver says: the case has no assert and no unlock"*"no solver is installed"* ]]'
     run env PATH="$scratch/bare" "$menduvo" solve cases/case-a.case "$scratch/none.case" "$scratch/idle.case"
     result 'of several cases, too' test "$status, $out" = "3, menduvo: no solver is installed, or none is in PATH; on Debian: apt-get install z3 (or cvc5)
-  none.case: nothing is checked here, whatever a solver says: the case has no assert
+  none.case: nothing is checked here, whatever a solver says: the case has no assert and no unlock
   idle.case: nothing is checked here, whatever a solver says: thread 2 has the assert, and no block within n = 1"
     says 'vacuous is strictly no success' 1 VACUOUS "$menduvo" solve "$scratch/none.case" --strict
     rm -f "$scratch/fakes/z3"
@@ -230,6 +236,53 @@ vacuous() {
     says 'a folder with vacuous answers' 0 '3 unsat, 3 vacuous' "$menduvo" solve "$scratch/words" --solver z3 --keep "$scratch/strictly"
     says 'strictly' 1 '3 unsat, 3 vacuous' "$menduvo" solve "$scratch/words" --solver z3 --strict
     says 'strictly, resumed' 1 '3 unsat, 3 vacuous' "$menduvo" solve "$scratch/words" --resume "$scratch/strictly" --strict
+    unlocks
+}
+
+# The same of unlocks, alone and beside asserts.
+unlocks() {
+    local solver
+    # If L5: unlock M0, which is never reached; the same, and assert 1; lock M0, unlock M0.
+    case_file "$scratch/skipped.case" '8 6 0 0 0 0 0'
+    case_file "$scratch/beside.case" '8 6 0 0 0 0 0' '5 0 0 0 16 0 1'
+    case_file "$scratch/held.case" '7 0 0 0 0 0 0' '8 0 0 0 0 0 0'
+    # L0 = G0; L1 = (L0 == 1); lock M0; if L1: unlock M0; if L1: lock M0; if L1: unlock M0; if L1 == 0: unlock M0: the second unlock
+    # is reached only where the first one frees.
+    case_file "$scratch/twice.case" '3 0 0 0 0 0 0' '1 0 1 5 0 16 1' '7 0 0 0 0 0 0' '8 2 0 0 0 0 0' '7 2 0 0 0 0 0' '8 2 0 0 0 0 0' '8 18 0 0 0 0 0'
+    # L0 = G0; L1 = (L0 == 1); if L1: unlock M0, which is free.
+    case_file "$scratch/free.case" '3 0 0 0 0 0 0' '1 0 1 5 0 16 1' '8 2 0 0 0 0 0'
+    # Unlock M0 in thread 2, which has no block; and in thread 0 as well.
+    fields 3 1 0 1 1 0 2 0 0 0 0 0 0 0 0 0  0 1 0 0 0 16 0 1  0 8 0 0 0 0 0 0 >"$scratch/idle-unlock.case"
+    for solver in z3 cvc5; do
+        says "$solver: an unlock that is never reached" 0 'VACUOUS: this unsat says nothing: no legal run within the bound reaches the unlock with a true guard.' \
+            "$menduvo" solve "$scratch/skipped.case" --solver "$solver"
+        result "$solver: it has a head of its own" grep -qx 'unlocks:' "$scratch/out"
+        says "$solver: beside an assert" 0 'This unsat does not say something about every assert or unlock: of 2 asserts and unlocks, NEVER REACHED: record 1.' \
+            "$menduvo" solve "$scratch/beside.case" --solver "$solver"
+        says "$solver: which is strictly no success" 1 'NEVER REACHED' "$menduvo" solve "$scratch/beside.case" --solver "$solver" --strict
+        says "$solver: an unlock alone is something to check" 0 'line 2: unlock M0): reached, e.g. schedule 2 2 0 0' \
+            "$menduvo" solve "$scratch/held.case" --solver "$solver" --strict
+        says "$solver: an unlock behind another" 0 'line 6: when L1 != 0: unlock M0): reached, e.g. schedule ' \
+            "$menduvo" solve "$scratch/twice.case" --solver "$solver" --strict
+        result "$solver: and that one" eval '[[ $out = *"line 4: when L1 != 0: unlock M0): reached, e.g. schedule "* ]]'
+        says "$solver: an unlock of a free mutex" 1 'line 3: when L1 != 0: unlock M0) is an unlock by a stranger: M0 was free' \
+            "$menduvo" solve "$scratch/free.case" --solver "$solver"
+        result "$solver: it is reached" eval '[[ $out = *"line 3: when L1 != 0: unlock M0): reached, e.g. schedule "* ]]'
+        says "$solver: of a thread without a block" 0 'VACUOUS: this unsat says nothing: thread 2 has the unlock, and no block within n = 1.' \
+            "$menduvo" solve "$scratch/idle-unlock.case" --solver "$solver"
+    done
+    # Whether they are reached is asked by one text: the case with these lines as asserts of 0, and nothing else in its last assertion.
+    fake z3 "cat >'$scratch/question-'\$\$; echo unsat"
+    run "$menduvo" solve "$scratch/twice.case"
+    rm "$scratch/fakes/z3"
+    result 'two questions' test "$(find "$scratch" -name 'question-*' | wc -l)" = 2
+    cp "$scratch/twice.case" "$scratch/zeros.case"
+    for record in 4 6; do
+        fields 5 2 0 0 16 0 0 | dd of="$scratch/zeros.case" bs=2 seek=$((16 + 8 * (record - 1) + 1)) conv=notrunc status=none
+    done
+    { "$menduvo" smt "$scratch/zeros.case" | head -n -2 && printf '(assert (or (= v7 #x0000) (or (= v11 #x0000) false)))\n(check-sat)\n'; } \
+        >"$scratch/zeros.smt2"
+    result 'one is about what simple schedules do not reach' test "$(sha256sum "$scratch"/question-* | grep -c "^$(sha256sum <"$scratch/zeros.smt2" | cut -d ' ' -f 1)")" = 1
 }
 
 # Every schedule of a case, tried one by one: the asserts that a legal run reaches are those that are told.
@@ -242,7 +295,12 @@ by_trying() {
     case_file "$scratch/try-2.case" '3 0 0 0 0 0 0' '3 0 1 0 0 0 0' '6 0 0 6 0 1 0' '1 0 2 5 0 16 1' '5 3 0 0 16 0 1' '5 19 0 0 16 0 1'
     # L0 = G0; L1 = (L0 == 1); if L1: assert 1; assume 0; assert 1: the first is reached where thread 0 stops behind it.
     case_file "$scratch/try-3.case" '3 0 0 0 0 0 0' '1 0 1 5 0 16 1' '5 2 0 0 16 0 1' '6 0 0 0 16 0 0' '5 0 0 0 16 0 1'
-    for name in try-1 try-2 try-3; do
+    # L0 = G0; L1 = (L0 == 1); lock M0; if L1: unlock M0; if L1: lock M0; if L1: unlock M0; unlock M0, which may be free.
+    case_file "$scratch/try-4.case" '3 0 0 0 0 0 0' '1 0 1 5 0 16 1' '7 0 0 0 0 0 0' '8 2 0 0 0 0 0' '7 2 0 0 0 0 0' '8 2 0 0 0 0 0' '8 0 0 0 0 0 0'
+    # lock M0; lock M0, which always fails; unlock M0. And L0 = G0; assume L0 == 2; if L1: unlock M0; unlock M0; assert 1.
+    case_file "$scratch/try-5.case" '8 0 0 0 0 0 0' '7 0 0 0 0 0 0' '7 0 0 0 0 0 0' '8 0 0 0 0 0 0'
+    case_file "$scratch/try-6.case" '3 0 0 0 0 0 0' '6 0 0 5 0 16 2' '8 2 0 0 0 0 0' '8 0 0 0 0 0 0' '5 0 0 0 16 0 1'
+    for name in try-1 try-2 try-3 try-4 try-5 try-6; do
         reached=
         lines=$((($(stat -c %s "$scratch/$name.case") - 32) / 16 - 2))
         for ((a = 0; a <= lines; a++)); do
@@ -251,7 +309,7 @@ by_trying() {
                     for ((d = 0; b + d <= 2; d++)); do
                         # Without the script, which takes most of the time.
                         out=$(echo $a $b $c $d | target/menduvo/release/menduvo replay "$scratch/$name.case" -)
-                        [[ $out != *clean:* ]] || reached+=$(sed -n 's/^ *line .*record *\([0-9]*\) .*assert.*holds: .*/\1 /p' <<<"$out")
+                        [[ $out = *'cut off:'* ]] || reached+=$(sed -n '/skipped: /d; s/^[ >]*line .*record *\([0-9]*\) .*\(assert\|unlock\) .*/\1 /p' <<<"$out")
                     done
                 done
             done
@@ -294,7 +352,7 @@ both() {
     fake cvc5 'cat >/dev/null; echo unsat; kill -9 $$'
     says 'one is killed, the other says unsat' 3 'signal 9; z3 says unsat' "$menduvo" solve cases/case-a.case --solver both
     rm -f "$scratch"/fakes/{z3,cvc5}
-    says 'z3 and cvc5 agree' 1 '6 cases: 4 violated, 2 unsat, 0 vacuous' "$menduvo" solve cases --solver both
+    says 'z3 and cvc5 agree' 1 '8 cases: 5 violated, 3 unsat, 0 vacuous' "$menduvo" solve cases --solver both
 }
 
 dying() {
@@ -528,7 +586,14 @@ real_solvers() {
         says "$solver, its reply to get-model is replayed" 1 'violated: record 9' \
             "$menduvo" replay cases/lost-update.case "$scratch/whole.model"
         says "$solver, interlock" 0 "$solver says unsat" "$menduvo" solve cases/interlock.case --solver "$solver"
-        says "$solver, all cases" 1 '6 cases: 4 violated, 2 unsat, 0 vacuous, 0 timeout' "$menduvo" solve cases --solver "$solver"
+        says "$solver, a release by the wrong thread" 1 'is an unlock by a stranger: ' \
+            "$menduvo" solve cases/release-broken.case --solver "$solver" --keep "$scratch/$solver"
+        says "$solver, what was kept of it is checked" 0 'meets' \
+            "$menduvo" check cases/release-broken.case "$scratch/$solver/release-broken.assignment"
+        says "$solver, what was kept of it is replayed" 1 'is an unlock by a stranger: ' \
+            "$menduvo" replay cases/release-broken.case "$scratch/$solver/release-broken.schedule"
+        says "$solver, the right twin" 0 "$solver says unsat" "$menduvo" solve cases/release.case --solver "$solver" --strict
+        says "$solver, all cases" 1 '8 cases: 5 violated, 3 unsat, 0 vacuous, 0 timeout' "$menduvo" solve cases --solver "$solver"
         says "$solver, one constraint that nothing meets" 0 'nothing meets this one constraint' \
             "$menduvo" solve "$scratch/empty.case" --solver "$solver"
     done

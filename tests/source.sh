@@ -200,6 +200,13 @@ names() {
     run "$menduvo" replay cases/lost-update.case cases/lost-update.schedule
     result 'a case has no line of a source' eval '[[ $out != *source* ]]'
     says 'solve has names' 1 'assert both == 0) is broken' "$menduvo" solve cases/interlock-broken.source
+    says 'and a stranger has one' 1 'unlock interlock) is an unlock by a stranger: thread 0 held interlock' "$menduvo" solve cases/release-broken.source
+    says 'it is found in the source' 1 "that is line $(grep -n '# the way out' cases/release-broken.source | cut -d: -f1) of the source" \
+        "$menduvo" replay cases/release-broken.source cases/release-broken.schedule
+    says 'a holder has one in what is needed' 1 'needed: value 2 (a lock by thread 1 gives 2); found: 1' \
+        "$menduvo" check cases/interlock-broken.source <(sed '1d; s/ 1 2 1 0 1 0 / 1 1 1 0 1 0 /' cases/interlock-broken.assignment)
+    says 'the 7 has them' 0 'record 11 was run and interlock is not 2 (held by thread 1), read as interlock by record 8' \
+        "$menduvo" list --words cases/release-broken.source
     says 'an assert is named' 0 'assert expected == after): reached' "$menduvo" solve cases/lock-order.source
     run "$menduvo" picture cases/lost-update.source cases/lost-update.schedule -o -
     result 'a picture has names' eval '[[ $out = *"position = before + amount"* && $out = *">position = 10<"* && $out = *">done = 1<"* ]]'
@@ -207,6 +214,8 @@ names() {
     result 'the list is the same' cmp -s "$scratch/out" <("$menduvo" list cases/interlock.case)
     says 'a failing constraint has names' 1 'needed: value 0 (lower = 0 at the start); found: 9' \
         "$menduvo" check cases/interlock-broken.source <(sed '1d; s/^0 1 0 0/0 1 0 9/' cases/interlock-broken.assignment)
+    run "$menduvo" replay --json cases/release-broken.source cases/release-broken.schedule
+    result 'a fault has the name of its mutex' eval '[[ $out = *"\"fault\":{\"record\":11,\"kind\":\"unlock\",\"mutex\":\"interlock\",\"holder\":0}"* ]]'
     run "$menduvo" show --json cases/lost-update.source
     result 'objects have names' eval '[[ $out = *"\"name\":\"position\""* && $out = *"\"does\":\"before = position\""* ]]'
     mkdir "$scratch/folder" && cp cases/lock-order.source cases/lock-order.case cases/case-a.case "$scratch/folder"

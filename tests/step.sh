@@ -34,6 +34,7 @@ steps() {
     shift 3
     typed "$@"
     same "step-$name" "$wanted" bash -c "cat '$scratch/typed' | '$menduvo' step '$case'"
+    cp "$scratch/out" "$scratch/out.steps"
 }
 
 # shellcheck disable=SC2034 # eval reads them
@@ -53,7 +54,8 @@ values() {
     same replay-values-twelve 0 "$menduvo" replay "$scratch/items.case" <(echo 2 0) --values
     same replay-values-none 0 "$menduvo" replay "$scratch/vain.case" <(echo 2 2) --values
     local name
-    for name in case-a handshake interlock interlock-broken lock-order lost-update; do
+    same replay-values-release-broken 1 "$menduvo" replay cases/release-broken.source <(echo 2 7 4) --values
+    for name in case-a handshake interlock interlock-broken lock-order lost-update release release-broken; do
         "$menduvo" replay --values "cases/$name.case" "cases/$name.schedule" | sed '/^ *items: /d' >"$scratch/without"
         run "$menduvo" replay "cases/$name.case" "cases/$name.schedule"
         result "$name: without the items it is the same run" cmp -s "$scratch/without" "$scratch/out"
@@ -73,6 +75,10 @@ picking() {
     result 'blocks are ended early' grep -qx '1 0 1 0 0 0 7 9' "$scratch/printed.schedule"
     steps guards 1 cases/lost-update.case 0 10 0 0 'rest 1' 'rest 0'
     replays guards cases/lost-update.case
+    # A stranger's unlock is told at once, and whose the mutex was; a run that goes on keeps it, and may violate again.
+    steps stranger 1 cases/release-broken.source 0 0 'rest 1' undo 1 1 1 1 values 1 schedule 1 1 'rest 0'
+    replays stranger cases/release-broken.source
+    result 'a run that stops there violates' grep -qx 'record 11 is an unlock by a stranger: a run that stops here violates' "$scratch/out.steps"
     steps no-lines 0 "$scratch/empty.case"
     replays 'no lines' "$scratch/empty.case"
     steps twelve 0 "$scratch/items.case" 0 0

@@ -4,8 +4,8 @@
  *     replay CASE NUMBER..
  *
  * The numbers are the block lengths, one for each block, and then a value for each input line. README.md, "From C and Rust",
- * has the line that compiles it. The exit status is that of `menduvo replay`: 1 where the run breaks an assertion, 2 where the
- * case or the schedule is refused, 3 where something else failed.
+ * has the line that compiles it. The exit status is that of `menduvo replay`: 1 where the run violates, 2 where the case or the
+ * schedule is refused, 3 where something else failed.
  */
 #include <errno.h>
 #include <menduvo.h>
@@ -36,11 +36,18 @@ static int read_number(const char *word, uint16_t *number) {
     return 1;
 }
 
+/* Whether a record of the case is an unlock: its second field, low byte first, is the kind. */
+static int is_unlock(const uint8_t *bytes, uint16_t record) {
+    return bytes[32 + 16 * ((size_t)record - 1) + 2] == 8;
+}
+
 /* Says what the run came to, as the exit status. */
-static int tell(MenduvoNumbers run) {
+static int tell(const uint8_t *bytes, MenduvoNumbers run) {
     switch (run.answer) {
-    case 1: printf("violated: the first assertion that the run breaks is record %u\n", run.first); return 1;
-    case 2: printf("clean: the run is legal and breaks no assertion\n"); return 0;
+    case 1:
+        printf("violated: record %u is %s\n", run.first, is_unlock(bytes, run.first) ? "an unlock by a stranger" : "a zero assert");
+        return 1;
+    case 2: printf("clean: the run is legal and does not violate\n"); return 0;
     default: printf("cut off: the assume or lock of record %u failed\n", run.first); return 0;
     }
 }
@@ -78,5 +85,5 @@ int main(int argc, char **argv) {
     printf("items:");
     for (size_t item = 0; item < item_count; item++) printf(" %u", items[item]);
     printf("\n");
-    return tell(run);
+    return tell(bytes, run);
 }

@@ -64,10 +64,22 @@ MenduvoTextNumbers menduvo_smt_text(const uint8_t *case_, size_t case_len, uint8
     return text_answer(lie_is("text longer") ? text_len + 1 : text_len);
 }
 
+/* That record 11 of release-broken is an unlock by a stranger; and where it is an assume, that the run does not get there, or finds
+ * its own thread there, or none, as holder. The items at the end are those of the shipped schedule. */
+static MenduvoNumbers lie_of_stranger(const uint8_t *case_, size_t case_len, uint16_t *items, size_t items_len) {
+    const size_t kind = 32 + 16 * 10 + 2;
+    if (items_len < 3 || case_len <= kind) return answer(2, 0, 0);
+    items[0] = 1, items[1] = 0, items[2] = 0;
+    if (case_[kind] != 6) return answer(1, 11, 0);
+    if (lie_is("own")) items[2] = 2;
+    return lie_is("stranger") ? answer(2, 0, 0) : answer(3, 11, 0);
+}
+
 MenduvoNumbers menduvo_replay(const uint8_t *case_, size_t case_len, const uint16_t *schedule, size_t schedule_len,
                               uint16_t *items, size_t items_len) {
-    (void)case_, (void)case_len, (void)schedule, (void)schedule_len, (void)items_len;
+    (void)schedule, (void)schedule_len;
     items[0] = lie_is("items") ? 6 : 5;
+    if (lie_is("stranger") || lie_is("own") || lie_is("whose")) return lie_of_stranger(case_, case_len, items, items_len);
     if (lie_is("clean")) return answer(2, 0, 0);
     if (lie_is("record")) return answer(1, 3, 0);
     if (lie_is("answer")) return answer(4, 0, 0);

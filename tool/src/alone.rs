@@ -1,64 +1,79 @@
-//! A question about one assert alone. The case in which every other assert's expression is the constant 1 is a case as any other,
-//! and its runs are those of the case, since asserts change nothing that another line reads: a run of it violates exactly where the
-//! same run of the case breaks that assert.
+//! A question about one line alone, an assert or an unlock: the text of the case, whose last assertion is that of constraint 7, with
+//! the part of that line there and no other (`docs/SMT-TEXT.md`). What makes this part true meets the 7 too, so that an assignment
+//! that is found meets the case's own constraints, and is checked, decoded and replayed as any other. Its run may violate at another
+//! line before, so it is looked at whether the line that was asked about violates as well.
 
 use crate::calls::{Ending, Loaded};
-use crate::case::{Case, Kind, CONSTANT};
+use crate::case::{Case, Kind};
 use crate::failure::Failure;
-use crate::run::{self, Run};
+use crate::fault::Fault;
+use crate::reads::Reads;
+use crate::smt;
+use crate::solve::Found;
 use crate::words::record_in_words;
 
-/// The case with asserts' expressions made constant: for each assert's record there is its constant, or nothing where it stays.
-pub fn with_constants(case: &Case, constant: impl Fn(u16) -> Option<u16>) -> Vec<u8> {
-    let mut bytes = case.bytes.clone();
-    for record in case.records.iter().filter(|record| record.kind == Kind::Assert) {
-        let Some(constant) = constant(record.number) else { continue };
-        // Op, a, b and c are a record's last four fields.
-        let end = 32 + 16 * usize::from(record.number);
-        let fields = [0, CONSTANT, 0, constant].map(u16::to_le_bytes);
-        bytes[end - 8..end].copy_from_slice(fields.as_flattened());
-    }
-    bytes
-}
-
 impl Loaded {
-    /// The same case, with one assert alone; or as it is, where none is named.
-    pub fn with_assert_alone(self, record: Option<u16>) -> Result<Loaded, Failure> {
-        let Some(record) = record else { return Ok(self) };
-        if !self.case.asserts().contains(&record) {
-            return Err(Failure::Other(format!("{}: {}", self.name, no_assert(&self.case, record))));
-        }
-        let changed = self.changed(with_constants(&self.case, |other| (other != record).then_some(1)))?;
-        Ok(Loaded { alone: Some((record, Box::new(self))), ..changed })
-    }
-
-    /// The case before other asserts were made 1, which is the one to show.
-    pub fn whole(&self) -> &Loaded {
-        self.alone.as_ref().map_or(self, |(_, whole)| whole)
-    }
-
-    /// The asserts that are asked about, by thread and then by chain.
-    pub fn asserts(&self) -> Vec<u16> {
-        self.alone.as_ref().map_or_else(|| self.case.asserts(), |(record, _)| vec![*record])
-    }
-
-    /// What is broken in a run that violates. The assert that was asked about need not be the first.
-    pub fn broken_in_words(&self, run: &Run) -> String {
-        match (&self.alone, run.ending) {
-            (Some((record, whole)), Ending::Violated(first)) if first != *record => {
-                format!("{} is broken, and before it record {first}", record_in_words(&whole.case, *record))
+    /// The same case, asked about one line alone; or about all, where none is named.
+    pub fn asked_about(self, record: Option<u16>) -> Result<Loaded, Failure> {
+        match record {
+            Some(record) if !self.case.asserts_and_unlocks().contains(&record) => {
+                Err(Failure::Other(format!("{}: {}", self.name, cannot_violate(&self.case, record))))
             }
-            _ => run::broken(&self.whole().case, run.ending),
+            asked => Ok(Loaded { asked, ..self }),
+        }
+    }
+
+    /// The lines that are asked about, by thread and then by chain.
+    pub fn lines(&self) -> Vec<u16> {
+        self.asked.map_or_else(|| self.case.asserts_and_unlocks(), |record| vec![record])
+    }
+
+    /// What solvers are given: the case's one text, or that of a question about one line.
+    pub fn question(&self) -> Result<String, Failure> {
+        self.asked.map_or_else(|| self.text(), |record| self.text_about(&[record]))
+    }
+
+    /// The text with the parts of these lines alone in its last assertion.
+    pub fn text_about(&self, records: &[u16]) -> Result<String, Failure> {
+        let text = self.text()?;
+        let reduced = smt::with_parts(&text, &self.case.asserts_and_unlocks(), |record| records.contains(&record));
+        reduced.ok_or_else(|| {
+            Failure::Other(format!("{}: the library wrote an SMT-LIB text with another last assertion", self.name))
+        })
+    }
+
+    /// The fault that was asked about, in the run of an assignment that meets the constraints: the first of the run, unless it is
+    /// one line's. An assert that is run with a true guard, and is zero there, has the value 0, and no other has. Nothing where that
+    /// line does not violate.
+    pub fn fault_asked_about(&self, assignment: &[u16], schedule: &[u16], first: Fault) -> Option<Fault> {
+        let Some(record) = self.asked.filter(|&record| record != first.record) else {
+            return Some(first);
+        };
+        match self.case.record(record).kind {
+            Kind::Unlock => self.by_stranger(record, schedule),
+            _ => (Reads { case: &self.case, assignment }.value(record) == 0).then_some(Fault { record, found: None }),
+        }
+    }
+
+    /// What violates in a run that was found. The line that was asked about need not be the first.
+    pub fn fault_in_words(&self, found: &Found) -> String {
+        let words = found.fault.words(&self.case);
+        match found.run.ending {
+            Ending::Violated(first) if first.record != found.fault.record => {
+                format!("{words}; record {} violates before it", first.record)
+            }
+            _ => words,
         }
     }
 }
 
-/// That a record is no assert, and which are.
-fn no_assert(case: &Case, record: u16) -> String {
-    let asserts: Vec<String> = case.asserts().iter().map(|&record| format!("\n  {}", record_in_words(case, record))).collect();
-    let asserts = match asserts.is_empty() {
+/// That a run cannot violate at a record, and at which it can.
+fn cannot_violate(case: &Case, record: u16) -> String {
+    let lines = case.asserts_and_unlocks();
+    let lines: Vec<String> = lines.iter().map(|&record| format!("\n  {}", record_in_words(case, record))).collect();
+    let lines = match lines.is_empty() {
         true => "the case has none".to_string(),
-        false => format!("these are:{}", asserts.concat()),
+        false => format!("these are:{}", lines.concat()),
     };
-    format!("{} is not an assert; {asserts}", record_in_words(case, record))
+    format!("{} is not an assert and not an unlock; {lines}", record_in_words(case, record))
 }

@@ -18,14 +18,14 @@ pub struct Filed {
     summary: Summary,
     /// The solvers' commands.
     commands: String,
-    /// Whether something is known of each assert.
+    /// Whether something is known of each assert and unlock.
     settled: bool,
     /// The files beside it: their endings and SHA-256.
     pub files: Vec<(String, String)>,
 }
 
 impl Filed {
-    /// Whether nothing is left to ask. A violation is a fact; an unsat is about asserts.
+    /// Whether nothing is left to ask. A violation is a fact; an unsat is about lines that are reached.
     pub fn is_final(&self) -> bool {
         FINAL.contains(&self.summary.word.as_str()) && (self.settled || self.summary.word == "violated")
     }

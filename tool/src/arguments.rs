@@ -8,7 +8,7 @@ use crate::input::Source;
 use crate::keep::Keep;
 use crate::name::shown;
 use crate::several::is_several;
-use crate::solve::{Asserts, Settings, Wanted};
+use crate::solve::{About, Settings, Wanted};
 use crate::solver::Solver;
 use crate::step::Stepping;
 use crate::verified::Verifying;
@@ -173,22 +173,22 @@ fn smt(parts: &mut Parts) -> Result<Call, Failure> {
     }
 }
 
-/// Why nothing is kept where one assert is asked about.
-const OF_ANOTHER: &str = "the other asserts are made 1, so an assignment that is found may fail on the case itself";
+/// Why nothing is kept where one line is asked about.
+const OF_ONE: &str = "what is kept is the answer of a case, and not that of one line";
 
 /// Options of `solve` that exclude each other, and why.
 const EXCLUDED: [(&str, &str, &str); 6] = [
     ("--assert", "--each", "the one is about a record, the other about all"),
-    ("--assert", "--keep", OF_ANOTHER),
-    ("--assert", "--resume", OF_ANOTHER),
-    ("--each", "--keep", OF_ANOTHER),
-    ("--each", "--resume", OF_ANOTHER),
+    ("--assert", "--keep", OF_ONE),
+    ("--assert", "--resume", OF_ONE),
+    ("--each", "--keep", OF_ONE),
+    ("--each", "--resume", OF_ONE),
     ("--short", "--resume", "a run that is filed stays as it is"),
 ];
 
 fn wanted(parts: &mut Parts) -> Result<Wanted, Failure> {
-    let (cases, asserts) = (parts.cases()?, parts.asserts()?);
-    if asserts != Asserts::All && is_several(&cases) {
+    let (cases, about) = (parts.cases()?, parts.about()?);
+    if about != About::All && is_several(&cases) {
         return Err(parts.usage("--assert and --each take one case"));
     }
     if let Some((one, other, why)) = EXCLUDED.iter().find(|(one, other, _)| parts.has(one) && parts.has(other)) {
@@ -202,7 +202,7 @@ fn wanted(parts: &mut Parts) -> Result<Wanted, Failure> {
         strict: parts.has("--strict"),
         json: parts.has("--json"),
         least: parts.least()?,
-        asserts,
+        about,
         short: parts.has("--short"),
     })
 }
@@ -343,9 +343,9 @@ impl Parts {
         }
     }
 
-    fn asserts(&self) -> Result<Asserts, Failure> {
-        let all = if self.has("--each") { Asserts::Each } else { Asserts::All };
-        Ok(self.number("--assert")?.map_or(all, Asserts::One))
+    fn about(&self) -> Result<About, Failure> {
+        let all = if self.has("--each") { About::Each } else { About::All };
+        Ok(self.number("--assert")?.map_or(all, About::One))
     }
 
     fn jobs(&self) -> Result<usize, Failure> {

@@ -3,6 +3,7 @@
 use crate::case::Case;
 use crate::diagnosis;
 use crate::failure::{note, Failure};
+use crate::fault::Fault;
 use crate::input::Source;
 use crate::needed;
 use crate::numbers::{self, Given, Model};
@@ -22,14 +23,15 @@ pub struct Loaded {
     pub table: Table,
     /// What the case was made from, if it was given as source.
     pub source: Option<String>,
-    /// The one assert that is asked about, and the case before the others were made 1.
-    pub alone: Option<(u16, Box<Loaded>)>,
+    /// The record of the one line that is asked about, where it is one alone.
+    pub asked: Option<u16>,
 }
 
 /// What a run comes to.
 #[derive(Clone, Copy, Debug, PartialEq, Eq)]
 pub enum Ending {
-    Violated(u16),
+    /// With the first line that violates.
+    Violated(Fault),
     Clean,
     CutOff(u16),
 }
@@ -78,7 +80,7 @@ impl Loaded {
             return Err(Failure::Other(format!("{name}: the library accepted a case of a size that this command cannot read")));
         };
         let source = source.map(|source| source.text);
-        Ok(Loaded { name, stem, case: Case { names, ..case }, table: Table { rows, variables }, source, alone: None })
+        Ok(Loaded { name, stem, case: Case { names, ..case }, table: Table { rows, variables }, source, asked: None })
     }
 
     /// The constraints as SMT-LIB text: the one text of the case.
@@ -152,7 +154,7 @@ impl Loaded {
     pub fn replay(&self, name: &str, schedule: &[u16]) -> Result<(Ending, Vec<u16>), Failure> {
         let mut items = vec![0; self.case.items()];
         let ending = match menduvo::replay(&self.case.bytes, schedule, &mut items) {
-            Replayed::Violated(record) => Ending::Violated(record),
+            Replayed::Violated(record) => Ending::Violated(self.first_fault(record, schedule)?),
             Replayed::Clean => Ending::Clean,
             Replayed::CutOff(record) => Ending::CutOff(record),
             Replayed::Refused { number, place } => {

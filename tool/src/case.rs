@@ -79,6 +79,16 @@ impl Record {
         }
     }
 
+    /// What the mutex of a lock or unlock has while the line's thread holds it: the thread's number and 1.
+    pub fn holder(&self) -> u16 {
+        self.thread as u16 + 1
+    }
+
+    /// Whether a run can violate at this line.
+    pub fn can_violate(&self) -> bool {
+        matches!(self.kind, Kind::Assert | Kind::Unlock)
+    }
+
     pub fn has_expression(&self) -> bool {
         matches!(self.kind, Kind::Compute | Kind::Store | Kind::Assert | Kind::Assume)
     }
@@ -215,10 +225,10 @@ impl Case {
         lines.filter(|&line| self.record(line).kind == Kind::Input).collect()
     }
 
-    /// The asserts, by thread and then by chain.
-    pub fn asserts(&self) -> Vec<u16> {
+    /// The lines at which a run can violate, by thread and then by chain: constraint 7 has a part for each.
+    pub fn asserts_and_unlocks(&self) -> Vec<u16> {
         let lines = self.chains.iter().flatten().copied();
-        lines.filter(|&line| self.record(line).kind == Kind::Assert).collect()
+        lines.filter(|&line| self.record(line).can_violate()).collect()
     }
 
     /// The thread of a record, and its line there, from 1.

@@ -6,7 +6,7 @@ use crate::run::Run;
 use crate::sha256;
 use crate::svg::{Style, Svg};
 use crate::walk::{Event, Step};
-use crate::words::item_name;
+use crate::words::item_value;
 
 pub const PLAIN: Style = Style { size: 12, colour: "black", bold: false };
 pub const SMALL: Style = Style { size: 11, colour: "#222222", bold: false };
@@ -28,12 +28,14 @@ pub enum Look {
     Folded,
     CutOff,
     Broken,
+    Stranger,
 }
 
 impl Look {
     pub fn of(case: &Case, step: &Step) -> Look {
         match step.event {
             Event::Broken(_) => Look::Broken,
+            Event::Stranger(..) => Look::Stranger,
             Event::CutOff(_) => Look::CutOff,
             Event::Skipped(_) => Look::Skipped,
             _ if is_shared(case, step) => Look::Shared,
@@ -49,7 +51,7 @@ impl Look {
             Look::Skipped => ("white", "stroke=\"#666666\" stroke-dasharray=\"3 3\""),
             Look::Folded => ("#eeeeee", "stroke=\"#888888\""),
             Look::CutOff => ("white", "stroke=\"black\" stroke-width=\"3\" stroke-dasharray=\"8 4\""),
-            Look::Broken => ("#b00000", "stroke=\"black\" stroke-width=\"3\""),
+            Look::Broken | Look::Stranger => ("#b00000", "stroke=\"black\" stroke-width=\"3\""),
         };
         svg.rectangle(place, fill, more);
         let [x, y, width, height] = place;
@@ -65,7 +67,7 @@ impl Look {
     /// A text of a cell, in its look.
     pub fn style(self, style: Style) -> Style {
         match self {
-            Look::Broken => Style { colour: "white", bold: true, ..style },
+            Look::Broken | Look::Stranger => Style { colour: "white", bold: true, ..style },
             Look::CutOff => Style { colour: "black", bold: true, ..style },
             Look::Skipped => Style { colour: FAINT.colour, ..style },
             Look::Plain | Look::Shared | Look::Folded => style,
@@ -80,7 +82,18 @@ impl Look {
             Look::Folded => "folded: lines without shared items",
             Look::CutOff => "cut off: the run ends here",
             Look::Broken => "a broken assertion",
+            Look::Stranger => "an unlock by a stranger: its thread does not hold the mutex",
         }
+    }
+
+    /// Whether a run violates at such a cell.
+    pub fn violates(self) -> bool {
+        matches!(self, Look::Broken | Look::Stranger)
+    }
+
+    /// Whether every cell that looks so is a shared one.
+    fn is_shared(self) -> bool {
+        matches!(self, Look::Shared | Look::Stranger)
     }
 }
 
@@ -103,8 +116,7 @@ pub fn head(case: &Case, step: &Step) -> String {
 pub fn values(case: &Case, run: &Run, block: usize) -> Vec<(String, bool)> {
     let before = block.checked_sub(1).map_or_else(|| case.items_at_start(), |before| items_after(case, run, before));
     let after = items_after(case, run, block);
-    let words =
-        |(item, (before, after)): (usize, (u16, u16))| (format!("{} = {after}", item_name(case, item)), before != after);
+    let words = |(item, (before, after)): (usize, (u16, u16))| (item_value(case, item, after), before != after);
     before.into_iter().zip(after).enumerate().map(words).collect()
 }
 
@@ -118,7 +130,7 @@ pub fn blocks(run: &Run) -> usize {
     run.steps.last().map_or(0, |step| step.block + 1)
 }
 
-/// What is said after the verdict: of a broken assertion that is no violation, of the lines that were not run and of the blocks
+/// What is said after the verdict: of a line that violates in vain, of the lines that were not run and of the blocks
 /// that are not drawn, and which case it is, so that a printed page can be matched to it.
 pub fn notes(case: &Case, run: &Run, width: u32) -> Vec<String> {
     let (first, last) = (blocks(run), case.switches);
@@ -130,7 +142,7 @@ pub fn notes(case: &Case, run: &Run, width: u32) -> Vec<String> {
     };
     let left_out = (first <= last).then(|| format!("{} {what}", range_in_words("block", first, last)));
     let of_case = format!("n = {last}; the case has SHA-256 {}", sha256::hex(&case.bytes));
-    let all = run.broken_in_vain().into_iter().chain(run.not_run_in_words(case)).chain(left_out).chain([of_case]);
+    let all = run.fault_in_vain().into_iter().chain(run.not_run_in_words(case)).chain(left_out).chain([of_case]);
     all.flat_map(|words| SMALL.lines(&words, width)).collect()
 }
 
@@ -181,7 +193,7 @@ impl Legend {
     pub fn draw(&self, svg: &mut Svg, left: u32, top: u32) {
         for (row, y) in self.rows.iter().zip((top..).step_by(LEGEND_ROW as usize)) {
             for &(x, look) in row {
-                look.frame(svg, [left + x, y, SAMPLE[0], SAMPLE[1]], look == Look::Shared);
+                look.frame(svg, [left + x, y, SAMPLE[0], SAMPLE[1]], look.is_shared());
                 svg.text(left + x + SAMPLE[0] + 6, y + 11, SMALL, look.meaning());
             }
         }

@@ -8,7 +8,7 @@ use crate::folds::{fold_in_words, parts, Part};
 use crate::run::{verdict, Run};
 use crate::svg::{Style, Svg, PAGE};
 use crate::walk::{Event, Step};
-use crate::words::item_name;
+use crate::words::{item_value, value_in_words};
 
 const MARGIN: u32 = 8;
 const WIDTH: u32 = PAGE[0] - 2 * MARGIN;
@@ -46,15 +46,15 @@ struct Pages<'a> {
     name: &'a str,
     /// The left edge and width of each thread's column.
     columns: Vec<(u32, u32)>,
-    /// The width of an item with its value.
-    item: u32,
+    /// Where each item stands with its value: its left edge, and how many rows are above it.
+    items: Vec<(u32, u32)>,
     legend: Legend,
 }
 
 pub fn draw(case: &Case, name: &str, run: &Run) -> Vec<Svg> {
     let looks = (0..blocks(run)).flat_map(|block| parts(case, run, block)).map(|part| part.look(case)).collect();
     let legend = Legend::of(case, looks, WIDTH);
-    let pages = Pages { case, run, name, columns: columns(case, run), item: item_width(case, run), legend };
+    let pages = Pages { case, run, name, columns: columns(case, run), items: places(case, run), legend };
     let placed = pages.placed();
     (0..placed.len()).map(|page| pages.page(&placed, page)).collect()
 }
@@ -73,14 +73,25 @@ fn columns(case: &Case, run: &Run) -> Vec<(u32, u32)> {
     widths.map(place).collect()
 }
 
-fn item_width(case: &Case, run: &Run) -> u32 {
-    let values = (0..blocks(run)).flat_map(|block| values(case, run, block)).chain(at_start(case));
-    values.map(|(words, _)| SMALL.width(&words)).max().unwrap_or(0) + 14
+/// Items stand beside each other, each as wide as its widest value, in as many rows as they need.
+fn places(case: &Case, run: &Run) -> Vec<(u32, u32)> {
+    let all: Vec<Vec<(String, bool)>> =
+        (0..blocks(run)).map(|block| values(case, run, block)).chain([at_start(case)]).collect();
+    let width = |item: usize| all.iter().map(|values| SMALL.width(&values[item].0)).max().unwrap_or(0) + 14;
+    let (mut right, mut row) = (MARGIN + LABEL, 0);
+    let place = |item: usize| {
+        if right > MARGIN + LABEL && right + width(item) > RIGHT {
+            (right, row) = (MARGIN + LABEL, row + 1);
+        }
+        right += width(item);
+        (right - width(item), row)
+    };
+    (0..case.items()).map(place).collect()
 }
 
 fn at_start(case: &Case) -> Vec<(String, bool)> {
     let items = case.items_at_start().into_iter().enumerate();
-    items.map(|(item, value)| (format!("{} = {value}", item_name(case, item)), false)).collect()
+    items.map(|(item, value)| (item_value(case, item, value), false)).collect()
 }
 
 impl Pages<'_> {
@@ -157,9 +168,11 @@ impl Pages<'_> {
 
     /// What came of a line. Where that is a value and is too long, the name is left out, which the line has before.
     fn result(&self, step: &Step, width: u32) -> String {
-        let words = step.event.words(&self.case.names);
+        let words = step.event.words(self.case);
         match step.event {
-            Event::Set(_, value) if TEXT.width(&words) > width => format!("= {value}"),
+            Event::Set(name, value) if TEXT.width(&words) > width => {
+                format!("= {}", value_in_words(self.case, name, value, None))
+            }
             _ => words,
         }
     }
@@ -173,12 +186,9 @@ impl Pages<'_> {
         }
     }
 
-    fn items_in_a_row(&self) -> usize {
-        ((WIDTH - LABEL) / self.item).max(1) as usize
-    }
-
     fn values_height(&self) -> u32 {
-        self.case.items().div_ceil(self.items_in_a_row()) as u32 * TEXT.leading() + 8
+        let rows = self.items.last().map_or(0, |(_, row)| row + 1);
+        rows * TEXT.leading() + 8
     }
 
     fn page(&self, placed: &[Vec<Placed>], page: usize) -> Svg {
@@ -198,14 +208,14 @@ impl Pages<'_> {
         svg
     }
 
-    /// The page, from 1, that has the broken assertion or the line that ends the run.
+    /// The page, from 1, that has the first line that violates, or the line that ends the run.
     fn page_of_the_end(&self, placed: &[Vec<Placed>]) -> Option<usize> {
-        let wanted = match self.run.ending {
-            Ending::Violated(_) => Look::Broken,
-            Ending::CutOff(_) => Look::CutOff,
-            Ending::Clean => return None,
+        let is_wanted = |look: Look| match self.run.ending {
+            Ending::Violated(_) => look.violates(),
+            Ending::CutOff(_) => look == Look::CutOff,
+            Ending::Clean => false,
         };
-        let has = |rows: &Vec<Placed>| rows.iter().any(|(_, row)| matches!(row, Row::Cell { look, .. } if *look == wanted));
+        let has = |rows: &Vec<Placed>| rows.iter().any(|(_, row)| matches!(row, Row::Cell { look, .. } if is_wanted(*look)));
         placed.iter().position(has).map(|page| page + 1)
     }
 
@@ -290,10 +300,9 @@ impl Pages<'_> {
     /// Items with their values, each in its own place, so that they stand below each other on the page.
     fn values(&self, svg: &mut Svg, y: u32, label: &str, values: &[(String, bool)]) {
         svg.text(MARGIN, y + TEXT.size, FAINT, label);
-        for (row, y) in values.chunks(self.items_in_a_row()).zip((y..).step_by(TEXT.leading() as usize)) {
-            for ((words, changed), x) in row.iter().zip((MARGIN + LABEL..).step_by(self.item as usize)) {
-                svg.text(x, y + TEXT.size, if *changed { BOLD } else { FAINT }, words);
-            }
+        for ((words, changed), (x, row)) in values.iter().zip(&self.items) {
+            let y = y + row * TEXT.leading() + TEXT.size;
+            svg.text(*x, y, if *changed { BOLD } else { FAINT }, words);
         }
     }
 

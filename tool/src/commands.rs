@@ -8,7 +8,7 @@ use crate::name::shown;
 use crate::output::Output;
 use crate::picture::{numbered, Picture};
 use crate::run::Run;
-use crate::solve::Asserts;
+use crate::solve::About;
 use crate::words::{all, numbers_in_lines};
 use crate::{
     completion, demands, demo, each, file, help, keep, least, make, manual, report, run, said::Said, several, show, smt, step,
@@ -34,7 +34,7 @@ pub fn perform(call: Call, output: &mut Output) -> Result<Status, Failure> {
         Call::Replay { case, schedule, values, json } => replay(&case, &schedule, values, json).tell(output),
         Call::Step(stepping) => step::step(&stepping, output),
         Call::Solve(wanted) => match wanted.cases.as_slice() {
-            [case] if wanted.asserts == Asserts::Each => each::one(case, &wanted, output),
+            [case] if wanted.about == About::Each => each::one(case, &wanted, output),
             [case] if !several::is_several(&wanted.cases) && wanted.least.is_some() => least::one(case, &wanted, output),
             [case] if !several::is_several(&wanted.cases) && wanted.json => several::one_object(case, &wanted, output),
             [case] if !several::is_several(&wanted.cases) => told::one(case, &wanted, output),

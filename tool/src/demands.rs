@@ -6,7 +6,7 @@ use crate::names::Name;
 use crate::reads::expression_with;
 use crate::table::{self, Row, Table};
 use crate::term::Term;
-use crate::words::{count, enumeration, item_name, items_in_words, LEGEND};
+use crate::words::{count, enumeration, item_name, items_in_words, legend, value_in_words};
 
 /// The counts, what the variables stand for, and each constraint with its number, its six numbers and its words.
 pub fn text(loaded: &Loaded) -> String {
@@ -31,11 +31,12 @@ fn head(loaded: &Loaded) -> String {
         ),
     };
     format!(
-        "{} over {}\n({LEGEND})\nRecord k has the variables v(2k - 2), its block number, and v(2k - 1), its value.\n\
+        "{} over {}\n{}Record k has the variables v(2k - 2), its block number, and v(2k - 1), its value.\n\
          A line with block number {}, which is n + 1, was not run.\n\
          {block_values}A block begins with the items as they are at the end of the block before, and block 0 with: {}.\n",
         count(table.rows.len(), "constraint", "constraints"),
         count(table.variables, "variable", "variables"),
+        legend(case),
         case.unrun(),
         items_in_words(case, &case.items_at_start()),
     )
@@ -49,7 +50,7 @@ pub fn in_words(case: &Case, table: &Table, row: Row) -> String {
         5 if case.record(first).kind == Kind::Assume => ": its value is 1".to_string(),
         5 => free(case, case.record(first), second, third),
         6 => block_value(case, table, usize::from(first), second, third),
-        7 => goal(case),
+        7 => goal(case, table),
         _ => String::new(),
     };
     table::in_words(case, row) + &demand
@@ -89,14 +90,28 @@ fn block_value(case: &Case, table: &Table, item: usize, block: u16, last_copy: u
     }
 }
 
-fn goal(case: &Case) -> String {
-    let asserts = case.records.iter().filter(|record| record.kind == Kind::Assert);
-    let asserts: Vec<String> = asserts.map(|record| record.number.to_string()).collect();
-    match asserts.as_slice() {
-        [] => ", and there is none: nothing meets it".to_string(),
-        [one] => format!(": record {one}"),
-        several => format!(": record {}", several.join(" or ")),
+/// The parts of the 7: the asserts together, and each unlock with what it must not read.
+fn goal(case: &Case, table: &Table) -> String {
+    let of = |kind: Kind| case.records.iter().filter(move |record| record.kind == kind);
+    let asserts: Vec<String> = of(Kind::Assert).map(|record| record.number.to_string()).collect();
+    let asserts = (!asserts.is_empty()).then(|| format!("record {}", asserts.join(" or ")));
+    let unlocks: Vec<String> = of(Kind::Unlock).map(|record| stranger(case, table, record)).collect();
+    match (asserts, unlocks.as_slice()) {
+        (None, []) => ", and there is neither: nothing meets it".to_string(),
+        (None, unlocks) => format!(": {}", unlocks.join("; or ")),
+        (Some(asserts), []) => format!(": {asserts}"),
+        (Some(asserts), unlocks) => format!(": {asserts} has value 0; or {}", unlocks.join("; or ")),
     }
+}
+
+/// That an unlock is by a stranger.
+fn stranger(case: &Case, table: &Table, record: &Record) -> String {
+    let [_, _, guard_copy, _, _, copy] = table.value_row(record.number).unwrap_or_default();
+    let guard = guard(case, record, guard_copy).map(|guard| format!(", {guard},")).unwrap_or_default();
+    let mutex = Name::Mutex(record.target);
+    let (name, held) = (case.names.called(mutex), value_in_words(case, mutex, record.holder(), None));
+    let read = term(case, record, Term::mutex(case, record, copy));
+    format!("record {} was run{guard} and {name} is not {held}, read as {read}", record.number)
 }
 
 /// The guard and what it reads; nothing where it is always true.
@@ -109,6 +124,7 @@ fn term(case: &Case, record: &Record, term: Term) -> String {
     match term {
         Term::Any => "any number, as an input is free".to_string(),
         Term::Fixed(value, _) => value.to_string(),
+        Term::Held(thread) => format!("{} (held by thread {thread})", thread + 1),
         Term::Local { local, copy } => self::local(case, local, copy),
         Term::Item { item, copy: 0 } => format!("{} as its block begins", item_name(case, item)),
         Term::Item { item, copy } => {

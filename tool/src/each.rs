@@ -1,7 +1,8 @@
-//! `solve --each`: every assert by itself, and a table of the answers.
+//! `solve --each`: every assert and every unlock by itself, and a table of the answers.
 
 use crate::calls::{Ending, Loaded};
 use crate::failure::{Failure, Status};
+use crate::fault::Sort;
 use crate::input::Source;
 use crate::json::Json;
 use crate::least;
@@ -11,7 +12,7 @@ use crate::said::Said;
 use crate::several;
 use crate::solve::{Asking, Solved, Wanted};
 use crate::summary::{answer, load, Summary};
-use crate::words::{count, numbers_in_lines};
+use crate::words::{count, enumeration, numbers_in_lines};
 
 /// `solve CASE --each`.
 pub fn one(source: &Source, wanted: &Wanted, output: &mut Output) -> Result<Status, Failure> {
@@ -24,7 +25,8 @@ pub fn one(source: &Source, wanted: &Wanted, output: &mut Output) -> Result<Stat
         Err(failure) => return Said::failed("solve", source, source, failure, wanted.json).tell(output),
     };
     let (asking, _) = several::prepared(wanted, true, output)?;
-    let (columns, records) = (Columns::of(&whole), whole.case.asserts());
+    let (columns, records) = (Columns::of(&whole), whole.case.asserts_and_unlocks());
+    let sort = Sort::of(&whole.case, &records);
     if !wanted.json {
         output.say(&format!("{}{}", question(&whole, wanted), columns.head()))?;
     }
@@ -44,22 +46,24 @@ pub fn one(source: &Source, wanted: &Wanted, output: &mut Output) -> Result<Stat
     };
     output.say(&match wanted.json {
         true => format!("{}\n", object(&whole, &records, &summaries, status)),
-        false => several::counts(&summaries, "assert", "asserts"),
+        false => several::counts(&summaries, sort.one(), sort.many()),
     })?;
-    several::tell_failures(&summaries, "assert", "asserts");
+    several::tell_failures(&summaries, sort.one(), sort.many());
     Status::of(status)
 }
 
 fn question(whole: &Loaded, wanted: &Wanted) -> String {
-    let asserts = count(whole.case.asserts().len(), "assert", "asserts");
+    let lines = whole.case.asserts_and_unlocks();
+    let sort = Sort::of(&whole.case, &lines);
+    let lines = count(lines.len(), sort.one(), sort.many());
     let bound = match wanted.least {
         None => format!("within n = {}", whole.case.switches),
         Some(most) => format!("with the smallest n up to {most}"),
     };
-    format!("{}: {asserts}, each by itself, {bound}\n", whole.name)
+    format!("{}: {lines}, each by itself, {bound}\n", whole.name)
 }
 
-/// What came of one assert. The note has a schedule that breaks it.
+/// What came of one line. The note has a schedule that violates there.
 fn answered(whole: &Loaded, source: &Source, record: u16, wanted: &Wanted, asking: &Asking) -> Result<Summary, Failure> {
     if wanted.least.is_some() {
         let least = least::search(whole, source, Some(record), wanted, asking, &mut |_| Ok(()))?;
@@ -67,27 +71,28 @@ fn answered(whole: &Loaded, source: &Source, record: u16, wanted: &Wanted, askin
         let note = [Some(least.sentence()), example].into_iter().flatten().collect::<Vec<_>>().join("; ");
         return Ok(Summary { note, ..least.summary(wanted.strict) });
     }
-    let loaded = whole.changed(whole.case.bytes.clone())?.with_assert_alone(Some(record))?;
+    let loaded = whole.changed(whole.case.bytes.clone())?.asked_about(Some(record))?;
     let (summary, solved) = answer(&loaded, wanted, asking)?;
     let note = solved.as_ref().and_then(|solved| example(&loaded, solved)).unwrap_or_else(|| summary.note.clone());
     Ok(Summary { note, ..summary })
 }
 
-/// A schedule that breaks the assert, and which assert its run breaks first where that is another.
+/// A schedule that violates there, whose the mutex of an unlock was, and where its run violates before, if it does.
 fn example(loaded: &Loaded, solved: &Solved) -> Option<String> {
     let found = solved.verdict.found()?;
     let schedule = numbers_in_lines(&found.schedule).trim_end().replace('\n', " ");
-    let first = match (&loaded.alone, found.run.ending) {
-        (Some((record, _)), Ending::Violated(first)) if first != *record => {
-            format!("; there record {first} is broken before it")
-        }
-        _ => String::new(),
+    let first = match found.run.ending {
+        Ending::Violated(first) if first.record != found.fault.record => Some(first.record),
+        _ => None,
     };
+    let first = first.map(|first| format!("record {first} violates before it"));
+    let notes: Vec<String> = found.fault.whose(&loaded.case).into_iter().chain(first).collect();
+    let notes = if notes.is_empty() { String::new() } else { format!(", where {}", enumeration(&notes)) };
     let short = found.short.as_ref().map(|short| format!("; {}", short.words(&loaded.case))).unwrap_or_default();
-    Some(format!("e.g. schedule {schedule}{first}{short}"))
+    Some(format!("e.g. schedule {schedule}{notes}{short}"))
 }
 
-/// What came of all asserts.
+/// What came of all of them.
 fn object(whole: &Loaded, records: &[u16], summaries: &[Summary], status: i32) -> Json {
     let answers = records.iter().zip(summaries).map(|(&record, summary)| {
         let (thread, line) = whole.case.position(record).unwrap_or_default();
@@ -112,13 +117,14 @@ fn object(whole: &Loaded, records: &[u16], summaries: &[Summary], status: i32) -
 
 /// The columns of the table.
 struct Columns {
-    /// The width of what the asserts say.
+    /// The width of what the lines say.
     does: usize,
 }
 
 impl Columns {
     fn of(whole: &Loaded) -> Columns {
-        let widths = whole.case.asserts().into_iter().map(|record| whole.case.record(record).words(&whole.case.names).len());
+        let lines = whole.case.asserts_and_unlocks().into_iter();
+        let widths = lines.map(|record| whole.case.record(record).words(&whole.case.names).len());
         Columns { does: widths.max().unwrap_or(0).max("says".len()) }
     }
 

@@ -66,12 +66,14 @@ impl Folder {
         );
         folder.replies(CONSTRAINTS, "reply", &solved.asked);
         folder.run(loaded, &solved.verdict);
-        let about = "for each assert, whether a legal run within the bound reaches it";
-        folder.add("reached.txt", about, told::asserts(loaded, &solved.reach));
+        let about = "for each assert and unlock, whether a legal run within the bound reaches it";
+        folder.add("reached.txt", about, told::reached(loaded, &solved.reach));
         for (question, number) in solved.reach.questions.iter().zip(1..) {
             let (name, reply) = (format!("reached-{number}.smt2"), format!("reached-{number}-reply"));
             let records = enumeration(&question.records);
-            let about = format!("whether an assert of record {records} is reached: these are made 0, other asserts 1");
+            let about = format!(
+                "whether one of record {records} is reached: there they are asserts of 0, and the 7 is about them alone"
+            );
             folder.add(&name, &about, question.text.clone());
             folder.replies(&name, &reply, &question.asked);
         }

@@ -1,5 +1,5 @@
 //! Which lines of a long run are drawn, and which are folded into one cell: a stretch of lines that neither read nor write a
-//! shared item. What breaks, what ends the run and what comes in by an input is always drawn.
+//! shared item. What violates, what ends the run and what comes in by an input is always drawn.
 
 use crate::case::{Case, Kind};
 use crate::cells::{is_of_shared_kind, is_shared, Look};

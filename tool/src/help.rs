@@ -126,8 +126,11 @@ pub const PAGES: &[Page] = &[
         ],
         more: "A thread's block lengths may add up to less than its lines: it then stops, and the lines that are left are not\n\
                run. An input line among them has value 0.\n\
+               A run violates where an assert is zero, or where a thread unlocks a mutex that it does not hold: an unlock by a\n\
+               stranger, which frees it all the same, and is told with whose the mutex was. A mutex has 0 while it is free, and\n\
+               t + 1 while thread t holds it.\n\
                A solver's model in the place of the schedule is decoded first.\n\
-               Exit status 1 where the run breaks an assertion; 0 where it is clean or cut off.\n",
+               Exit status 1 where the run violates; 0 where it is clean or cut off.\n",
     },
     Page {
         name: "step",
@@ -153,7 +156,7 @@ pub const PAGES: &[Page] = &[
                At the end the schedule is printed, and replayed by the proved library: a run may end anywhere, and each\n\
                thread then stops where it is. Over a pipe a command that cannot be done is the end, without a schedule; at a\n\
                terminal it is not.\n\
-               Exit status 1 where the run breaks an assertion; 0 where it is clean or cut off; 3 without a schedule.\n",
+               Exit status 1 where the run violates; 0 where it is clean or cut off; 3 without a schedule.\n",
     },
     Page {
         name: "solve",
@@ -169,9 +172,9 @@ pub const PAGES: &[Page] = &[
             Choice {
                 name: "--assert",
                 value: "RECORD",
-                does: "ask about the assert of this record alone: every other one is made 1",
+                does: "ask about the assert or unlock of this record alone",
             },
-            Choice { name: "--each", value: "", does: "ask about each assert by itself, and print a table of the answers" },
+            Choice { name: "--each", value: "", does: "ask about each assert and unlock by itself, and print a table of the answers" },
             Choice {
                 name: "--short",
                 value: "",
@@ -198,30 +201,33 @@ pub const PAGES: &[Page] = &[
             Choice {
                 name: "--strict",
                 value: "",
-                does: "exit status 1 also where an unsat is vacuous, or leaves an assert\nthat is not shown to be reached",
+                does: "exit status 1 also where an unsat is vacuous, or leaves an assert\nor unlock that is not shown to be reached",
             },
             JSON,
         ],
         more: "The solver gets the text that 'smt' prints. Its assignment is checked, decoded and replayed by the\n\
-               proved library; the run is printed as by 'replay'. A thread may stop after any of its lines. For each assert\n\
-               it is told whether a legal run within the bound reaches it with a true guard: of one that is never reached,\n\
-               nothing was checked.\n\
+               proved library; the run is printed as by 'replay'. A run violates where an assert is zero, or where a thread\n\
+               unlocks a mutex that it does not hold, which is an unlock by a stranger. A thread may stop after any of its\n\
+               lines. For each assert and each unlock it is told whether a legal run within the bound reaches it with a true\n\
+               guard: of one that is never reached, nothing was checked.\n\
                DIR: every file in it that ends in .source, and each that ends in .case and has no source of the same name.\n\
                Of several cases each one's line is printed when it is known,\n\
                and at the end how many have each answer:\n\
-               \x20 violated   a run that breaks an assertion was found, checked and replayed\n\
-               \x20 unsat      nothing meets the constraints, by the solver's word; the note names asserts that are not reached\n\
-               \x20 vacuous    nothing meets the constraints, and no assert is reached: it says nothing\n\
+               \x20 violated   a run that violates was found, checked and replayed\n\
+               \x20 unsat      nothing meets the constraints, by the solver's word; the note names lines that are not reached\n\
+               \x20 vacuous    nothing meets the constraints, and no assert or unlock is reached: it says nothing\n\
                \x20 timeout    the solver's time was up\n\
                \x20 unknown    the solver gave up\n\
                \x20 disagree   one solver says sat, and another unsat\n\
                \x20 refused    the case is refused\n\
                \x20 failed     something else: a file, or a solver that talks nonsense, fails or is killed\n\
                --least, --each and --short ask many questions, so each has 60 seconds where --timeout is not given. They go\n\
-               together: --each --least says by assert the first n. What is kept at a chosen n is named NAME-nN; with --short,\n\
+               together: --each --least says by line the first n. What is kept at a chosen n is named NAME-nN; with --short,\n\
                text and reply are those of the first question, and assignment and schedule those of the short run.\n\
+               A question about one line is the case's text with its part alone in the last assertion, that of constraint 7\n\
+               (docs/SMT-TEXT.md). Its assignment meets the case's own constraints; the run may violate at another line before.\n\
                Exit status 1 where a violation is found; 0 for unsat and vacuous; 2 refused; 3 for the others. Of several\n\
-               cases, n or asserts: 1 where one of them has it, else 3, else 2.\n",
+               cases, n or lines: 1 where one of them has it, else 3, else 2.\n",
     },
     Page {
         name: "picture",
@@ -239,8 +245,9 @@ pub const PAGES: &[Page] = &[
         ],
         more: "A run of at most 40 lines is drawn on one page where it fits: threads are lanes, blocks are columns, lines\n\
                are cells. Any other is drawn downwards: threads are columns, and three or more lines after one another that\n\
-               touch no shared item are folded into one cell, unless they break, end the run or are inputs. Under each block\n\
-               stand the items' values at its end. Empty blocks at the end and lines that are not run are left out, and named\n\
+               touch no shared item are folded into one cell, unless they violate, end the run or are inputs. A line that\n\
+               violates is red; of an unlock it is told whose the mutex was. Under each block stand the items' values at its\n\
+               end, of a mutex with its holder. Empty blocks at the end and lines that are not run are left out, and named\n\
                below the run. Pages fit A4, and cut no cell.\n\
                A solver's model in the place of the schedule is decoded first.\n\
                Exit status 0 where the picture is written, whatever the run comes to.\n",
@@ -260,9 +267,9 @@ pub const PAGES: &[Page] = &[
             TIMEOUT,
         ],
         more: "DIR must not be there; it is whole or not there. It gets the case, the listing, the text for solvers, the\n\
-               solver's reply, what follows from it (assignment, schedule, run, picture), which asserts are reached, the\n\
-               verdict with what it means, a page for readers, and MANIFEST: the SHA-256 of each file, and what it was made\n\
-               with. 'sha256sum -c MANIFEST' takes it as it is. See docs/FILING.md.\n\
+               solver's reply, what follows from it (assignment, schedule, run, picture), which asserts and unlocks are\n\
+               reached, the verdict with what it means, a page for readers, and MANIFEST: the SHA-256 of each file, and what\n\
+               it was made with. 'sha256sum -c MANIFEST' takes it as it is. See docs/FILING.md.\n\
                Exit status 1 where a violation is found; 0 for unsat and vacuous; 3 where there is no answer, which is\n\
                filed too; 2 where the case is refused, and then nothing is filed.\n",
     },

@@ -130,7 +130,7 @@ fn texts(loaded: &Loaded, solved: &Solved) -> Vec<(String, Vec<u8>)> {
         texts.push(("assignment".to_string(), filed::assignment(loaded, &found.assignment).into_bytes()));
         texts.push(("schedule".to_string(), filed::schedule(loaded, &found.schedule).into_bytes()));
     }
-    texts.push(("reached".to_string(), told::asserts(loaded, &solved.reach).into_bytes()));
+    texts.push(("reached".to_string(), told::reached(loaded, &solved.reach).into_bytes()));
     texts
 }
 

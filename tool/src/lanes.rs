@@ -5,7 +5,7 @@ use crate::cells::{blocks, head, is_shared, notes, values, Legend, Look, FAINT, 
 use crate::run::{verdict, Run};
 use crate::svg::{Style, Svg, UNBROKEN};
 use crate::walk::Step;
-use crate::words::items_in_words;
+use crate::words::item_value;
 
 const MARGIN: u32 = 8;
 const LANE_HEAD: u32 = 84;
@@ -68,8 +68,10 @@ fn columns(case: &Case, run: &Run) -> (Vec<(u32, u32)>, u32) {
 
 fn layout(case: &Case, name: &str, run: &Run, columns: Vec<(u32, u32)>, width: u32) -> Layout {
     let title = TITLE.lines(name, width);
-    let start = items_in_words(case, &case.items_at_start()).replace(" = ", &format!("{UNBROKEN}={UNBROKEN}"));
-    let start = SMALL.lines(&format!("start: {start}"), width);
+    let start = case.items_at_start().into_iter().enumerate();
+    let start = start.map(|(item, value)| item_value(case, item, value).replace(' ', &UNBROKEN.to_string()));
+    let start = start.collect::<Vec<_>>().join(", ");
+    let start = SMALL.lines(&format!("start: {}", if start.is_empty() { "none" } else { &start }), width);
     let top = MARGIN + title.len() as u32 * TITLE.leading() + start.len() as u32 * SMALL.leading() + 36;
     let mut y = top;
     let mut lanes = Vec::new();
@@ -91,7 +93,7 @@ fn steps_of(run: &Run, block: usize) -> impl Iterator<Item = &Step> {
 }
 
 fn cell_width(case: &Case, step: &Step) -> u32 {
-    PLAIN.width(&head(case, step)).max(SMALL.width(&step.event.words(&case.names))) + INDENT + 6
+    PLAIN.width(&head(case, step)).max(SMALL.width(&step.event.words(case))) + INDENT + 6
 }
 
 fn lanes(svg: &mut Svg, layout: &Layout) {
@@ -121,7 +123,7 @@ fn cell(svg: &mut Svg, case: &Case, step: &Step, place: [u32; 4]) {
     let [x, y, ..] = place;
     look.frame(svg, place, is_shared(case, step));
     svg.text(x + INDENT, y + 13, look.style(PLAIN), &head(case, step));
-    svg.text(x + INDENT, y + 27, look.style(SMALL), &step.event.words(&case.names));
+    svg.text(x + INDENT, y + 27, look.style(SMALL), &step.event.words(case));
 }
 
 fn foot(svg: &mut Svg, layout: &Layout) {

@@ -18,7 +18,7 @@ use crate::told;
 pub struct Step {
     pub switches: u16,
     pub summary: Summary,
-    /// Whether there is a run that breaks an assertion: also where a solver denies it.
+    /// Whether there is a run that violates: also where a solver denies it.
     found: bool,
 }
 
@@ -37,7 +37,7 @@ const COLUMNS: Columns = Columns { first: "n", width: 2 };
 
 /// `solve CASE --least`.
 pub fn one(source: &Source, wanted: &Wanted, output: &mut Output) -> Result<Status, Failure> {
-    let first = match begin(source, wanted).and_then(|first| first.with_assert_alone(wanted.assert())) {
+    let first = match begin(source, wanted).and_then(|first| first.asked_about(wanted.record())) {
         Ok(first) => first,
         Err(failure) => return Said::failed("solve", source, source, failure, wanted.json).tell(output),
     };
@@ -45,7 +45,7 @@ pub fn one(source: &Source, wanted: &Wanted, output: &mut Output) -> Result<Stat
     if !wanted.json {
         output.say(&format!("{}\n{}", question(source, &first, wanted), COLUMNS.head()))?;
     }
-    let least = search(first.whole(), source, wanted.assert(), wanted, &asking, &mut |step| {
+    let least = search(&first, source, wanted.record(), wanted, &asking, &mut |step| {
         output.say(&match wanted.json {
             true => format!("{}\n", step.summary.json),
             false => COLUMNS.line(&step.switches.to_string(), &step.summary),
@@ -70,21 +70,21 @@ pub fn begin(source: &Source, wanted: &Wanted) -> Result<Loaded, Failure> {
 /// `solve --least` on one case among several.
 pub fn answered(source: &Source, wanted: &Wanted, asking: &Asking) -> Result<Summary, Failure> {
     let first = begin(source, wanted)?;
-    let least = search(&first, source, wanted.assert(), wanted, asking, &mut |_| Ok(()))?;
+    let least = search(&first, source, wanted.record(), wanted, asking, &mut |_| Ok(()))?;
     Ok(least.summary(wanted.strict))
 }
 
 fn question(source: &Source, first: &Loaded, wanted: &Wanted) -> String {
     let most = wanted.least.unwrap_or(MOST_SWITCHES);
-    let alone = first.alone.as_ref().map(|(record, _)| format!(", of record {record} alone")).unwrap_or_default();
-    format!("{}: the smallest n with a violation{alone}, up to {most}", source.name())
+    let place = first.asked.map(|record| format!(" at record {record}")).unwrap_or_default();
+    format!("{}: the smallest n with a violation{place}, up to {most}", source.name())
 }
 
 /// Asks at n = 0, 1, 2, .., and tells each answer as it is known. An n without an answer ends nothing.
 pub fn search(
     first: &Loaded,
     source: &Source,
-    assert: Option<u16>,
+    record: Option<u16>,
     wanted: &Wanted,
     asking: &Asking,
     tell: &mut dyn FnMut(&Step) -> Result<(), Failure>,
@@ -96,7 +96,7 @@ pub fn search(
         let source = source.clone().with_switches(Some(switches));
         let mut bytes = first.case.bytes.clone();
         set_switches(&mut bytes, switches);
-        let loaded = Loaded::of(&source, first.draft(bytes))?.with_assert_alone(assert)?;
+        let loaded = Loaded::of(&source, first.draft(bytes))?.asked_about(record)?;
         let answered = answer(&loaded, wanted, asking);
         let (summary, solved) = answered.unwrap_or_else(|failure| (Summary::of_failure(&source, &failure), None));
         let found = summary.word == "violated" || solved.as_ref().is_some_and(|solved| solved.verdict.found().is_some());
@@ -201,8 +201,8 @@ impl Least {
             return String::new();
         };
         let answer = told::answer(loaded, &asking.names(), &solved.verdict);
-        let asserts = told::asserts(loaded, &solved.reach);
-        format!("with n = {}:\n{answer}{asserts}{}", last.switches, told::warning(solved))
+        let reached = told::reached(loaded, &solved.reach);
+        format!("with n = {}:\n{answer}{reached}{}", last.switches, told::warning(solved))
     }
 
     /// What failed, in full: at the first n that has no answer.
@@ -244,7 +244,7 @@ impl Least {
             ("notKnown", Json::List(open.collect())),
             ("note", self.sentence().into()),
         ];
-        fields.extend(self.loaded.alone.as_ref().map(|(record, _)| ("assert", (*record).into())));
+        fields.extend(self.loaded.asked.map(|record| ("assert", record.into())));
         Json::Object(fields)
     }
 }

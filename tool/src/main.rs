@@ -17,6 +17,7 @@ mod demo;
 mod diagnosis;
 mod each;
 mod failure;
+mod fault;
 mod file;
 mod filed;
 mod folder;

@@ -2,7 +2,7 @@
 
 use crate::calls::Loaded;
 use crate::solve::{Solved, Verdict};
-use crate::{run, told};
+use crate::told;
 
 pub fn text(loaded: &Loaded, solved: &Solved) -> String {
     let solvers: Vec<&str> = solved.asked.iter().map(|asked| asked.solver.as_str()).collect();
@@ -10,21 +10,21 @@ pub fn text(loaded: &Loaded, solved: &Solved) -> String {
     let means = match &solved.verdict {
         Verdict::Violated(found) => format!(
             "{answer}\
-             It means: this run is legal, stays within the bound, and breaks the assertion:\n\
+             It means: this run is legal, stays within the bound, and violates:\n\
              {}.\n\
              The proved library checked the assignment, decoded it and replayed the schedule, so this does not rest\n\
              on the solver. Anyone can follow run.txt by hand.\n\
-             It does not mean: that no other assertion breaks, or that this one breaks in every run; that the case\n\
+             It does not mean: that no other line violates, or that this one does in every run; that the case\n\
              says what the controller does.\n",
-            run::broken(&loaded.case, found.run.ending)
+            found.fault.words(&loaded.case)
         ),
         Verdict::Unsat => answer,
         Verdict::Disagree(why, Some(_)) => format!(
             "{answer}\
              The solvers disagree: {why}.\n\
-             It means: the run above is legal, stays within the bound, and breaks an assertion. A solver is wrong about\n\
-             this case, and its other answers are worth nothing until it is known why.\n\
-             It does not mean: that no other assertion breaks; that the case says what the controller does.\n"
+             It means: the run above is legal, stays within the bound, and violates. A solver is wrong about this case,\n\
+             and its other answers are worth nothing until it is known why.\n\
+             It does not mean: that no other line violates; that the case says what the controller does.\n"
         ),
         Verdict::Unknown(why) | Verdict::Timeout(why) | Verdict::Disagree(why, None) | Verdict::Failed(why) => format!(
             "There is no answer: {why}.\n\
@@ -32,5 +32,5 @@ pub fn text(loaded: &Loaded, solved: &Solved) -> String {
              It does not mean: that the case is wrong, or that another solver or more time finds no answer.\n"
         ),
     };
-    format!("The answer: {}.\n\n{means}\n{}{}", solved.word(), told::asserts(loaded, &solved.reach), told::warning(solved))
+    format!("The answer: {}.\n\n{means}\n{}{}", solved.word(), told::reached(loaded, &solved.reach), told::warning(solved))
 }

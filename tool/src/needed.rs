@@ -2,6 +2,7 @@
 //! compares the two.
 
 use crate::case::{Case, Kind, Record};
+use crate::fault::Sort;
 use crate::names::Name;
 use crate::reads::{Read, Reads};
 use crate::table::{Row, Table};
@@ -130,16 +131,39 @@ impl Rows<'_> {
         for assert in self.case.records.iter().filter(|record| record.kind == Kind::Assert) {
             records.entry(self.reads.value(assert.number)).or_default().push(assert.number);
         }
-        let found = records.iter().map(|(value, records)| {
+        let asserts = records.iter().map(|(value, records)| {
             let named = if records.len() == 1 { "record" } else { "records" };
             format!("value {value} of {named} {}", enumeration(records))
         });
-        let found: Vec<String> = found.collect();
+        let unlocks = self.case.records.iter().filter(|record| record.kind == Kind::Unlock);
+        let unlocks: Vec<(bool, String)> = unlocks.map(|record| self.unlock(record)).collect();
+        let found: Vec<String> = asserts.chain(unlocks.iter().map(|(_, words)| words.clone())).collect();
+        let needed = match Sort::of(self.case, &self.case.asserts_and_unlocks()) {
+            Sort::Asserts => "an assert with value 0",
+            Sort::Unlocks => "an unlock by a stranger",
+            Sort::Both => "an assert with value 0 or an unlock by a stranger",
+        };
         Seen {
-            holds: records.contains_key(&0),
-            needed: "an assert with value 0".to_string(),
-            found: if found.is_empty() { "no assert".to_string() } else { found.join(", ") },
+            holds: records.contains_key(&0) || unlocks.iter().any(|(by_stranger, _)| *by_stranger),
+            needed: needed.to_string(),
+            found: if found.is_empty() { "no assert and no unlock".to_string() } else { found.join("; ") },
         }
+    }
+
+    /// Whether an unlock is by a stranger, and why or why not.
+    fn unlock(&self, record: &Record) -> (bool, String) {
+        let [_, _, guard_copy, _, _, copy] = self.table.value_row(record.number).unwrap_or_default();
+        let mutex = self.reads.term(record, Term::mutex(self.case, record, copy));
+        let value = mutex.as_ref().map_or(0, |mutex| mutex.value);
+        let (by_stranger, words) = match (self.reads.was_run(record.number), self.reads.guard(record, guard_copy)) {
+            (false, _) => (false, " was not run".to_string()),
+            (true, (false, why)) => (false, format!(" is skipped: {}", why.unwrap_or_default())),
+            (true, (true, _)) => {
+                let found = mutex.map(|mutex| mutex.words).unwrap_or_default();
+                (value != record.holder(), format!(", by thread {}, finds {found}", record.thread))
+            }
+        };
+        (by_stranger, format!("the unlock of record {}{words}", record.number))
     }
 
     /// The value that a line must have; none where it is free.

@@ -1,6 +1,7 @@
 //! The objects of `solve --json`, and of what fails; `docs/output.schema.json` describes them.
 
 use crate::calls::{Ending, Loaded};
+use crate::case::Kind;
 use crate::failure::Failure;
 use crate::json::{list, Json};
 use crate::reach::Reached;
@@ -31,16 +32,8 @@ pub fn failed(command: &str, case: &str, input: &str, failure: &Failure) -> Json
 pub fn solved(loaded: &Loaded, asking: &Asking, solved: &Solved, strict: bool, note: &str) -> Json {
     let found = solved.verdict.found();
     let record = found.and_then(|found| match found.run.ending {
-        Ending::Violated(record) => Some(record),
+        Ending::Violated(first) => Some(first.record),
         _ => None,
-    });
-    let asserts = solved.reach.asserts.iter().map(|(record, reached)| {
-        let (reached, schedule) = match reached {
-            Reached::Yes(schedule) => (Json::Bool(true), list(schedule.iter().copied())),
-            Reached::Never => (Json::Bool(false), Json::Null),
-            Reached::NotKnown(_) => (Json::Null, Json::Null),
-        };
-        Json::Object(vec![("record", (*record).into()), ("reached", reached), ("schedule", schedule)])
     });
     let mut fields: Vec<(&'static str, Json)> = vec![
         ("command", "solve".into()),
@@ -55,14 +48,30 @@ pub fn solved(loaded: &Loaded, asking: &Asking, solved: &Solved, strict: bool, n
         ("record", record.into()),
         ("assignment", found.map(|found| list(found.assignment.iter().copied())).into()),
         ("schedule", found.map(|found| list(found.schedule.iter().copied())).into()),
-        ("asserts", Json::List(asserts.collect())),
+        ("fault", found.map(|found| found.fault.object(&loaded.case)).into()),
+        ("asserts", reached(loaded, solved, Kind::Assert)),
+        ("unlocks", reached(loaded, solved, Kind::Unlock)),
         ("note", note.into()),
     ];
     // What only some calls ask for.
-    fields.extend(loaded.alone.as_ref().map(|(record, _)| ("assert", (*record).into())));
+    fields.extend(loaded.asked.map(|record| ("assert", record.into())));
     fields.extend(found.and_then(|found| found.short.as_ref()).map(|short| ("short", short.object())));
     fields.push(("resumed", false.into()));
     Json::Object(fields)
+}
+
+/// Which lines of a kind are reached.
+fn reached(loaded: &Loaded, solved: &Solved, kind: Kind) -> Json {
+    let lines = solved.reach.lines.iter().filter(|(record, _)| loaded.case.record(*record).kind == kind);
+    let lines = lines.map(|(record, reached)| {
+        let (reached, schedule) = match reached {
+            Reached::Yes(schedule) => (Json::Bool(true), list(schedule.iter().copied())),
+            Reached::Never => (Json::Bool(false), Json::Null),
+            Reached::NotKnown(_) => (Json::Null, Json::Null),
+        };
+        Json::Object(vec![("record", (*record).into()), ("reached", reached), ("schedule", schedule)])
+    });
+    Json::List(lines.collect())
 }
 
 /// The object of an answer that was filed before: its case may have another name by now, and its status goes by this call's

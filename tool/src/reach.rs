@@ -1,21 +1,23 @@
-//! Which asserts an answer is about. Where no legal run within the bound reaches an assert with a true guard, unsat says nothing of
-//! it.
+//! Which asserts and unlocks an answer is about. Where no legal run within the bound reaches such a line with a true guard, unsat says
+//! nothing of it.
 //!
-//! The case with some asserts' expressions made 0, and every other assert's made 1, is a case as any other. By the theorem its
-//! constraints are met exactly where a legal run reaches one of those asserts with a true guard: asserts change nothing that another
-//! line reads. So a solver is asked about that case, and the library checks, decodes and replays its answer. Simple schedules are
-//! tried first, by the library's replay of that case alone.
+//! The case in which some of these lines are asserts of 0, with the guards that they have, is a case as any other. By the theorem its
+//! constraints with the parts of these lines alone in the 7 are met exactly where a legal run of it reaches one of them with a true
+//! guard. So does then a legal run of the case, and the other way round: up to the first of them both go alike, and a run may stop
+//! right there. What comes after it differs in that an unlock does not free its mutex, which makes no lock succeed that would not
+//! succeed in the case. So a solver is asked about that text, and the library checks, decodes and replays its answer; and which lines
+//! the same schedule reaches in the case itself is the library's word too. Simple schedules are tried first, by its replay alone.
 
-use crate::alone::with_constants;
 use crate::by_hand::ByHand;
 use crate::calls::{Ending, Loaded};
 use crate::case::Case;
 use crate::failure::Failure;
+use crate::fault::{with_zeros, Sort, ASSERT};
 use crate::solve::{verdict, Ask, Verdict};
 use crate::solver::Asked;
 use crate::words::{count, enumeration};
 
-/// Whether some legal run within the bound reaches an assert with a true guard.
+/// Whether some legal run within the bound reaches a line with a true guard.
 #[derive(Clone, Debug, PartialEq, Eq)]
 pub enum Reached {
     /// It does, with this schedule.
@@ -26,7 +28,7 @@ pub enum Reached {
     NotKnown(String),
 }
 
-/// A question to solvers: whether one of these asserts is reached.
+/// A question to solvers: whether one of these lines is reached.
 #[derive(Clone, Debug)]
 pub struct Question {
     pub records: Vec<u16>,
@@ -34,20 +36,16 @@ pub struct Question {
     pub asked: Vec<Asked>,
 }
 
-/// What is known of a case's asserts, by thread and line.
+/// What is known of the asserts and unlocks that are asked about, by thread and line.
 #[derive(Clone, Debug)]
 pub struct Reach {
-    pub asserts: Vec<(u16, Reached)>,
+    pub lines: Vec<(u16, Reached)>,
+    pub sort: Sort,
     /// Why no run can reach anything, where that is plain to see.
     pub plain: Option<String>,
     pub questions: Vec<Question>,
     /// That solvers exclude each other in some answer.
     pub disagreement: Option<String>,
-}
-
-/// The case with these asserts' expressions made 0, and every other assert's made 1.
-fn changed(case: &Case, zeros: &[u16]) -> Vec<u8> {
-    with_constants(case, |record| Some(u16::from(!zeros.contains(&record))))
 }
 
 /// Whether no run gets to a record, as its thread has no block.
@@ -57,14 +55,15 @@ pub fn has_no_block(case: &Case, record: u16) -> bool {
 
 /// Why there is nothing to reach, where no solver is needed to see it.
 fn plainly_nothing(loaded: &Loaded) -> Option<String> {
-    let (case, asserts) = (&loaded.case, loaded.asserts());
-    if !asserts.iter().all(|&record| has_no_block(case, record)) {
+    let (case, lines) = (&loaded.case, loaded.lines());
+    if !lines.iter().all(|&record| has_no_block(case, record)) {
         return None;
     }
-    Some(match asserts.as_slice() {
-        [] => "the case has no assert".to_string(),
-        [one] => format!("thread {} has the assert, and no block within n = {}", case.record(*one).thread, case.switches),
-        _ => format!("no thread with an assert has a block within n = {}", case.switches),
+    let (sort, switches) = (Sort::of(case, &lines).one(), case.switches);
+    Some(match lines.as_slice() {
+        [] => "the case has no assert and no unlock".to_string(),
+        [line] => format!("thread {} has the {sort}, and no block within n = {switches}", case.record(*line).thread),
+        _ => format!("no thread with an {sort} has a block within n = {switches}"),
     })
 }
 
@@ -80,8 +79,9 @@ impl Reach {
             true => Reached::Never,
             false => Reached::NotKnown(String::new()),
         };
-        let asserts = loaded.asserts().into_iter().map(|record| (record, first(record))).collect();
-        let mut reach = Reach { asserts, plain: plainly_nothing(loaded), questions: Vec::new(), disagreement: None };
+        let (lines, sort) = (loaded.lines(), Sort::of(case, &loaded.lines()));
+        let lines = lines.into_iter().map(|record| (record, first(record))).collect();
+        let mut reach = Reach { lines, sort, plain: plainly_nothing(loaded), questions: Vec::new(), disagreement: None };
         if reach.plain.is_none() {
             for schedule in simple_schedules(case) {
                 reach.note_run(loaded, &schedule)?;
@@ -91,35 +91,32 @@ impl Reach {
         Ok(reach)
     }
 
-    /// The asserts of which nothing is known.
+    /// The lines of which nothing is known.
     fn open(&self) -> Vec<u16> {
-        let open = self.asserts.iter().filter(|(_, reached)| matches!(reached, Reached::NotKnown(_)));
+        let open = self.lines.iter().filter(|(_, reached)| matches!(reached, Reached::NotKnown(_)));
         open.map(|(record, _)| *record).collect()
     }
 
-    /// Notes the asserts that the run of this schedule reaches, if it is legal. The library's word is proved, and stands above a
+    /// Notes the lines that the run of this schedule reaches, if it is legal. The library's word is proved, and stands above a
     /// solver's.
     pub fn note_run(&mut self, loaded: &Loaded, schedule: &[u16]) -> Result<(), Failure> {
-        let others = self.asserts.iter_mut().filter(|(_, reached)| !matches!(reached, Reached::Yes(_)));
-        let others: Vec<_> = others.collect();
-        let records: Vec<u16> = others.iter().map(|(record, _)| *record).collect();
-        if records.is_empty() || !breaks(loaded, &records, schedule)? {
+        let others = self.lines.iter_mut().filter(|(_, reached)| !matches!(reached, Reached::Yes(_)));
+        let mut others = others.peekable();
+        if others.peek().is_none() || !is_legal(loaded, schedule)? {
             return Ok(());
         }
-        for (record, reached) in others {
-            if breaks(loaded, &[*record], schedule)? {
-                *reached = Reached::Yes(schedule.to_vec());
-            }
+        for (_, reached) in others.filter(|(record, _)| loaded.items_before(*record, schedule).is_some()) {
+            *reached = Reached::Yes(schedule.to_vec());
         }
         Ok(())
     }
 
-    /// Asks until something is known of every assert, or the solvers do not know.
+    /// Asks until something is known of every line, or the solvers do not know.
     fn ask(&mut self, loaded: &Loaded, asking: &dyn Ask) -> Result<(), Failure> {
         let mut open = self.open();
         while !open.is_empty() {
-            let changed = loaded.changed(changed(&loaded.case, &open))?;
-            let text = changed.text()?;
+            let changed = loaded.changed(with_zeros(&loaded.case, &open, ASSERT))?;
+            let text = changed.text_about(&open)?;
             let asked = asking.ask(&text, changed.table.variables);
             let answer = verdict(&changed, &asked);
             self.questions.push(Question { records: open.clone(), text, asked });
@@ -139,7 +136,7 @@ impl Reach {
                 (None, Verdict::Unsat) => Reached::Never,
                 (None, other) => Reached::NotKnown(other.trouble().to_string()),
             };
-            for (_, reached) in self.asserts.iter_mut().filter(|(record, _)| open.contains(record)) {
+            for (_, reached) in self.lines.iter_mut().filter(|(record, _)| open.contains(record)) {
                 *reached = known.clone();
             }
             return Ok(());
@@ -147,34 +144,35 @@ impl Reach {
         Ok(())
     }
 
-    /// Whether nothing was checked: no assert is reached.
+    /// Whether nothing was checked: no line is reached.
     pub fn is_vacuous(&self) -> bool {
-        self.asserts.iter().all(|(_, reached)| *reached == Reached::Never)
+        self.lines.iter().all(|(_, reached)| *reached == Reached::Never)
     }
 
-    /// Whether there are asserts, and each is shown to be reached.
+    /// Whether there are such lines, and each is shown to be reached.
     pub fn is_whole(&self) -> bool {
-        !self.asserts.is_empty() && self.asserts.iter().all(|(_, reached)| matches!(reached, Reached::Yes(_)))
+        !self.lines.is_empty() && self.lines.iter().all(|(_, reached)| matches!(reached, Reached::Yes(_)))
     }
 
-    /// Whether something is known of each assert.
+    /// Whether something is known of each line.
     pub fn is_settled(&self) -> bool {
-        !self.asserts.iter().any(|(_, reached)| matches!(reached, Reached::NotKnown(_)))
+        !self.lines.iter().any(|(_, reached)| matches!(reached, Reached::NotKnown(_)))
     }
 
     /// In a few words, where something is not shown to be reached.
     pub fn note(&self) -> Option<String> {
-        let many = count(self.asserts.len(), "assert", "asserts");
+        let one = self.sort.one();
+        let many = count(self.lines.len(), one, self.sort.many());
         let records = |wanted: fn(&Reached) -> bool| -> Vec<u16> {
-            self.asserts.iter().filter(|(_, reached)| wanted(reached)).map(|(record, _)| *record).collect()
+            self.lines.iter().filter(|(_, reached)| wanted(reached)).map(|(record, _)| *record).collect()
         };
         let never = records(|reached| *reached == Reached::Never);
         let open = records(|reached| matches!(reached, Reached::NotKnown(_)));
         match (&self.plain, never.as_slice(), open.as_slice()) {
             (Some(plain), ..) => Some(format!("nothing was checked: {plain}")),
             (None, [], []) => None,
-            (None, [_], []) if self.asserts.len() == 1 => Some("nothing was checked: its assert is never reached".to_string()),
-            (None, never, []) if never.len() == self.asserts.len() => {
+            (None, [_], []) if self.lines.len() == 1 => Some(format!("nothing was checked: its {one} is never reached")),
+            (None, never, []) if never.len() == self.lines.len() => {
                 Some(format!("nothing was checked: none of its {many} is ever reached"))
             }
             (None, [], open) => Some(format!("of {many}, not known to be reached: record {}", enumeration(open))),
@@ -188,13 +186,11 @@ impl Reach {
     }
 }
 
-/// Whether the run of this schedule is legal and reaches one of these asserts with a true guard: whether it violates where they are
-/// made 0, and the others 1.
-fn breaks(loaded: &Loaded, records: &[u16], schedule: &[u16]) -> Result<bool, Failure> {
-    let changed = loaded.changed(changed(&loaded.case, records))?;
-    match changed.replay("a schedule", schedule) {
-        Ok((Ending::Violated(record), _)) => Ok(records.contains(&record)),
-        Ok(_) | Err(Failure::ByLibrary(..)) => Ok(false),
+/// Whether the library takes this schedule, and nothing cuts its run off.
+fn is_legal(loaded: &Loaded, schedule: &[u16]) -> Result<bool, Failure> {
+    match loaded.replay("a schedule", schedule) {
+        Ok((ending, _)) => Ok(!matches!(ending, Ending::CutOff(_))),
+        Err(Failure::ByLibrary(..)) => Ok(false),
         Err(failure) => Err(failure),
     }
 }

@@ -14,9 +14,9 @@ A BOUNDED CHECK OF THREADED CODE, FILED BY MENDUVO
 
 A case describes up to four threads over shared globals and mutexes. Constraints over numbers follow
 from it. They can be met exactly where a legal run of the threads, in round robin and within n switches,
-breaks an assertion. A solver was asked whether they can be met. This folder has the case, the
-constraints, what the solver said, and what follows from it, so that it can be read and checked again
-without the programs that made it.
+violates: where an assert is zero in it, or a thread unlocks a mutex that it does not hold. A solver was
+asked whether they can be met. This folder has the case, the constraints, what the solver said, and what
+follows from it, so that it can be read and checked again without the programs that made it.
 ";
 
 const CHECKING: &str = "\
@@ -38,15 +38,14 @@ const PROVED: &str = "\
 WHAT WAS PROVED, AND WHAT WAS NOT
 
 Proved by machine, of the library's code and for all cases: that the listing has just the constraints
-below; that they are met exactly where a legal run within the bound breaks an assertion; that
-constraints.smt2 is true of an assignment exactly where it meets them; and what the checker, decoder and
-replayer answer. So a violation does not rest on the solver: where there is one, the assignment was
-checked, decoded and replayed. The proofs rest on their definitions, on the prover and on the front end of
-its toolchain.
-Not proved: the solver's word where it says unsat, also where it says that an assert is never reached; the
-compiler that made the library's machine code; the other texts and the picture; that the case says what its
-source, or the controller, does. A run in another order of threads, or with more switches, is outside of
-all this.
+below; that they are met exactly where a legal run within the bound violates; that constraints.smt2 is true
+of an assignment exactly where it meets them; and what the checker, decoder and replayer answer. So a
+violation does not rest on the solver: where there is one, the assignment was checked, decoded and replayed.
+The proofs rest on their definitions, on the prover and on the front end of its toolchain.
+Not proved: the solver's word where it says unsat, also where it says that an assert or unlock is never
+reached; the compiler that made the library's machine code; the other texts and the picture; that the case
+says what its source, or the controller, does. A run in another order of threads, or with more switches, is
+outside of all this.
 ";
 
 /// How a source is laid out, where one is filed.

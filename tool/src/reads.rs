@@ -3,7 +3,7 @@
 use crate::case::{Case, Kind, Record, CONSTANT};
 use crate::names::Name;
 use crate::term::Term;
-use crate::words::item_name;
+use crate::words::item_value;
 
 /// A number, and where it comes from.
 pub struct Read {
@@ -32,6 +32,7 @@ impl<'a> Reads<'a> {
         Some(match term {
             Term::Any => return None,
             Term::Fixed(value, words) => Read { value, words: words.to_string() },
+            Term::Held(thread) => Read { value: thread + 1, words: format!("a lock by thread {thread} gives {}", thread + 1) },
             Term::Local { local, copy } => self.local(local, copy),
             Term::Item { item, copy } => self.item(item, record.number, copy),
             Term::Expression { a_copy, b_copy } => self.expression(record, a_copy, b_copy),
@@ -81,20 +82,20 @@ impl<'a> Reads<'a> {
             return self.before(block, item);
         }
         let value = self.value(copy);
-        Read { value, words: format!("{} = {value} by record {copy} in the same block", item_name(self.case, item)) }
+        Read { value, words: format!("{} by record {copy} in the same block", item_value(self.case, item, value)) }
     }
 
     /// The item's value where a block begins.
     pub fn before(&self, block: u16, item: usize) -> Read {
-        let name = item_name(self.case, item);
+        let words = |value: u16| item_value(self.case, item, value);
         match usize::from(block).checked_sub(1) {
             None => {
                 let value = self.case.items_at_start().get(item).copied().unwrap_or_default();
-                Read { value, words: format!("{name} = {value} at the start") }
+                Read { value, words: format!("{} at the start", words(value)) }
             }
             Some(earlier) => {
                 let value = self.number(self.case.block_value(earlier, item));
-                Read { value, words: format!("{name} = {value} at the end of block {earlier}") }
+                Read { value, words: format!("{} at the end of block {earlier}", words(value)) }
             }
         }
     }

@@ -9,7 +9,7 @@ use crate::run::Run;
 use crate::show;
 use crate::table::Row;
 use crate::walk::Step;
-use crate::words::item_name;
+use crate::words::{holder, item_name};
 
 /// An object: the fields that all have, and then its own.
 fn object(command: &str, loaded: &Loaded, status: Status, answer: &str, own: Vec<(&'static str, Json)>) -> Json {
@@ -46,13 +46,18 @@ pub fn fails(loaded: &Loaded, assignment: &str, constraint: u16, words: &[String
 pub fn replayed(loaded: &Loaded, schedule: &[u16], run: &Run, values: bool) -> Json {
     let case = &loaded.case;
     let (answer, record) = match run.ending {
-        Ending::Violated(record) => ("violated", Some(record)),
+        Ending::Violated(first) => ("violated", Some(first.record)),
         Ending::Clean => ("clean", None),
         Ending::CutOff(record) => ("cut off", Some(record)),
+    };
+    let fault = match run.ending {
+        Ending::Violated(first) => Some(first.object(case)),
+        Ending::Clean | Ending::CutOff(_) => None,
     };
     let own = vec![
         ("schedule", list(schedule.iter().copied())),
         ("record", record.into()),
+        ("fault", fault.into()),
         ("items", items(case, &run.items)),
         ("notRun", list(run.not_run(case).concat())),
         ("steps", list(run.steps.iter().map(|step| self::step(case, step, values)))),
@@ -68,7 +73,7 @@ fn step(case: &Case, step: &Step, values: bool) -> Json {
         ("record", step.record.into()),
         ("does", case.record(step.record).words(&case.names).into()),
         ("event", step.event.word().into()),
-        ("words", step.event.values(&case.names).into()),
+        ("words", step.event.values(case).into()),
     ];
     if values {
         fields.push(("items", items(case, &step.items)));
@@ -129,8 +134,12 @@ fn numbers(row: &Row) -> Json {
     list(row.iter().copied())
 }
 
+/// Items with their values, and of a mutex which thread holds it.
 fn items(case: &Case, values: &[u16]) -> Json {
-    let item =
-        |(item, &value): (usize, &u16)| Json::Object(vec![("name", item_name(case, item).into()), ("value", value.into())]);
+    let item = |(item, &value): (usize, &u16)| {
+        let mut fields = vec![("name", item_name(case, item).into()), ("value", value.into())];
+        fields.extend((item >= case.globals).then(|| ("holder", holder(case, value).into())));
+        Json::Object(fields)
+    };
     list(values.iter().enumerate().map(item))
 }

@@ -3,8 +3,9 @@
 use crate::calls::{Ending, Loaded};
 use crate::case::Case;
 use crate::failure::{Failure, Status};
+use crate::fault::Fault;
 use crate::values;
-use crate::walk::{first_broken, walk, Event, Step, Walk};
+use crate::walk::{first_fault, walk, Event, Step, Walk};
 use crate::words::{count, items_in_words, record_in_words};
 
 /// A run: what the library says of it, and the lines for display.
@@ -39,17 +40,9 @@ pub fn confirmed(loaded: &Loaded, name: &str, schedule: &[u16], walk: impl FnOnc
 /// What the run comes to.
 pub fn verdict(case: &Case, ending: Ending) -> String {
     match ending {
-        Ending::Violated(_) => format!("violated: {}", broken(case, ending)),
-        Ending::Clean => "clean: nothing cuts the run off, and no assertion is broken".to_string(),
+        Ending::Violated(first) => format!("violated: {}", first.words(case)),
+        Ending::Clean => "clean: nothing cuts the run off, and no line violates".to_string(),
         Ending::CutOff(record) => format!("cut off: {} failed, so the run ends there", record_in_words(case, record)),
-    }
-}
-
-/// The broken assertion of a run that violates.
-pub fn broken(case: &Case, ending: Ending) -> String {
-    match ending {
-        Ending::Violated(record) => format!("{} is broken", record_in_words(case, record)),
-        _ => "no assertion is broken".to_string(),
     }
 }
 
@@ -61,13 +54,14 @@ impl Run {
         }
     }
 
-    /// What is to be said of an assertion that is broken in a run that is cut off later.
-    pub fn broken_in_vain(&self) -> Option<String> {
+    /// What is to be said of a line that would violate in a run that is cut off later.
+    pub fn fault_in_vain(&self) -> Option<String> {
         let Ending::CutOff(failed) = self.ending else { return None };
-        let broken = first_broken(&self.steps)?;
+        let fault = first_fault(&self.steps)?;
         Some(format!(
-            "record {broken} is broken too, but a run that is cut off is not legal; one that stops before record {failed} \
-             violates"
+            "record {} {} too, but a run that is cut off is not legal; one that stops before record {failed} violates",
+            fault.record,
+            fault.sort()
         ))
     }
 
@@ -124,12 +118,12 @@ impl Run {
     /// What the run comes to, in lines.
     pub fn conclusion(&self, case: &Case) -> String {
         let place = match self.ending {
-            Ending::Violated(record) | Ending::CutOff(record) => case.names.line_of(record),
+            Ending::Violated(Fault { record, .. }) | Ending::CutOff(record) => case.names.line_of(record),
             Ending::Clean => None,
         };
         let place = place.map(|line| format!("that is line {line} of the source"));
         let lines = self.not_run_in_words(case).into_iter().chain([verdict(case, self.ending)]);
-        let lines = lines.chain(place).chain(self.broken_in_vain());
+        let lines = lines.chain(place).chain(self.fault_in_vain());
         lines.map(|line| line + "\n").collect()
     }
 
@@ -144,10 +138,10 @@ impl Run {
 pub fn line(case: &Case, step: &Step, width: usize) -> String {
     let words = case.record(step.record).words(&case.names);
     let mark = match step.event {
-        Event::Broken(_) => ">>",
+        Event::Broken(_) | Event::Stranger(..) => ">>",
         Event::CutOff(_) => "||",
         _ => "  ",
     };
-    let event = step.event.words(&case.names);
+    let event = step.event.words(case);
     format!("{mark} line {:>2}  record {:>3}  {words:width$}  {event}\n", step.line, step.record)
 }

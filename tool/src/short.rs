@@ -53,7 +53,7 @@ struct Search<'a> {
     /// The case's own question.
     text: &'a str,
     asking: &'a dyn Ask,
-    best: Found,
+    best: Box<Found>,
     wishes: Vec<String>,
     questions: usize,
 }
@@ -68,7 +68,7 @@ pub fn shortened(loaded: &Loaded, text: &str, asking: &dyn Ask, verdict: Verdict
     let stopped = (0..before.len()).try_for_each(|place| search.make_least(place)).err();
     let Search { best, questions, .. } = search;
     let length = length(&loaded.case, &best.schedule);
-    Verdict::Violated(Found { short: Some(Short { length, before, questions, stopped }), ..best })
+    Verdict::Violated(Box::new(Found { short: Some(Short { length, before, questions, stopped }), ..*best }))
 }
 
 fn length(case: &Case, schedule: &[u16]) -> Length {
@@ -78,13 +78,14 @@ fn length(case: &Case, schedule: &[u16]) -> Length {
     [&[used as u16, blocks as u16, lengths.iter().sum()], inputs].concat()
 }
 
-/// What a number of a length is at least, in every run that violates: it runs one of the asserts, and all lines before it.
+/// What a number of a length is at least, in every run that violates: it runs one of the asserts or unlocks that are asked about, and
+/// all lines of its thread before it.
 fn least(loaded: &Loaded, place: usize) -> u16 {
-    let asserts = loaded.asserts().into_iter().filter_map(|record| loaded.case.position(record));
+    let lines = loaded.lines().into_iter().filter_map(|record| loaded.case.position(record));
     let least = match place {
-        SWITCHES => asserts.map(|(thread, _)| thread).min(),
+        SWITCHES => lines.map(|(thread, _)| thread).min(),
         BLOCKS => Some(1),
-        LINES => asserts.map(|(_, line)| line).min(),
+        LINES => lines.map(|(_, line)| line).min(),
         _ => None,
     };
     least.unwrap_or(0) as u16

@@ -3,16 +3,17 @@
 use crate::calls::Loaded;
 use crate::case::Case;
 use crate::names::Name;
-use crate::words::{count, enumeration, items_in_words, LEGEND};
+use crate::words::{count, enumeration, items_in_words, legend};
 
 pub fn text(loaded: &Loaded) -> String {
     let case = &loaded.case;
     let mut text = format!(
-        "{}: {}\n{} over {}\n({LEGEND})\n\nstart: {}\n{}",
+        "{}: {}\n{} over {}\n{}\nstart: {}\n{}",
         loaded.name,
         size(loaded),
         count(loaded.table.rows.len(), "constraint", "constraints"),
         count(loaded.table.variables, "variable", "variables"),
+        legend(case),
         items_in_words(case, &case.items_at_start()),
         names(case, None),
     );

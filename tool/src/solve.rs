@@ -1,8 +1,9 @@
 //! From a case to a run: the library's table and SMT-LIB text, solvers, assignment, and then the library's check, decoding and
-//! replay; and which asserts the answer is about.
+//! replay; and which asserts and unlocks the answer is about.
 
 use crate::calls::{Ending, Loaded};
 use crate::failure::{Failure, Status};
+use crate::fault::Fault;
 use crate::input::Source;
 use crate::keep::Keep;
 use crate::numbers::Model;
@@ -27,14 +28,14 @@ pub struct Wanted {
     pub json: bool,
     /// The n up to which the smallest one with a violation is looked for, where it is.
     pub least: Option<u16>,
-    pub asserts: Asserts,
+    pub about: About,
     /// Whether a run that is found is made short.
     pub short: bool,
 }
 
-/// Which asserts are asked about.
+/// Which asserts and unlocks are asked about.
 #[derive(Clone, Copy, Debug, PartialEq, Eq)]
-pub enum Asserts {
+pub enum About {
     /// All together.
     All,
     /// The one of this record.
@@ -62,6 +63,8 @@ pub struct Found {
     pub assignment: Vec<u16>,
     pub schedule: Vec<u16>,
     pub run: Run,
+    /// The first that violates, or the line that was asked about.
+    pub fault: Fault,
     /// That the solver's model left variables out.
     pub left_out: Option<String>,
     /// How short it was made.
@@ -70,7 +73,7 @@ pub struct Found {
 
 /// What came of a question. The words say who did not answer, or what is wrong.
 pub enum Verdict {
-    Violated(Found),
+    Violated(Box<Found>),
     Unsat,
     Unknown(String),
     Timeout(String),
@@ -123,11 +126,11 @@ impl Asking {
 }
 
 impl Wanted {
-    /// The one assert that is asked about.
-    pub fn assert(&self) -> Option<u16> {
-        match self.asserts {
-            Asserts::One(record) => Some(record),
-            Asserts::All | Asserts::Each => None,
+    /// The record of the one line that is asked about.
+    pub fn record(&self) -> Option<u16> {
+        match self.about {
+            About::One(record) => Some(record),
+            About::All | About::Each => None,
         }
     }
 
@@ -151,12 +154,12 @@ impl Wanted {
     }
 }
 
-/// Solves a case. What came of its question is told as soon as it is known; whether its asserts are reached may take longer.
+/// Solves a case. What came of its question is told as soon as it is known; which lines are reached may take longer.
 pub fn solve(loaded: &Loaded, asking: &Asking, tell: &mut dyn FnMut(&Verdict)) -> Result<Solved, Failure> {
     solve_by(loaded, asking, asking, tell)
 }
 
-/// The same, where one answers the case's own question, and another whether its asserts are reached.
+/// The same, where one answers the case's own question, and another which lines are reached.
 pub fn solve_by(loaded: &Loaded, first: &dyn Ask, others: &dyn Ask, tell: &mut dyn FnMut(&Verdict)) -> Result<Solved, Failure> {
     solve_and(loaded, first, others, None, tell)
 }
@@ -173,7 +176,7 @@ fn solve_and(
     tell: &mut dyn FnMut(&Verdict),
 ) -> Result<Solved, Failure> {
     let begin = Instant::now();
-    let text = loaded.text()?;
+    let text = loaded.question()?;
     let (asked, verdict, reach) = thread::scope(|scope| {
         let aside = scope.spawn(|| Reach::of(loaded, others));
         let asked = first.ask(&text, loaded.table.variables);
@@ -183,7 +186,8 @@ fn solve_and(
             verdict = made(&text, verdict);
             tell(&verdict);
         }
-        let reach = aside.join().unwrap_or_else(|_| Err(Failure::Other("the search for reached asserts failed".to_string())));
+        let reach =
+            aside.join().unwrap_or_else(|_| Err(Failure::Other("the search for lines that are reached failed".to_string())));
         (asked, verdict, reach)
     });
     let mut reach = reach?;
@@ -192,7 +196,7 @@ fn solve_and(
     }
     let verdict = match (verdict, &reach.disagreement) {
         // Who is wrong about the one question may be wrong about the other.
-        (Verdict::Unsat, Some(why)) => Verdict::Disagree(format!("whether an assert is reached: {why}"), None),
+        (Verdict::Unsat, Some(why)) => Verdict::Disagree(format!("whether an {} is reached: {why}", reach.sort.one()), None),
         (verdict, _) => verdict,
     };
     Ok(Solved { text, asked, verdict, reach, seconds: begin.elapsed().as_secs_f64() })
@@ -205,7 +209,7 @@ pub fn verdict(loaded: &Loaded, asked: &[Asked]) -> Verdict {
     for Asked { solver, answer, .. } in asked {
         if let Answer::Sat(model) = answer {
             match followed(loaded, solver, model) {
-                Ok(one) => found = found.or(Some(one)),
+                Ok(one) => found = found.or(Some(Box::new(one))),
                 Err(failure) => wrong = wrong.or(failure.message().map(str::to_string)),
             }
         }
@@ -218,7 +222,7 @@ pub fn verdict(loaded: &Loaded, asked: &[Asked]) -> Verdict {
         (Some(found), [denies, ..]) => {
             let sat = &found.solver;
             let why = format!("{sat} says sat, and its assignment is checked and replayed; {denies} says unsat, and is wrong");
-            return Verdict::Disagree(why, Some(Box::new(found)));
+            return Verdict::Disagree(why, Some(found));
         }
         (Some(found), []) => return Verdict::Violated(found),
         (None, _) => {}
@@ -252,23 +256,21 @@ fn followed(loaded: &Loaded, solver: &str, model: &Model) -> Result<Found, Failu
         return Err(Failure::Other(format!("{name} fails, so {solver} or the text that it was given is wrong\n  {details}")));
     }
     let schedule = loaded.decode(&name, assignment)?;
-    let run = violating(loaded, &schedule, loaded.alone.as_ref().map(|(record, _)| *record))?;
-    // Where one assert is asked about, it is the run of the whole case that is shown.
-    let run = if loaded.alone.is_some() { violating(loaded.whole(), &schedule, None)? } else { run };
-    let (solver, left_out) = (solver.to_string(), model.left_out_in_words());
-    Ok(Found { solver, assignment: assignment.clone(), schedule, run, left_out, short: None })
-}
-
-/// The run of a schedule that an assignment was decoded to, which violates: first at this record, where one is named.
-fn violating(loaded: &Loaded, schedule: &[u16], record: Option<u16>) -> Result<Run, Failure> {
-    let run = run::replay(loaded, "the decoded schedule", schedule)?;
-    match run.ending {
-        Ending::Violated(first) if record.is_none_or(|record| first == record) => Ok(run),
-        _ => Err(Failure::Other(format!(
+    let run = run::replay(loaded, "the decoded schedule", &schedule)?;
+    let Ending::Violated(first) = run.ending else {
+        return Err(Failure::Other(format!(
             "an assignment that meets the constraints replays to '{}': this is not the proved library",
             run::verdict(&loaded.case, run.ending)
-        ))),
-    }
+        )));
+    };
+    let Some(fault) = loaded.fault_asked_about(assignment, &schedule, first) else {
+        return Err(Failure::Other(format!(
+            "{name} violates, but not where it was asked for, so {solver} or the text that it was given is wrong\n  {}",
+            run::verdict(&loaded.case, run.ending)
+        )));
+    };
+    let (solver, left_out) = (solver.to_string(), model.left_out_in_words());
+    Ok(Found { solver, assignment: assignment.clone(), schedule, run, fault, left_out, short: None })
 }
 
 impl Verdict {
@@ -317,7 +319,7 @@ impl Solved {
         }
     }
 
-    /// The exit status. Where it is strict, an unsat must be about every assert.
+    /// The exit status. Where it is strict, an unsat must be about every line that is asked about.
     pub fn status(&self, strict: bool) -> i32 {
         match self.verdict {
             Verdict::Violated(_) => Status::Found.number(),
@@ -333,7 +335,7 @@ impl Solved {
         match (&self.verdict, self.reach.note()) {
             (Verdict::Violated(found), _) => {
                 let short = found.short.as_ref().map(|short| format!("; {}", short.words(&loaded.case))).unwrap_or_default();
-                loaded.broken_in_words(&found.run) + &short
+                loaded.fault_in_words(found) + &short
             }
             (Verdict::Unsat, None) => within,
             (Verdict::Unsat, Some(note)) if self.reach.is_vacuous() => note,

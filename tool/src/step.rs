@@ -3,7 +3,7 @@
 
 use crate::by_hand::ByHand;
 use crate::calls::Loaded;
-use crate::case::Record;
+use crate::case::{Kind, Record};
 use crate::failure::{Failure, Status};
 use crate::filed;
 use crate::help;
@@ -15,7 +15,7 @@ use crate::orders::{Order, Orders};
 use crate::output::Output;
 use crate::run::{self, Run};
 use crate::values;
-use crate::walk::{first_broken, is_cut_off};
+use crate::walk::{first_fault, is_cut_off};
 use crate::words::{count, items_in_words, numbers_in_lines, record_in_words};
 use std::ffi::OsString;
 
@@ -217,8 +217,8 @@ impl Talk<'_> {
             text.push_str(format!("   thread {thread}  {line}").trim_end());
             text.push('\n');
         }
-        if let Some(record) = first_broken(&self.run.steps) {
-            text.push_str(&format!("record {record} is broken: a run that stops here violates\n"));
+        if let Some(fault) = first_fault(&self.run.steps) {
+            text.push_str(&format!("record {} {}: a run that stops here violates\n", fault.record, fault.sort()));
         }
         text
     }
@@ -226,12 +226,24 @@ impl Talk<'_> {
     /// What is to be known of a thread's next line before it is picked.
     fn notes(&self, thread: usize, record: &Record) -> String {
         let guard = record.guard_local().map(|_| format!("guard {}", self.run.machine.guard_is_true(record)));
+        let mutex = self.run.machine.guard_is_true(record).then(|| self.mutex(record)).flatten();
         let turn = match self.run.turn(thread) {
             None => Some("no block left, so it is not run".to_string()),
             Some(block) if block == self.run.block => None,
             Some(block) => Some(format!("in block {block}, after {}", count(block - self.run.block, "switch", "switches"))),
         };
-        [guard, turn].into_iter().flatten().collect::<Vec<_>>().join("; ")
+        [guard, mutex, turn].into_iter().flatten().collect::<Vec<_>>().join("; ")
+    }
+
+    /// Who holds the mutex that a line cannot lock, or unlocks as a stranger.
+    fn mutex(&self, record: &Record) -> Option<String> {
+        let value = self.run.machine.mutex(record);
+        match (record.kind, value.checked_sub(1)) {
+            (Kind::Lock, Some(holder)) => Some(format!("thread {holder} holds it")),
+            (Kind::Unlock, Some(holder)) if value != record.holder() => Some(format!("thread {holder} holds it")),
+            (Kind::Unlock, None) => Some("it is free".to_string()),
+            _ => None,
+        }
     }
 
     /// The library's word on the run so far.

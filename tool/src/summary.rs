@@ -19,7 +19,7 @@ pub struct Summary {
     pub note: String,
     /// The exit status that the answer stands for, where nothing is strict.
     pub status: i32,
-    /// Whether each assert is shown to be reached.
+    /// Whether each assert and unlock is shown to be reached.
     pub whole: bool,
     pub json: String,
     /// What failed, in full.
@@ -38,7 +38,7 @@ impl Summary {
         summary.unwrap_or_else(|failure| Summary::of_failure(source, &failure))
     }
 
-    /// The exit status. Where it is strict, an unsat must be about every assert.
+    /// The exit status. Where it is strict, an unsat must be about every line that is asked about.
     pub fn status(&self, strict: bool) -> i32 {
         match self.status == Status::Done.number() && strict && !self.whole {
             true => Status::Found.number(),
@@ -101,7 +101,7 @@ pub fn load(source: &Source, wanted: &Wanted) -> Result<Loaded, Failure> {
 }
 
 fn answered(source: &Source, wanted: &Wanted, asking: &Asking) -> Result<Summary, Failure> {
-    let loaded = load(source, wanted)?.with_assert_alone(wanted.assert())?;
+    let loaded = load(source, wanted)?.asked_about(wanted.record())?;
     answer(&loaded, wanted, asking).map(|(summary, _)| summary)
 }
 

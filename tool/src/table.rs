@@ -1,6 +1,7 @@
 //! The table of constraints that the library writes, and a constraint in words.
 
 use crate::case::{Case, Kind};
+use crate::fault::Sort;
 use crate::words::{item_name, record_in_words};
 
 /// Six numbers.
@@ -31,6 +32,15 @@ impl Table {
     }
 }
 
+/// What the 7 says, of the sorts of lines that the case has.
+fn goal_in_words(case: &Case) -> &'static str {
+    match Sort::of(case, &case.asserts_and_unlocks()) {
+        Sort::Asserts => "some assert has value 0",
+        Sort::Unlocks => "some unlock is by a stranger",
+        Sort::Both => "some assert has value 0, or some unlock is by a stranger",
+    }
+}
+
 /// A constraint's numbers, as the listing has them.
 pub fn numbers(row: Row) -> String {
     row.map(|number| number.to_string()).join(" ")
@@ -53,7 +63,7 @@ pub fn in_words(case: &Case, row: Row) -> String {
             let item = item_name(case, usize::from(first));
             format!("the value of {item} at the end of block {second}")
         }
-        7 => "some assert has value 0".to_string(),
+        7 => goal_in_words(case).to_string(),
         _ => "not a constraint of document 01".to_string(),
     }
 }

@@ -11,6 +11,8 @@ pub enum Term {
     Any,
     /// This value, whatever was read, and why.
     Fixed(u16, &'static str),
+    /// What a lock by this thread puts into its mutex.
+    Held(u16),
     Local {
         local: Name,
         copy: u16,
@@ -37,7 +39,7 @@ impl Term {
         match record.kind {
             Kind::Input => Term::Any,
             Kind::Load => Term::Item { item: usize::from(record.a), copy: a_copy },
-            Kind::Lock => Term::Fixed(1, "a lock gives 1"),
+            Kind::Lock => Term::Held(record.thread as u16),
             Kind::Unlock => Term::Fixed(0, "an unlock gives 0"),
             Kind::Assert | Kind::Assume => Term::Truth { a_copy, b_copy },
             _ => Term::Expression { a_copy, b_copy },

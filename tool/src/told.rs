@@ -1,4 +1,4 @@
-//! `solve CASE` in words: what the solvers say, what the library makes of it, what it means, and which asserts it is about.
+//! `solve CASE` in words: what the solvers say, what the library makes of it, what it means, and which lines it is about.
 
 use crate::calls::{Ending, Loaded};
 use crate::failure::{Failure, Status};
@@ -13,7 +13,7 @@ use std::ffi::OsStr;
 
 /// `solve CASE`.
 pub fn one(source: &Source, wanted: &Wanted, output: &mut Output) -> Result<Status, Failure> {
-    let loaded = Loaded::from(source)?.with_assert_alone(wanted.assert())?;
+    let loaded = Loaded::from(source)?.asked_about(wanted.record())?;
     if let Some(keep) = &wanted.keep {
         keep.prepare(source)?;
     }
@@ -44,7 +44,7 @@ pub fn one(source: &Source, wanted: &Wanted, output: &mut Output) -> Result<Stat
             std::process::exit(failure.status());
         }
     })?;
-    let told = told.and_then(|()| output.say(&format!("{}{}", asserts(&loaded, &solved.reach), warning(&solved))));
+    let told = told.and_then(|()| output.say(&format!("{}{}", reached(&loaded, &solved.reach), warning(&solved))));
     let summary = Summary::of_solved(&loaded, &asking, &solved, wanted.strict);
     let kept = wanted.keep.as_ref().map_or(Ok(()), |keep| keep.keep(&loaded, &asking, &solved, &summary));
     match (kept, &solved.verdict) {
@@ -57,15 +57,12 @@ pub fn one(source: &Source, wanted: &Wanted, output: &mut Output) -> Result<Stat
     Status::of(solved.status(wanted.strict)).map_err(|_| Failure::Other(solved.verdict.message()))
 }
 
-/// What is asked: of which case, with which n where it was chosen, about which assert where it is one alone, and how much.
+/// What is asked: of which case, with which n where it was chosen, about which line where it is one alone, and how much.
 fn question(source: &Source, loaded: &Loaded) -> String {
     let constraints = count(loaded.table.rows.len(), "constraint", "constraints");
     let variables = count(loaded.table.variables, "variable", "variables");
-    let alone = loaded.alone.as_ref().map(|(record, whole)| {
-        let asked = record_in_words(&whole.case, *record);
-        format!("asked about {asked} alone, with every other assert made 1\n")
-    });
-    format!("{}: {constraints} over {variables}\n{}", source.name_and_bound(), alone.unwrap_or_default())
+    let asked = loaded.asked.map(|record| format!("asked about {} alone\n", record_in_words(&loaded.case, record)));
+    format!("{}: {constraints} over {variables}\n{}", source.name_and_bound(), asked.unwrap_or_default())
 }
 
 /// An answer that was filed before.
@@ -85,43 +82,54 @@ pub fn answer(loaded: &Loaded, solvers: &[&str], verdict: &Verdict) -> String {
 }
 
 fn violated(loaded: &Loaded, solvers: &[&str], found: &Found) -> String {
-    let Found { solver, assignment, schedule, run, left_out, short } = found;
+    let Found { solver, assignment, schedule, run, fault, left_out, short } = found;
     let left_out = left_out.as_ref().map(|words| format!("({words})\n")).unwrap_or_default();
-    let alone = match (&loaded.alone, run.ending) {
-        (Some((record, _)), Ending::Violated(first)) if first != *record => {
-            format!("record {record}, which was asked about, is broken too, after record {first}\n")
+    let asked = match run.ending {
+        Ending::Violated(first) if first.record != fault.record => {
+            let whose = fault.whose(&loaded.case).map(|whose| format!(" ({whose})")).unwrap_or_default();
+            let (record, sort, first) = (fault.record, fault.sort(), first.record);
+            format!("record {record}, which was asked about, {sort} too{whose}, after record {first}\n")
         }
         _ => String::new(),
     };
     format!(
-        "{solver} says sat. Its assignment:\n{}{left_out}checked: it meets {}\ndecoded: schedule {}\n{}{alone}{}",
+        "{solver} says sat. Its assignment:\n{}{left_out}checked: it meets {}\ndecoded: schedule {}\n{}{asked}{}",
         numbers_in_lines(assignment),
         all(loaded.table.rows.len(), "constraint", "constraints"),
         numbers_in_lines(schedule),
-        run.text(&loaded.whole().case, schedule),
+        run.text(&loaded.case, schedule),
         short.as_ref().map(|short| short.text(&loaded.case, solvers)).unwrap_or_default()
     )
 }
 
 /// The run that was found first, in short: making it short may take long, or be ended.
 fn not_yet_short(loaded: &Loaded, found: &Found) -> String {
-    let Found { solver, schedule, run, .. } = found;
-    let broken = loaded.broken_in_words(run);
+    let (solver, fault) = (&found.solver, loaded.fault_in_words(found));
     format!(
-        "{solver} says sat, and a run is found: {broken}; schedule {}a shorter one is asked for\n",
-        numbers_in_lines(schedule)
+        "{solver} says sat, and a run is found: {fault}; schedule {}a shorter one is asked for\n",
+        numbers_in_lines(&found.schedule)
     )
 }
 
 /// What unsat means, and what it does not.
 fn unsat(loaded: &Loaded, solvers: &[&str]) -> String {
-    let constraints = these(loaded.table.rows.len(), "constraint", "constraints");
+    let rows = loaded.table.rows.len();
     let switches = loaded.case.switches;
     let bound = if switches == 1 { "switch" } else { "switches" };
     let threads = loaded.case.threads;
-    let (assertion, other) = match &loaded.alone {
-        None => ("an assertion".to_string(), "no assertion breaks"),
-        Some((record, _)) => (format!("the assertion of record {record}"), "no other one breaks, nor this one"),
+    let (constraints, place, other) = match loaded.asked {
+        None => (these(rows, "constraint", "constraints"), String::new(), "no run violates"),
+        Some(record) => {
+            let others = count(rows - 1, "constraint", "constraints");
+            let constraints = format!("the part of record {record} in the last constraint and the {others} before it");
+            (constraints, format!(" at record {record}"), "no run violates elsewhere, or there")
+        }
+    };
+    let proved = match loaded.asked {
+        None => "What the constraints say is proved. ",
+        Some(_) => {
+            "What the constraints say is proved, of the last one as a whole; what a part of it says is its definition's.\n"
+        }
     };
     let names = enumeration(solvers);
     let (say, word) = match solvers.len() {
@@ -130,22 +138,23 @@ fn unsat(loaded: &Loaded, solvers: &[&str]) -> String {
     };
     format!(
         "{names} {say} unsat: nothing meets {constraints}.\n\
-         It means: no legal run breaks {assertion} within n = {switches} {bound}, in round robin: block i (0 to {switches})\n\
-         belongs to thread i modulo {threads}, and a thread that runs no line still uses its turn. A run is legal when\n\
-         every assume held and every lock was free; a thread may stop after any of its lines.\n\
+         It means: no legal run violates{place} within n = {switches} {bound}, in round robin: block i (0 to {switches})\n\
+         belongs to thread i modulo {threads}, and a thread that runs no line still uses its turn. A run violates where an\n\
+         assert is zero, or where a thread unlocks a mutex that it does not hold. It is legal when every assume\n\
+         held and every lock was free; a thread may stop after any of its lines.\n\
          It does not mean: that {other} with more switches or in another order of threads; that\n\
          threads get to their ends, or cannot wait for each other for ever: a run that comes to a taken lock or a\n\
-         failed assume does not count, only one that stops before it; that anything was checked of an assert that\n\
-         no legal run reaches; that the case says what the controller does.\n\
-         What the constraints say is proved. That nothing meets them is {word} word, and is not checked here.\n"
+         failed assume does not count, only one that stops before it; that anything was checked of an assert or\n\
+         unlock that no legal run reaches; that the case says what the controller does.\n\
+         {proved}That nothing meets them is {word} word, and is not checked here.\n"
     )
 }
 
-/// For each assert whether it is reached.
-pub fn asserts(loaded: &Loaded, reach: &Reach) -> String {
+/// For each assert and unlock whether it is reached.
+pub fn reached(loaded: &Loaded, reach: &Reach) -> String {
     let n = loaded.case.switches;
-    let mut text = String::from("asserts:\n");
-    for (record, reached) in &reach.asserts {
+    let mut text = format!("{}:\n", reach.sort.many());
+    for (record, reached) in &reach.lines {
         let words = match reached {
             Reached::Yes(schedule) => format!("reached, e.g. schedule {}", numbers_in_lines(schedule).replace('\n', " ")),
             Reached::Never if has_no_block(&loaded.case, *record) => {
@@ -159,7 +168,7 @@ pub fn asserts(loaded: &Loaded, reach: &Reach) -> String {
         text.push_str(&format!("  {}: {}\n", record_in_words(&loaded.case, *record), words.trim_end()));
     }
     let by_solvers = |(record, reached): &(u16, Reached)| *reached == Reached::Never && !has_no_block(&loaded.case, *record);
-    if reach.asserts.iter().any(by_solvers) {
+    if reach.lines.iter().any(by_solvers) {
         let names =
             reach.questions.last().map_or(Vec::new(), |last| last.asked.iter().map(|one| one.solver.as_str()).collect());
         text.push_str(&format!(
@@ -167,7 +176,7 @@ pub fn asserts(loaded: &Loaded, reach: &Reach) -> String {
             enumeration(&names)
         ));
     }
-    if reach.asserts.is_empty() {
+    if reach.lines.is_empty() {
         text.push_str("  none\n");
     }
     text
@@ -175,16 +184,17 @@ pub fn asserts(loaded: &Loaded, reach: &Reach) -> String {
 
 /// That an unsat says nothing, or not enough.
 pub fn warning(solved: &Solved) -> String {
+    let one = solved.reach.sort.one();
     match (&solved.verdict, solved.reach.note()) {
         (Verdict::Unsat, Some(_)) if solved.reach.is_vacuous() => {
-            let why = match (&solved.reach.plain, solved.reach.asserts.len()) {
+            let why = match (&solved.reach.plain, solved.reach.lines.len()) {
                 (Some(plain), _) => plain.clone(),
-                (None, 1) => "no legal run within the bound reaches the assert with a true guard".to_string(),
-                (None, _) => "no legal run within the bound reaches an assert with a true guard".to_string(),
+                (None, 1) => format!("no legal run within the bound reaches the {one} with a true guard"),
+                (None, _) => format!("no legal run within the bound reaches an {one} with a true guard"),
             };
-            format!("VACUOUS: this unsat says nothing about any assertion: {why}.\n")
+            format!("VACUOUS: this unsat says nothing: {why}.\n")
         }
-        (Verdict::Unsat, Some(note)) => format!("This unsat does not say something about every assert: {note}.\n"),
+        (Verdict::Unsat, Some(note)) => format!("This unsat does not say something about every {one}: {note}.\n"),
         _ => String::new(),
     }
 }

@@ -2,7 +2,7 @@
 
 use crate::case::Case;
 use crate::names::Name;
-use crate::words::item_name;
+use crate::words::{item, value_in_words};
 use std::collections::BTreeSet;
 
 /// The most characters of a line of values, unless one alone has more.
@@ -11,7 +11,7 @@ const WIDTH: usize = 100;
 /// All items, globals first.
 pub fn items(case: &Case, before: &[u16], after: &[u16]) -> Vec<String> {
     let values = before.iter().zip(after).enumerate();
-    values.map(|(item, (&before, &after))| value(&item_name(case, item), before, after)).collect()
+    values.map(|(place, (&before, &after))| value(case, item(case, place), before, after)).collect()
 }
 
 /// The locals that the thread's lines name.
@@ -25,16 +25,14 @@ pub fn locals(case: &Case, thread: usize, before: &[u16; 16], after: &[u16; 16])
         names.filter_map(|name| if let Name::Local(_, local) = name { Some(local) } else { None }).collect();
     let value_of = |local: u16| {
         let place = usize::from(local);
-        value(&case.names.called(Name::Local(thread, local)), before[place], after[place])
+        value(case, Name::Local(thread, local), before[place], after[place])
     };
     locals.into_iter().map(value_of).collect()
 }
 
-fn value(name: &str, before: u16, after: u16) -> String {
-    match before == after {
-        true => format!("{name} = {after}"),
-        false => format!("{name} = {after} (was {before})"),
-    }
+fn value(case: &Case, name: Name, before: u16, after: u16) -> String {
+    let was = (before != after).then_some(before);
+    format!("{} = {}", case.names.called(name), value_in_words(case, name, after, was))
 }
 
 /// Values in lines: the first begins with what they are, and the others stand below its first value.

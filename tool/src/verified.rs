@@ -95,8 +95,8 @@ fn notes(filed: &Made) -> Vec<String> {
 /// Asks again. Another assignment that meets the constraints is the same answer.
 fn again(asking: &Asking, recomputed: &Recomputed, filed: &str) -> Result<Again, Failure> {
     let solved = solve(&recomputed.loaded, asking, &mut |_| {})?;
-    let before = recomputed.solved.reach.asserts.iter();
-    let turned = before.zip(&solved.reach.asserts).filter(|((_, before), (_, now))| {
+    let before = recomputed.solved.reach.lines.iter();
+    let turned = before.zip(&solved.reach.lines).filter(|((_, before), (_, now))| {
         matches!((before, now), (Reached::Yes(_), Reached::Never) | (Reached::Never, Reached::Yes(_)))
     });
     let turned: Vec<u16> = turned.map(|((record, _), _)| *record).collect();
@@ -109,7 +109,7 @@ fn again(asking: &Asking, recomputed: &Recomputed, filed: &str) -> Result<Again,
     Ok(Again { solvers: asking.names().into_iter().map(str::to_string).collect(), answer: solved.word(), same, note })
 }
 
-/// The answer to the case's own question: a vacuous one is unsat. Which asserts are reached is compared by itself.
+/// The answer to the case's own question: a vacuous one is unsat. Which lines are reached is compared by itself.
 fn answer(word: &str) -> &str {
     match word {
         "vacuous" => "unsat",

@@ -3,8 +3,9 @@
 
 use crate::calls::Ending;
 use crate::case::{Case, Kind, Record, CONSTANT};
-use crate::names::{Name, Names};
-use crate::words::item_name;
+use crate::fault::{whose, Fault};
+use crate::names::Name;
+use crate::words::named_value;
 
 /// What came of a line.
 #[derive(Clone, Debug, PartialEq, Eq)]
@@ -15,6 +16,8 @@ pub enum Event {
     Holds(String),
     /// An assert is zero.
     Broken(String),
+    /// The mutex is free now, and its thread did not hold it: what it found there.
+    Stranger(Name, u16),
     /// The guard is false.
     Skipped(String),
     /// The run ends here.
@@ -28,26 +31,28 @@ impl Event {
             Event::Set(..) => "set",
             Event::Holds(_) => "holds",
             Event::Broken(_) => "broken",
+            Event::Stranger(..) => "stranger",
             Event::Skipped(_) => "skipped",
             Event::CutOff(_) => "cut off",
         }
     }
 
     /// The values that show it.
-    pub fn values(&self, names: &Names) -> String {
+    pub fn values(&self, case: &Case) -> String {
         match self {
-            Event::Set(name, value) => format!("{} = {value}", names.called(*name)),
+            Event::Set(name, value) => named_value(case, *name, *value),
+            Event::Stranger(mutex, found) => whose(case, *mutex, *found),
             Event::Holds(words) | Event::Broken(words) | Event::Skipped(words) | Event::CutOff(words) => words.clone(),
         }
     }
 
     /// Both, as a run shows them; what is wrong is in capitals.
-    pub fn words(&self, names: &Names) -> String {
-        let (word, values) = (self.word(), self.values(names));
+    pub fn words(&self, case: &Case) -> String {
+        let (word, values) = (self.word(), self.values(case));
         match self {
             Event::Set(..) => values,
             Event::Holds(_) | Event::Skipped(_) => format!("{word}: {values}"),
-            Event::Broken(_) | Event::CutOff(_) => format!("{}: {values}", word.to_uppercase()),
+            Event::Broken(_) | Event::Stranger(..) | Event::CutOff(_) => format!("{}: {values}", word.to_uppercase()),
         }
     }
 }
@@ -94,9 +99,13 @@ pub fn is_cut_off(steps: &[Step]) -> bool {
     steps.last().is_some_and(|step| matches!(step.event, Event::CutOff(_)))
 }
 
-/// The first line of a run that breaks an assertion.
-pub fn first_broken(steps: &[Step]) -> Option<u16> {
-    steps.iter().find(|step| matches!(step.event, Event::Broken(_))).map(|step| step.record)
+/// The first line of a run that violates.
+pub fn first_fault(steps: &[Step]) -> Option<Fault> {
+    steps.iter().find_map(|step| match step.event {
+        Event::Broken(_) => Some(Fault { record: step.record, found: None }),
+        Event::Stranger(_, found) => Some(Fault { record: step.record, found: Some(found) }),
+        _ => None,
+    })
 }
 
 impl Walk {
@@ -104,7 +113,7 @@ impl Walk {
     pub fn of(case: &Case, steps: Vec<Step>) -> Walk {
         let ending = match steps.last() {
             Some(last) if is_cut_off(&steps) => Ending::CutOff(last.record),
-            _ => first_broken(&steps).map_or(Ending::Clean, Ending::Violated),
+            _ => first_fault(&steps).map_or(Ending::Clean, Ending::Violated),
         };
         let items = steps.last().map_or_else(|| case.items_at_start(), |last| last.items.clone());
         Walk { steps, ending, items }
@@ -162,15 +171,31 @@ impl<'a> Machine<'a> {
             Kind::Load => self.set(thread, record, self.items[usize::from(record.a)]),
             Kind::Input => self.set(thread, record, self.input(record.number)),
             Kind::Assert | Kind::Assume => self.demand(thread, record),
-            Kind::Lock => {
-                let mutex = self.case.globals + usize::from(record.target);
-                match self.items[mutex] {
-                    0 => self.set(thread, record, 1),
-                    value => Event::CutOff(format!("{} is {value}, not free", item_name(self.case, mutex))),
+            Kind::Lock => match self.mutex(record) {
+                0 => self.set(thread, record, record.holder()),
+                holder => {
+                    let name = self.case.names.called(Name::Mutex(record.target));
+                    Event::CutOff(format!("thread {} holds {name}", holder - 1))
+                }
+            },
+            Kind::Unlock => {
+                let found = self.mutex(record);
+                let set = self.set(thread, record, 0);
+                if found == record.holder() {
+                    set
+                } else {
+                    Event::Stranger(Name::Mutex(record.target), found)
                 }
             }
-            Kind::Unlock => self.set(thread, record, 0),
             Kind::Unknown => Event::CutOff("of an unknown kind".to_string()),
+        }
+    }
+
+    /// The mutex that is the target of a lock or unlock; of any other line 0.
+    pub fn mutex(&self, record: &Record) -> u16 {
+        match record.kind {
+            Kind::Lock | Kind::Unlock => self.items[self.case.globals + usize::from(record.target)],
+            _ => 0,
         }
     }
 

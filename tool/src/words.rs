@@ -4,15 +4,60 @@ use crate::case::{Case, Kind, Record, CONSTANT};
 use crate::names::{Name, Names};
 use std::fmt;
 
-/// What the letters stand for.
-pub const LEGEND: &str = "L: a thread's locals, G: globals, M: mutexes; numbers have 16 bits, sums and differences wrap";
+/// What the letters stand for, and of a case with mutexes what their values do, in lines.
+pub fn legend(case: &Case) -> String {
+    let letters = "(L: a thread's locals, G: globals, M: mutexes; numbers have 16 bits, sums and differences wrap)\n";
+    let holders = "(a mutex has 0 while it is free, and t + 1 while thread t holds it)\n";
+    if case.mutexes > 0 {
+        letters.to_string() + holders
+    } else {
+        letters.to_string()
+    }
+}
 
-/// The name of an item: globals come first, then mutexes.
-pub fn item_name(case: &Case, item: usize) -> String {
-    case.names.called(match item < case.globals {
+/// An item: globals come first, then mutexes.
+pub fn item(case: &Case, item: usize) -> Name {
+    match item < case.globals {
         true => Name::Global(item as u16),
         false => Name::Mutex((item - case.globals) as u16),
-    })
+    }
+}
+
+pub fn item_name(case: &Case, item: usize) -> String {
+    case.names.called(self::item(case, item))
+}
+
+/// A name with its value: `upper = 1`, `gates = 0 (free)`, `gates = 2 (held by thread 1)`.
+pub fn named_value(case: &Case, name: Name, value: u16) -> String {
+    format!("{} = {}", case.names.called(name), value_in_words(case, name, value, None))
+}
+
+/// The same of an item.
+pub fn item_value(case: &Case, item: usize, value: u16) -> String {
+    named_value(case, self::item(case, item), value)
+}
+
+/// A value, with what it says of a mutex, and what it was where that is told too.
+pub fn value_in_words(case: &Case, name: Name, value: u16, was: Option<u16>) -> String {
+    let notes = [holder_in_words(case, name, value), was.map(|was| format!("was {was}"))];
+    match notes.into_iter().flatten().collect::<Vec<_>>().join(", ") {
+        notes if notes.is_empty() => value.to_string(),
+        notes => format!("{value} ({notes})"),
+    }
+}
+
+/// The thread that holds a mutex of this value. No lock puts a number there that is over T.
+pub fn holder(case: &Case, value: u16) -> Option<u16> {
+    value.checked_sub(1).filter(|&thread| usize::from(thread) < case.threads)
+}
+
+/// What a value says of a mutex; nothing of another name, or a number that no lock puts there.
+fn holder_in_words(case: &Case, name: Name, value: u16) -> Option<String> {
+    match (name, holder(case, value)) {
+        (Name::Mutex(_), Some(thread)) => Some(format!("held by thread {thread}")),
+        (Name::Mutex(_), None) if value == 0 => Some("free".to_string()),
+        _ => None,
+    }
 }
 
 impl Record {
@@ -159,9 +204,9 @@ pub fn enumeration<T: fmt::Display>(things: &[T]) -> String {
     }
 }
 
-/// Items with their values: `G0 = 5, M0 = 0`.
+/// Items with their values: `G0 = 5, M0 = 0 (free)`.
 pub fn items_in_words(case: &Case, values: &[u16]) -> String {
-    let items = values.iter().enumerate().map(|(item, value)| format!("{} = {value}", item_name(case, item)));
+    let items = values.iter().enumerate().map(|(item, &value)| item_value(case, item, value));
     match values {
         [] => "none".to_string(),
         _ => items.collect::<Vec<_>>().join(", "),

@@ -32,8 +32,9 @@ pub enum Decoded {
     Refused { number: u16, place: u16 },
 }
 
-/// The run is legal and breaks an assertion, first at this record; or it breaks none; or it is cut off at this record, whose assume
-/// or lock failed, whether or not an assertion was broken before; or the schedule is refused.
+/// The run is legal and violates, first at this record: a zero assert, or an unlock by a stranger, a thread that does not hold the
+/// mutex, which the record's kind tells. Or it is legal and does not violate; or it is cut off at this record, whose assume or lock
+/// failed, whatever came before; or the schedule is refused.
 #[derive(Clone, Copy, Debug, PartialEq, Eq)]
 pub enum Replayed {
     Violated(u16),
@@ -100,8 +101,10 @@ impl Display for Decoded {
 impl Display for Replayed {
     fn fmt(&self, to: &mut Formatter) -> fmt::Result {
         match *self {
-            Replayed::Violated(record) => write!(to, "violated: the first assertion that the run breaks is record {record}"),
-            Replayed::Clean => to.write_str("clean: the run is legal and breaks no assertion"),
+            Replayed::Violated(record) => {
+                write!(to, "violated: a zero assert or an unlock by a stranger, first at record {record}")
+            }
+            Replayed::Clean => to.write_str("clean: the run is legal and does not violate"),
             Replayed::CutOff(record) => write!(to, "cut off: the assume or lock of record {record} failed"),
             Replayed::Refused { number, place } => Refusal { number, place }.fmt(to),
         }

@@ -54,8 +54,8 @@ pub fn decode(case: &[u8], assignment: &[u16], schedule: &mut [u16]) -> Decoded 
 }
 
 /// Runs the schedule, and writes the items' values at the end of the run, or at the cut-off with the failed line not run:
-/// globals first, then mutexes. A thread whose block lengths add up to less than its lines stops there; an input line that is not
-/// run has value 0. Refusals 1 to 10 and 12 to 14.
+/// globals first, then mutexes. A mutex has 0 where it is free, and t + 1 where thread t holds it. A thread whose block lengths add
+/// up to less than its lines stops there; an input line that is not run has value 0. Refusals 1 to 10 and 12 to 14.
 pub fn replay(case: &[u8], schedule: &[u16], items: &mut [u16]) -> Replayed {
     read(
         library::replay(case, schedule, items),

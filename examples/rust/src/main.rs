@@ -5,8 +5,8 @@
 //! ```
 //!
 //! The numbers are the block lengths, one for each block, and then a value for each input line. README.md, "From C and Rust", has
-//! the line that builds it. The exit status is that of `menduvo replay`: 1 where the run breaks an assertion, 2 where the case or
-//! the schedule is refused, 3 where something else failed.
+//! the line that builds it. The exit status is that of `menduvo replay`: 1 where the run violates, 2 where the case or the schedule is
+//! refused, 3 where something else failed.
 #![forbid(unsafe_code)]
 
 use menduvo::{Encoded, Refusal, Replayed, Verdict, MOST_ITEMS, MOST_TABLE_NUMBERS};
@@ -48,8 +48,20 @@ fn replay(arguments: &[String]) -> Result<Replayed, Failure> {
     // Bytes 4 to 7 of a case are the numbers of globals and of mutexes, low byte first.
     let items = &items[..usize::from(case[4]) + usize::from(case[6])];
     println!("items:{}", items.iter().map(|value| format!(" {value}")).collect::<String>());
-    println!("{run}");
+    match run {
+        // The kind of the record tells the two sorts apart.
+        Replayed::Violated(record) if is_unlock(&case, record) => {
+            println!("violated: record {record} is an unlock by a stranger")
+        }
+        Replayed::Violated(record) => println!("violated: record {record} is a zero assert"),
+        other => println!("{other}"),
+    }
     Ok(run)
+}
+
+/// Whether a record of the case is an unlock: its second field, low byte first, is the kind.
+fn is_unlock(case: &[u8], record: u16) -> bool {
+    case[32 + 16 * (usize::from(record) - 1) + 2] == 8
 }
 
 /// A number of 16 bits, decimal and nothing else.
