@@ -90,9 +90,9 @@ module _ (case : Case) (wf : WellFormed case) (given : ℕ → ℕ) (α : Assign
       omega (
         arith,
         ap bit
-        (ap (λ (run : Bool). breaks run (l .kind) l reads (α .value (l .number))) (unrun-past-blocks case (α .block (l .number)) (after .0))
-        ∙ ap (breaks false (l .kind) l reads) (left .0 .has-value)
-        ∙ unrun-breaks-nothing (l .kind) l reads),
+            (ap (λ (run : Bool). breaks run (l .kind) l reads (α .value (l .number))) (unrun-past-blocks case (α .block (l .number)) (after .0))
+            ∙ ap (breaks false (l .kind) l reads) (left .0 .has-value)
+            ∙ unrun-breaks-nothing (l .kind) l reads),
         left-has-no-break (l ∷ earlier) ls (after .1) (left .1),
       )
 
