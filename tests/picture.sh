@@ -293,12 +293,17 @@ filing() {
     says 'a changed page is told' 1 'picture-2.svg' "$menduvo" verify "$scratch/filed"
 }
 
-# The pictures of many runs, with names of any length.
+# The unit tests of the command: the pictures of many runs, with names of any length; whose mutexes were, in many runs; and the parts of
+# a text.
 many_runs() {
     # Not by run, since it may take longer where it must be built.
-    out=$(cargo test --offline --quiet --manifest-path tool/Cargo.toml --target-dir target/picture 2>&1)
+    out=$(cargo test --offline --manifest-path tool/Cargo.toml --target-dir target/picture 2>&1)
     status=$?
-    result 'the pictures of many runs' eval '[ "$status" = 0 ] && [[ $out = *"1 passed; 0 failed"* ]]'
+    local name
+    for name in picture::tests::many_runs fault::tests::what_lines_find fault::tests::every_line_has_a_part \
+        smt::tests::some_parts_stay smt::tests::another_last_assertion; do
+        result "$name" eval '[ "$status" = 0 ] && [[ $out = *"test $name ... ok"* ]]'
+    done
 }
 
 says 'the command is built' 0 'menduvo 0.' "$menduvo" --version

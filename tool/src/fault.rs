@@ -9,6 +9,9 @@ use crate::names::Name;
 use crate::words::record_in_words;
 use menduvo::Replayed;
 
+#[cfg(test)]
+mod tests;
+
 /// A line that violates.
 #[derive(Clone, Copy, Debug, PartialEq, Eq)]
 pub struct Fault {

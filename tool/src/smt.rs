@@ -11,6 +11,9 @@ use crate::output::Output;
 use crate::words::count;
 use std::ffi::OsStr;
 
+#[cfg(test)]
+mod tests;
+
 /// Prints the text of a case, or writes it to a file.
 pub fn smt(case: &Source, file: Option<&OsStr>, force: bool, output: &mut Output) -> Result<Status, Failure> {
     let loaded = Loaded::from(case)?;

@@ -5,7 +5,7 @@ use crate::calls::Ending;
 use crate::case::Case;
 use crate::names::Name;
 use crate::run::Run;
-use crate::walk::walk;
+use crate::walk::{walk, Event};
 use std::ffi::OsStr;
 
 /// Numbers that look like chance, and are the same in every run.
@@ -191,7 +191,7 @@ fn assert_is_in_order(svg: &str, threads: usize, about: &str) {
 #[test]
 fn many_runs() {
     let mut dice = Dice(7);
-    let (mut lanes, mut several, mut stopped) = (0, 0, 0);
+    let (mut lanes, mut several, mut stopped, mut strangers) = (0, 0, 0, 0);
     for number in 0..600 {
         let case = case(&mut dice);
         let walk = walk(&case, &schedule(&case, &mut dice));
@@ -207,10 +207,14 @@ fn many_runs() {
         let not_run = run.not_run_in_words(&case);
         assert!(not_run.iter().all(|words| told.iter().any(|text| text.contains(words))), "case {number}: {not_run:?}");
         stopped += usize::from(!not_run.is_empty() && !matches!(run.ending, Ending::CutOff(_)));
+        let strange = run.steps.iter().filter(|step| matches!(step.event, Event::Stranger(..))).count();
+        let told_of = told.iter().filter(|text| text.contains("STRANGER: ")).count();
+        assert_eq!(told_of, strange, "case {number}: strangers");
+        strangers += usize::from(strange > 0);
         lanes += usize::from(files.iter().any(|(_, svg)| svg.contains("#f4f4f4")));
         several += usize::from(files.len() > 1);
     }
     // There were enough of each kind.
     assert!(lanes > 100 && several > 100, "{lanes} in lanes, {several} of several pages");
-    assert!(stopped > 100, "{stopped} that stop");
+    assert!(stopped > 100 && strangers > 100, "{stopped} that stop, {strangers} with strangers");
 }
