@@ -92,6 +92,9 @@ pub const MANY_INPUTS: Shape = Shape { inputs: 30, globals: (1, 3), mutexes: (0,
 /// Four threads, most of them short.
 pub const FOUR_THREADS: Shape = Shape { threads: (4, 4), switches: (4, 6), lines: (0, 3), ..BUSY };
 
+/// No mutex at all.
+pub const NO_MUTEX: Shape = Shape { mutexes: (0, 0), ..ANY };
+
 /// Several mutexes, which are unlocked by their holders and by others.
 pub const HOLDERS: Shape = Shape { globals: (1, 1), mutexes: (1, 3), cutting: 10, together: 90, holding: 75, ..BUSY };
 

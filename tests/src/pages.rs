@@ -14,7 +14,7 @@ use crate::calls::{Calls, Spelled};
 use crate::compare_text::text_of;
 use crate::damage::{damaged, random_bytes, scratched};
 use crate::generate::{accepted, Shape, ANY, BUSY, BUSY_WITH_INPUTS, FOUR_THREADS, FULL, HOLDERS};
-use crate::generate::{HOLDERS_WITH_INPUTS, LONG, MANY_HOLDERS, MANY_INPUTS, SMALL, SMALL_WITH_INPUTS};
+use crate::generate::{HOLDERS_WITH_INPUTS, LONG, MANY_HOLDERS, MANY_INPUTS, NO_MUTEX, SMALL, SMALL_WITH_INPUTS};
 use crate::random::Random;
 use crate::report::Outcome;
 
@@ -41,7 +41,7 @@ enum Maker {
 }
 
 /// The makers, each with its name and how many batches it makes.
-const MAKERS: [(&str, Maker, u64); 16] = [
+const MAKERS: [(&str, Maker, u64); 17] = [
     ("any", Maker::Accepted(ANY), 4),
     ("long", Maker::Accepted(LONG), 2),
     ("full", Maker::Accepted(FULL), 1),
@@ -51,6 +51,7 @@ const MAKERS: [(&str, Maker, u64); 16] = [
     ("busy-with-inputs", Maker::Accepted(BUSY_WITH_INPUTS), 1),
     ("many-inputs", Maker::Accepted(MANY_INPUTS), 1),
     ("four-threads", Maker::Accepted(FOUR_THREADS), 1),
+    ("no-mutex", Maker::Accepted(NO_MUTEX), 2),
     ("holders", Maker::Accepted(HOLDERS), 1),
     ("holders-with-inputs", Maker::Accepted(HOLDERS_WITH_INPUTS), 1),
     ("many-holders", Maker::Accepted(MANY_HOLDERS), 1),
