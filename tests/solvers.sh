@@ -513,7 +513,7 @@ own_files() {
 
 # What --resume takes for an answer, and what it does not.
 resuming() {
-    local answer=$scratch/again/case-a.answer
+    local answer=$scratch/again/case-a.answer sum
     resume() { run "$menduvo" solve cases/case-a.case --resume "$scratch/again" "$@"; }
     fake z3 'cat >/dev/null; echo unsat'
     fake cvc5 'cat >/dev/null; echo unsat'
@@ -536,6 +536,23 @@ resuming() {
     result 'a pipe' eval '[ "$status" = 3 ] && [[ $out = *"not an answer that this command wrote"* ]]'
     resume --force
     result 'they are replaced by force' eval '[ "$status" = 0 ] && [[ $out = *"z3 says unsat"* ]] && [ -f "$answer" ]'
+    # An answer to another text, as an earlier version may have asked, with all its sums in order.
+    cp -r "$scratch/again" "$scratch/asked-of-old"
+    sed -i 's/^(assert (or (= v7 #x0000) false))$/(assert (or (= v7 #x0001) false))/' "$scratch/again/case-a.smt2"
+    sum=$(sha256sum <"$scratch/again/case-a.smt2")
+    sed -i "s/^file [0-9a-f]* smt2\$/file ${sum%% *} smt2/; \$d" "$answer"
+    sum=$(sha256sum <"$answer") && echo "sum ${sum%% *}" >>"$answer"
+    resume
+    result 'an answer to another text' eval '[ "$status" = 3 ] && [[ $out = *"the answer that is filed is to another text than that of this case; --force asks again"* ]]'
+    # One of before answers were about unlocks.
+    rm -r "$scratch/again" && cp -r "$scratch/asked-of-old" "$scratch/again"
+    sed -i "1s/.*/# an answer of 'menduvo solve', for --resume/; \$d" "$answer"
+    sum=$(sha256sum <"$answer") && echo "sum ${sum%% *}" >>"$answer"
+    resume
+    result 'an answer of an earlier form' eval '[ "$status" = 3 ] && [[ $out = *"not an answer that this command wrote; --force asks again"* ]]'
+    rm -r "$scratch/again" && mv "$scratch/asked-of-old" "$scratch/again"
+    resume
+    result 'it is taken again' eval '[ "$status" = 0 ] && [[ $out = *"filed in again already"* ]]'
     echo >>"$scratch/again/case-a.reply"
     resume
     result 'a reply that has changed' eval '[ "$status" = 3 ] && [[ $out = *"what was filed with this answer has changed"* ]]'

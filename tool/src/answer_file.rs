@@ -8,7 +8,8 @@ use crate::solve::{Asking, Solved, Wanted, ANSWERS};
 use crate::summary::Summary;
 use std::path::Path;
 
-const FORM: &str = "# an answer of 'menduvo solve', for --resume";
+/// The first line. One of before the answers were about unlocks too has another.
+const FORM: &str = "# an answer of 'menduvo solve' about asserts and unlocks, for --resume";
 
 /// What `--resume` takes for an answer; the others are asked again.
 const FINAL: [&str; 3] = ["violated", "unsat", "vacuous"];

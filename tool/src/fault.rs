@@ -24,11 +24,11 @@ impl Fault {
     /// `record 8 (thread 0, line 8: assert both == 0) is broken`.
     pub fn words(&self, case: &Case) -> String {
         let whose = self.whose(case).map(|whose| format!(": {whose}")).unwrap_or_default();
-        format!("{} {}{whose}", record_in_words(case, self.record), self.sort())
+        format!("{} {}{whose}", record_in_words(case, self.record), self.predicate())
     }
 
     /// What is said of the record.
-    pub fn sort(&self) -> &'static str {
+    pub fn predicate(&self) -> &'static str {
         match self.found {
             None => "is broken",
             Some(_) => "is an unlock by a stranger",
@@ -99,7 +99,7 @@ pub fn whose(case: &Case, mutex: Name, found: u16) -> String {
     }
 }
 
-/// The fields of a record that is an assert of 0, and of one that is an assume of 0, from the kind on; the guard stays.
+/// The kinds that a line is given to see whether it is reached.
 pub const ASSERT: u16 = 5;
 const ASSUME: u16 = 6;
 

@@ -27,8 +27,11 @@ pub struct Keep {
 /// The ending of the answer's own file. It is there, without an answer, before the others, and gets the answer after them.
 const ANSWER: &str = "answer";
 
+/// The ending of the text that was asked about.
+const TEXT: &str = "smt2";
+
 /// Every ending of a kept file.
-const ENDINGS: [&str; 8] = ["smt2", "reply", "reply-z3", "reply-cvc5", "assignment", "schedule", "reached", ANSWER];
+const ENDINGS: [&str; 8] = [TEXT, "reply", "reply-z3", "reply-cvc5", "assignment", "schedule", "reached", ANSWER];
 
 impl Keep {
     /// Makes the folder, and looks whether something is in the way, before any solver is asked. What stands beside an answer's own
@@ -66,6 +69,9 @@ impl Keep {
             Some((_, None)) => return Ok(None),
             Some((_, Some(answer))) if !answer.is_final() => return Ok(None),
             Some((_, Some(answer))) if !self.has_all(&loaded.stem, &answer) => "what was filed with this answer has changed",
+            Some((_, Some(_))) if !self.has_text(&loaded.stem, &loaded.text()?) => {
+                "the answer that is filed is to another text than that of this case"
+            }
             Some((_, Some(answer))) => match answer.is_by(wanted, asking) {
                 true => return Ok(Some(answer.resumed(&loaded.name, wanted.strict))),
                 false => "the answer that is filed is not by the solver that is chosen",
@@ -85,6 +91,11 @@ impl Keep {
             plain_file(&self.file(stem, ending)).is_ok_and(|bytes| sha256::hex(&bytes) == *hash)
         };
         answer.files.iter().all(is_same)
+    }
+
+    /// Whether this is the text that was asked about.
+    fn has_text(&self, stem: &OsStr, text: &str) -> bool {
+        plain_file(&self.file(stem, TEXT)).is_ok_and(|bytes| bytes == text.as_bytes())
     }
 
     /// Removes what is there of an earlier answer, where it is to be replaced.
@@ -121,7 +132,7 @@ impl Keep {
 
 /// What is kept of an answer: endings, and what the files have.
 fn texts(loaded: &Loaded, solved: &Solved) -> Vec<(String, Vec<u8>)> {
-    let mut texts = vec![("smt2".to_string(), solved.text.clone().into_bytes())];
+    let mut texts = vec![(TEXT.to_string(), solved.text.clone().into_bytes())];
     texts.extend(solved.asked.iter().map(|asked| match solved.asked.len() {
         1 => ("reply".to_string(), asked.reply.clone()),
         _ => (format!("reply-{}", asked.solver), asked.reply.clone()),

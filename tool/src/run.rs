@@ -61,7 +61,7 @@ impl Run {
         Some(format!(
             "record {} {} too, but a run that is cut off is not legal; one that stops before record {failed} violates",
             fault.record,
-            fault.sort()
+            fault.predicate()
         ))
     }
 

@@ -218,7 +218,7 @@ impl Talk<'_> {
             text.push('\n');
         }
         if let Some(fault) = first_fault(&self.run.steps) {
-            text.push_str(&format!("record {} {}: a run that stops here violates\n", fault.record, fault.sort()));
+            text.push_str(&format!("record {} {}: a run that stops here violates\n", fault.record, fault.predicate()));
         }
         text
     }

@@ -87,8 +87,8 @@ fn violated(loaded: &Loaded, solvers: &[&str], found: &Found) -> String {
     let asked = match run.ending {
         Ending::Violated(first) if first.record != fault.record => {
             let whose = fault.whose(&loaded.case).map(|whose| format!(" ({whose})")).unwrap_or_default();
-            let (record, sort, first) = (fault.record, fault.sort(), first.record);
-            format!("record {record}, which was asked about, {sort} too{whose}, after record {first}\n")
+            let (record, is, first) = (fault.record, fault.predicate(), first.record);
+            format!("record {record}, which was asked about, {is} too{whose}, after record {first}\n")
         }
         _ => String::new(),
     };

@@ -79,6 +79,14 @@ fn what_lines_find() {
             let place = steps.iter().position(|step| step.record == record && !matches!(step.event, Event::Skipped(_)));
             let wanted = place.map(|place| starts[place].clone());
             assert_eq!(loaded.items_before(record, &schedule), wanted, "case {number}, record {record}");
+            if let Some(place) = place {
+                // The same by the run of the case itself that stops right before the line.
+                let cut: Vec<u16> = (0..=loaded.case.switches)
+                    .map(|block| steps[..place].iter().filter(|step| step.block == block).count() as u16)
+                    .collect();
+                let (_, items) = loaded.replay("a run cut short", &cut).expect("it is taken");
+                assert_eq!(Some(items), wanted, "case {number}, record {record}");
+            }
             saw(if wanted.is_some() { "reached" } else { "not reached" });
             if loaded.case.record(record).kind == Kind::Unlock {
                 let fault = place.and_then(|place| match steps[place].event {
