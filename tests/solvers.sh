@@ -318,6 +318,13 @@ by_trying() {
         told=$(sed -n 's/^  record \([0-9]*\) .*: reached, e.g.*/\1/p' "$scratch/out" | sort -n | tr '\n' ' ')
         reached=$(tr ' ' '\n' <<<"$reached" | grep . | sort -nu | tr '\n' ' ')
         result "$name: told are '$told', reached are '$reached'" test -n "$told" -a "$told" = "$reached"
+        # What is told is a schedule whose run is legal, and runs the line with a true guard.
+        sed -n 's/^  record \([0-9]*\) .*: reached, e.g. schedule \(.*\)/\1 \2/p' "$scratch/out" >"$scratch/told"
+        while read -r a b; do
+            out=$(echo "$b" | target/menduvo/release/menduvo replay "$scratch/$name.case" -) status=
+            result "$name: schedule $b reaches record $a" eval \
+                '[[ $out != *"cut off:"* ]] && sed "/skipped: /d" <<<"$out" | grep -qE "^[ >]*line +[0-9]+  record +$a "'
+        done <"$scratch/told"
     done
 }
 
