@@ -209,7 +209,7 @@ walkBack case sources i g (l ∷ earlier) =
     (select (equal (blockOf (l .number)) (constant i)) (same sources (blockValue case i g) (valueOf (l .number))) (walkBack case sources i g earlier))
     (walkBack case sources i g earlier)
 
--- Line l unlocks what its thread does not hold: it was run, and where its guard is true it does not read its thread as holder.
+-- Line l unlocks what its thread does not hold: it was run, its guard is true, and it does not read its thread as holder.
 unfoldable pub unlocksAsStranger : Case → List ℕ → Line → ℕ → ℕ → Formula
 unlocksAsStranger case sources l guard target =
     negation (join disjunction (notRun case (l .number)) (mutexReads case sources (constant (holder l)) l guard target))
