@@ -293,15 +293,15 @@ filing() {
     says 'a changed page is told' 1 'picture-2.svg' "$menduvo" verify "$scratch/filed"
 }
 
-# The unit tests of the command: the pictures of many runs, with names of any length; whose mutexes were, in many runs; and the parts of
-# a text.
+# The unit tests of the command: the pictures of many runs, with names of any length; whose mutexes were, in many runs; which lines a
+# run reaches; and the parts of a text.
 many_runs() {
     # Not by run, since it may take longer where it must be built.
     out=$(cargo test --offline --manifest-path tool/Cargo.toml --target-dir target/picture 2>&1)
     status=$?
     local name
     for name in picture::tests::many_runs fault::tests::what_lines_find fault::tests::every_line_has_a_part \
-        smt::tests::some_parts_stay smt::tests::another_last_assertion; do
+        smt::tests::some_parts_stay smt::tests::another_last_assertion reach::tests::lines_of_a_legal_run reach::tests::no_lines_of_another; do
         result "$name" eval '[ "$status" = 0 ] && [[ $out = *"test $name ... ok"* ]]'
     done
 }

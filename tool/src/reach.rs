@@ -17,6 +17,9 @@ use crate::solve::{verdict, Ask, Verdict};
 use crate::solver::Asked;
 use crate::words::{count, enumeration};
 
+#[cfg(test)]
+mod tests;
+
 /// Whether some legal run within the bound reaches a line with a true guard.
 #[derive(Clone, Debug, PartialEq, Eq)]
 pub enum Reached {
