@@ -3,20 +3,20 @@
 -- Assumes nothing. Met again where encoder, checker and schedule count, in the listing's text, and in delivered's Delivered.
 use mathlib.Core.Path.{_≡_, refl}
 use mathlib.Core.Logic.{_≢_}
-use Prim.Native.Nat.{ℕ, zero, suc, _*_, _%_, _≤_, _<_}
-use mathlib.Core.Bool.{Bool, true, false}
+use Prim.Native.Nat.{ℕ, zero, suc, _+_, _-_, _*_, _%_, _≤_, _<_}
+use mathlib.Core.Bool.{Bool, true, false, cond}
 use mathlib.Core.List.{List, [], _∷_, _++_, reverse}
 use native.Mathlib.Omega.{arith}
 use native.Mathlib.Nat.{mul-le-mul, zero-mul, suc-mul, le-refl}
 use borrow.Author.Tests.{le-leb}
 use lib.Dec.{eqb}
-use lib.ListN.{length, length-append}
+use lib.ListN.{getD, length, length-append}
 use Rattle.model.specs.Lists.{unless}
-use Rattle.model.specs.Limits.{mostCaseBytes, mostRecords, mostSwitches, mostItems, mostVariables, mostScheduleNumbers, mostConstraints, mostTableNumbers}
+use Rattle.model.specs.Limits.{mostCaseBytes, mostThreads, mostLines, mostRecords, mostSwitches, mostItems, mostVariables, mostScheduleNumbers, mostConstraints, mostTableNumbers}
 use Rattle.model.specs.CaseFile.{Kind, compute, store, load, input, assert, assume, lock, unlock, Line, Case, records, threadCount, switchCount, chains, caseOf, linesOf, itemCount, sumOfLines, sumOfThreads}
-use Rattle.model.specs.Line.{isInput}
+use Rattle.model.specs.Line.{visible, isInput}
 use Rattle.model.specs.Assignment.{variables}
-use Rattle.model.specs.Table.{Row, lineOrderRows, orderRows, demandRows, valueRows, allOrderRows, allValueRows, itemRows, blockRows, runRows, goalRow, table, numbersOf}
+use Rattle.model.specs.Table.{Row, row, followRow, stayRows, lineOrderRows, orderRows, demandRows, valueRows, allOrderRows, allValueRows, itemRows, blockRows, runRows, goalRow, table, numbersOf}
 use Rattle.model.specs.Machine.{Outcome, refused14, cutOff, violated, clean}
 use Rattle.model.specs.Schedule.{inputLines, allInputLines, scheduleSize, blockLengths, lengthsFit, runOf}
 use Rattle.model.specs.Accept.{sizeOk, threadsOk, switchesOk, itemsOk, absentOk, linksOk, reachedOk, lengthsOk, brokenRecord, verdict}
@@ -26,12 +26,13 @@ use Rattle.model.specs.declared.Verdict.the-variants as verdicts
 use Rattle.model.specs.declared.Decoded.the-variants as decodeds
 use Rattle.model.specs.declared.Replayed.the-variants as replayeds
 use Rattle.laws.specs.Accepted.{Accepted}
-use Rattle.laws.specs.RowCounts.{orderRowCount, valueRowCount}
+use Rattle.laws.specs.RowCounts.{orderRowCount, isFirst, valueRowCount}
 use Rattle.laws.specs.Sizes.{Sizes, LargestSizes, NeverTooShort}
 use Rattle.laws.proofs.Accepted.{accepted-of}
 use Rattle.laws.proofs.OnCase.{on-accepted, on-refused}
 use Rattle.laws.proofs.Counting.{sum-of-bits}
 use Rattle.laws.proofs.RecordSums.{lines-add-up}
+use Rattle.laws.proofs.Chains.{thread-count}
 
 -- Six numbers a row.
 pub six-a-row : (rows : List Row) → length (numbersOf rows) ≡ 6 * length rows
@@ -51,12 +52,23 @@ lines-are-few : (bytes : List ℕ) → Accepted bytes → lineCount (chains byte
 lines-are-few bytes ok =
     omega (arith, lines-add-up (λ k. 1) bytes ok (λ l. 1) (λ t k. refl), sum-of-bits (λ k. 1) 1 (records bytes) (λ k. le-refl 1))
 
--- The 3s, 1s and 2s: so many a line.
-pub line-order-length : (case : Case) (t : ℕ) (earlier : List Line) (l : Line) (ls : List Line) → length (lineOrderRows case t earlier l ls) ≡ orderRowCount
-unfolding lineOrderRows
-line-order-length case t earlier l ls = refl
+-- The 3s, 8s, 1s and 2s: so many a line.
+pub line-order-length : (case : Case) (t : ℕ) (earlier : List Line) (l : Line) (ls : List Line)
+    → length (lineOrderRows case t earlier l ls) ≡ orderRowCount (isFirst earlier) (l .kind)
+unfolding lineOrderRows stayRows orderRowCount
+line-order-length case t [] l ls = refl
+line-order-length case t (before ∷ earlier) l ls = go (visible (l .kind))
+  where
+    go : (q : Bool) → suc (length (cond q [] (row 8 (l .number) (before .number) 0 0 0 ∷ []) ++ (followRow case l ls ∷ []))) ≡ cond q 2 3
+    go true = refl
+    go false = refl
 
-pub order-length : (case : Case) (t : ℕ) (earlier ls : List Line) → length (orderRows case t earlier ls) ≡ orderRowCount * length ls
+-- Those of lines, of which the first is its thread's first or not.
+abbrev pub orderCount : Bool → List Line → ℕ
+orderCount first [] = 0
+orderCount first (l ∷ ls) = orderRowCount first (l .kind) + orderCount false ls
+
+pub order-length : (case : Case) (t : ℕ) (earlier ls : List Line) → length (orderRows case t earlier ls) ≡ orderCount (isFirst earlier) ls
 unfolding orderRows
 order-length case t earlier [] = refl
 order-length case t earlier (l ∷ ls) =
@@ -67,16 +79,36 @@ order-length case t earlier (l ∷ ls) =
       order-length case t (l ∷ earlier) ls,
     )
 
-orders-length : (case : Case) (t : ℕ) (threads : List (List Line)) → length (allOrderRows case t threads) ≡ orderRowCount * lineCount threads
+pub order-count-at-most : (first : Bool) (kind : Kind) → orderRowCount first kind ≤ 3
+unfolding orderRowCount
+order-count-at-most true kind = omega arith
+order-count-at-most false kind = go (visible kind)
+  where
+    go : (q : Bool) → cond q 2 3 ≤ 3
+    go true = omega arith
+    go false = omega arith
+
+later-at-most : (ls : List Line) → orderCount false ls ≤ 3 * length ls
+later-at-most [] = omega arith
+later-at-most (l ∷ ls) = omega (arith, order-count-at-most false (l .kind), later-at-most ls)
+
+order-at-most : (ls : List Line) → length ls ≤ mostLines → orderCount true ls ≤ 2 * length ls + (mostLines - 1)
+unfolding orderRowCount
+order-at-most [] few = omega arith
+order-at-most (l ∷ ls) few = omega (arith, later-at-most ls)
+
+orders-at-most : (case : Case) (t : ℕ) (threads : List (List Line)) → ((u : ℕ) → u < length threads → length (getD threads u []) ≤ mostLines)
+    → length (allOrderRows case t threads) ≤ 2 * lineCount threads + length threads * (mostLines - 1)
 unfolding allOrderRows
-orders-length case t [] = refl
-orders-length case t (ls ∷ threads) =
+orders-at-most case t [] few = omega arith
+orders-at-most case t (ls ∷ threads) few =
     omega (
       arith,
       length-append (orderRows case t [] ls) (allOrderRows case (suc t) threads),
       order-length case t [] ls,
+      order-at-most ls (few 0 (omega arith)),
       lines-counted ls,
-      orders-length case (suc t) threads,
+      orders-at-most case (suc t) threads (λ u h. few (suc u) (omega arith)),
     )
 
 -- The 4s and 5s: so many a line, and at most two.
@@ -181,8 +213,16 @@ module _ (bytes : List ℕ) (ok : Accepted bytes) where
   schedule-numbers =
       omega (arith, ok .few-records, ok .few-switches, all-inputs-at-most (chains bytes 0 (threadCount bytes)), lines-are-few bytes ok)
 
-  pub order-rows : length (allOrderRows (caseOf bytes) 0 (caseOf bytes .threads)) ≤ 2 * mostRecords
-  order-rows = omega (arith, orders-length (caseOf bytes) 0 (caseOf bytes .threads), lines-are-few bytes ok, ok .few-records)
+  pub order-rows : length (allOrderRows (caseOf bytes) 0 (caseOf bytes .threads)) ≤ 2 * mostRecords + mostThreads * (mostLines - 1)
+  order-rows =
+      omega (
+        arith,
+        orders-at-most (caseOf bytes) 0 (caseOf bytes .threads) (λ t h. ok .few-lines t (omega (arith, thread-count bytes))),
+        thread-count bytes,
+        ok .few-threads,
+        lines-are-few bytes ok,
+        ok .few-records,
+      )
 
   pub value-rows : length (allValueRows (caseOf bytes) (caseOf bytes .threads)) ≤ 2 * mostRecords
   value-rows = omega (arith, values-at-most (caseOf bytes) (caseOf bytes .threads), lines-are-few bytes ok, ok .few-records)

@@ -1,9 +1,12 @@
--- What holds of every line of a thread, and the order of a thread's block numbers: what constraints 1 to 3 say.
+-- What holds of every line of a thread, and the order of a thread's block numbers: what constraints 1 to 3 say, and what the 8s say.
 -- Assumes nothing.
 use mathlib.Core.Path.{_≡_}
 use Prim.Native.Nat.{ℕ, suc, _%_, _≤_, _<_}
+use mathlib.Core.Bool.{true, false}
 use mathlib.Core.List.{List, [], _∷_}
 use Rattle.model.specs.CaseFile.{Line, Case}
+use Rattle.model.specs.Line.{visible}
+use Rattle.model.specs.Assignment.{wasRun}
 
 -- What holds of every line of a thread, and of every line of every thread.
 abbrev pub AllLines : (Line → Type 0) → List Line → Type 0
@@ -29,3 +32,15 @@ pub record InOrder (case : Case) (t low x : ℕ) : Type 0 where
 abbrev pub Ordered : Case → (ℕ → ℕ) → ℕ → ℕ → List Line → Type 0
 Ordered case block t low [] = Unit
 Ordered case block t low (l ∷ ls) = InOrder case t low (block (l .number)) × Ordered case block t (block (l .number)) ls
+
+-- Constraint 8 at a line after these earlier ones, latest first: where it is invisible and was run, it has the block number of the line
+-- before it.
+abbrev pub StaysAfter : Case → (ℕ → ℕ) → List Line → Line → Type 0
+StaysAfter case block [] l = Unit
+StaysAfter case block (before ∷ earlier) l =
+    visible (l .kind) ≡ false → wasRun case (block (l .number)) ≡ true → block (l .number) ≡ block (before .number)
+
+-- Along a thread's lines.
+abbrev pub Stays : Case → (ℕ → ℕ) → List Line → List Line → Type 0
+Stays case block earlier [] = Unit
+Stays case block earlier (l ∷ ls) = StaysAfter case block earlier l × Stays case block (l ∷ earlier) ls

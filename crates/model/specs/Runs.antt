@@ -2,13 +2,13 @@
 -- Assumes nothing.
 use mathlib.Core.Path.{_≡_}
 use Prim.Native.Nat.{ℕ, zero, suc, _%_, _≤_, _<_}
-use mathlib.Core.Bool.{Bool, true, false, cond}
-use mathlib.Core.List.{List, [], _∷_, _++_}
-use lib.Dec.{eqb}
+use mathlib.Core.Bool.{Bool, true, false, cond, not, _&&_}
+use mathlib.Core.List.{List, [], _∷_, _++_, map}
+use lib.Dec.{eqb, ltb}
 use lib.ListN.{length}
 use Rattle.model.specs.Word.{wordSize, AllBelow}
 use Rattle.model.specs.CaseFile.{Line, Case, linesOf}
-use Rattle.model.specs.Line.{Reads, valueOf, stops, breaks, strayInput}
+use Rattle.model.specs.Line.{Reads, valueOf, stops, breaks, visible, strayInput}
 use Rattle.model.specs.Machine.{Memory, State, readsIn, stepped, start, restIn, memoryIn, afterBlock, firstStrayLeft}
 use Rattle.model.specs.Schedule.{blockLengths, givenIn, scheduleSize, stepsOf, lengthsFit}
 
@@ -95,10 +95,27 @@ runSteps case schedule = upToFirst (ends case (givenIn case schedule)) (courseOf
 abbrev pub lastItems : Case → List ℕ → List ℕ
 lastItems case schedule = lastState case (givenIn case schedule) 0 (blockLengths case schedule) (start case) .items
 
--- The lines that thread t runs in these steps: "Block i (0 to n) belongs to thread i modulo T".
+-- The steps of thread t among these: "Block i (0 to n) belongs to thread i modulo T"; and the lines that it runs in them.
+abbrev pub threadSteps : Case → ℕ → List Step → List Step
+threadSteps case t [] = []
+threadSteps case t (s ∷ steps) = cond (eqb t (s .block % case .T)) (s ∷ threadSteps case t steps) (threadSteps case t steps)
+
 abbrev pub linesRun : Case → ℕ → List Step → List Line
-linesRun case t [] = []
-linesRun case t (s ∷ steps) = cond (eqb t (s .block % case .T)) (s .line ∷ linesRun case t steps) (linesRun case t steps)
+linesRun case t steps = map (λ s. s .line) (threadSteps case t steps)
+
+-- Five: "An invisible line that is not its thread's first takes the block number of the line before it". Whether a step of a thread runs
+-- an invisible line in a later block than the line before it; that none of a thread's steps does; and that none of a schedule's does:
+-- "the schedules that keep the rule".
+abbrev pub late : Step → Step → Bool
+late before s = not (visible (s .line .kind)) && ltb (before .block) (s .block)
+
+abbrev pub NoneLate : List Step → Type 0
+NoneLate [] = Unit
+NoneLate (before ∷ []) = Unit
+NoneLate (before ∷ (s ∷ steps)) = (late before s ≡ false) × NoneLate (s ∷ steps)
+
+abbrev pub KeepsRule : Case → List ℕ → Type 0
+KeepsRule case schedule = (t : ℕ) → t < case .T → NoneLate (threadSteps case t (courseOf case schedule))
 
 -- Two: "A run is legal when nothing cuts it off", that is "when every guarded-in assume holds and every guarded-in lock finds its mutex
 -- at 0."

@@ -239,12 +239,13 @@ someThreadBreaks case sources (ls ∷ threads) = someBreaks case sources [] ls (
 unfoldable pub assertionOf : Case → List ℕ → Row → Formula
 assertionOf case sources w =
     cond (eqb (w .kind) 3) (join disjunction (notRun case (w .one)) (equal (apply bvurem (blockOf (w .one)) (constant (w .two))) (constant (w .three))))
+    (cond (eqb (w .kind) 8) (join disjunction (notRun case (w .one)) (equal (blockOf (w .one)) (blockOf (w .two))))
     (cond (eqb (w .kind) 1) (test bvule (blockOf (w .one)) (blockOf (w .two)))
     (cond (eqb (w .kind) 2) (test bvule (blockOf (w .one)) (constant (suc (w .two))))
     (cond (eqb (w .kind) 4) (valueAssertion case sources (w .one) (w .two) (w .three) (w .four) (w .five))
     (cond (eqb (w .kind) 5) (join disjunction (notRun case (w .one)) (demandAssertion (lineAt case (w .one) .kind) case sources (lineAt case (w .one)) (w .two) (w .three)))
     (cond (eqb (w .kind) 6) (walkBack case sources (w .two) (w .one) (fromRecord (w .three) (reverse (linesOf case (w .two % case .T)))))
-    (cond (eqb (w .kind) 7) (someThreadBreaks case sources (case .threads)) (truth false)))))))
+    (cond (eqb (w .kind) 7) (someThreadBreaks case sources (case .threads)) (truth false))))))))
 
 -- One assertion for each row, in the table's order; the script of a case.
 unfoldable pub assertionsOf : Case → List ℕ → List Row → List Formula
