@@ -1,48 +1,36 @@
+-- `put_order` writes a line's 3, its 8 where it has one, and its 1 or 2. Assumes nothing.
 use borrow.Author.Needs.{needs}
+use native.Mathlib.Omega.{arith}
+use Rattle.rows.proofs.Made.{order-put, eight-size}
 use Rattle.rows.proofs.put_order.Statement.{statement}
 use Rattle.rows.proofs.put_order.Tie as tie
-use Rattle.rows.proofs.put_order.Reads as reads
-use Rattle.rows.proofs.put_order.Lts as lts
-use Rattle.rows.proofs.follow_row.Reads as follow-row-reads
-use Rattle.rows.proofs.put_row.Reads as put-row-reads
-use Rattle.rows.proofs.put_stay.Reads as put-stay-reads
-use Rattle.rows.proofs.thread_row.Reads as thread-row-reads
 
--- src/lib.rt:112:9
 thread-row-requires : tie.Need-thread-row-requires
 thread-row-requires c κs = search needs
 
--- src/lib.rt:113:5
 put-row-requires : tie.Need-put-row-requires
-put-row-requires c κs = ?
+put-row-requires c κs = omega (arith, eight-size (c .before .before .before .args .link))
 
--- src/lib.rt:114:33
 add-put-stay : tie.Need-add-put-stay
 add-put-stay c = search needs
 
--- src/lib.rt:114:9
 put-stay-requires : tie.Need-put-stay-requires
-put-stay-requires c κs = ?
+put-stay-requires c κs = omega (arith, eight-size (c .before .before .before .before .before .before .before .args .link))
 
--- src/lib.rt:115:9
 follow-row-requires : tie.Need-follow-row-requires
 follow-row-requires c κs = search needs
 
--- src/lib.rt:116:5
 put-row-requires-2 : tie.Need-put-row-requires-2
-put-row-requires-2 c κs = ?
+put-row-requires-2 c κs = omega (arith, eight-size (c .before .before .before .before .before .before .before .before .before .before .before .before .args .link), c .before .before .before .before .put-stay .ensures .place)
 
--- src/lib.rt:117:5
 add-result : tie.Need-add-result
-add-result c = ?
+add-result c = omega (arith, eight-size (c .before .before .before .before .before .before .before .before .before .before .before .before .before .before .before .args .link), c .before .before .before .before .before .before .before .put-stay .ensures .place)
 
--- src/lib.rt:108:1
 same-length : tie.Need-same-length
 same-length c = search needs
 
--- src/lib.rt:108:1
 returns : tie.Need-returns
-returns c = ?
+returns c = λ case earlier l ls s eT en. order-put _ case earlier l ls s eT (c .before .before .before .before .before .before .before .before .before .before .before .before .before .thread-row .ensures) (c .before .before .before .before .follow-row .ensures case earlier l ls s en) (c .before .before .before .before .before .before .before .before .before .before .before .put-row .ensures) (c .before .before .before .before .before .before .before .put-stay .ensures) (c .before .before .put-row2 .ensures)
 
 pub put-order-spec : {M : Type 1} → statement M
 put-order-spec =

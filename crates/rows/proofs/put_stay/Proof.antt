@@ -1,39 +1,37 @@
+-- `put_stay` writes the 8 of a line that has one. Assumes nothing.
+use mathlib.Core.Path.{ap}
+use mathlib.Core.List.{List}
 use borrow.Author.Needs.{needs}
+use native.Mathlib.Omega.{arith}
+use lib.ListN.{length}
+use Rattle.model.specs.Table.{Row, numbersOf}
+use Rattle.laws.proofs.Writing.{put-nothing}
+use Rattle.rows.proofs.Made.{put-one, eight-by}
 use Rattle.rows.proofs.put_stay.Statement.{statement}
 use Rattle.rows.proofs.put_stay.Tie as tie
-use Rattle.rows.proofs.put_stay.Reads as reads
-use Rattle.rows.proofs.put_stay.Lts as lts
-use Rattle.line.proofs.stays.Reads as stays-reads
-use Rattle.rows.proofs.put_row.Reads as put-row-reads
-use Rattle.rows.proofs.stay_row.Reads as stay-row-reads
 
--- src/lib.rt:99:8
 stays-requires : tie.Need-stays-requires
 stays-requires c κs = search needs
 
--- src/lib.rt:100:13
 stay-row-requires : tie.Need-stay-row-requires
 stay-row-requires c κs = search needs
 
--- src/lib.rt:101:9
 put-row-requires : tie.Need-put-row-requires
-put-row-requires c κs = ?
+unfolding numbersOf
+put-row-requires c κs = omega (arith, c .before .before .before .before .before .before .pre, ap (λ (ws : List Row). length (numbersOf ws)) (eight-by (c .before .before .before .before .before .before .args .link) (c .before .before .before .stays .ensures) (c .before .before .if1 .taken)))
 
--- src/lib.rt:102:16
 add-result : tie.Need-add-result
 add-result c = search needs
 
--- src/lib.rt:102:9
 same-length : tie.Need-same-length
 same-length c = search needs
 
--- src/lib.rt:102:9
 returns : tie.Need-returns
-returns c = ?
+returns c = rw (eight-by (c .before .before .before .before .before .before .before .before .before .args .link) (c .before .before .before .before .before .before .stays .ensures) (c .before .before .before .before .before .if1 .taken)) (put-one (c .before .before .put-row .ensures) (c .before .before .before .before .stay-row .ensures))
 
--- src/lib.rt:95:1
 returns-2 : tie.Need-returns-2
-returns-2 c = ?
+unfolding numbersOf
+returns-2 c = rw (eight-by (c .before .before .before .before .args .link) (c .before .stays .ensures) (c .if1 .left)) put-nothing
 
 pub put-stay-spec : {M : Type 1} → statement M
 put-stay-spec =
