@@ -27,6 +27,14 @@ order-count-at-least first kind = rw (← (rows-by-eight first kind refl refl)) 
     go true = omega arith
     go false = omega arith
 
+-- a line that was not run meets its 8
+pub unrun-stayed : (bytes xs : List ℕ) (link : Link) (block : ℕ) → wasRun (caseOf bytes) block ≡ false → true ≡ stayedIn bytes xs link block
+unrun-stayed bytes xs link block unrun = rw unrun (go (hasEight (eqb (link .before) 0) (kindOf (link .kind))))
+  where
+    go : (q : Bool) → true ≡ cond q true true
+    go true = refl
+    go false = refl
+
 module _ (bytes xs : List ℕ) (t : ℕ) (link : Link) (block : ℕ) (eb : block ≡ recordBlock xs (link .line)) where
   follow-holds : holds (caseOf bytes) (assignmentOf (caseOf bytes) xs) (followRow (caseOf bytes) (lineOf bytes t (link .line)) (neighbour bytes t (link .next)))
       ≡ leb block (mostBlock bytes xs (link .next))

@@ -32,10 +32,10 @@ fn stayed(case: &[u8], assignment: &[u16], link: Link, block: u16) -> bool
     requires { ⌜ Accepted (now case) ⌝ }
     ensures { λ r. ⌜ r ≡ stayedIn (now (case .entry)) (now (assignment .entry)) link block ⌝ }
 {
-    if !stays(link.before == 0, link.kind) {
+    if !was_run(case, block) {
         return true;
     }
-    if was_run(case, block) {
+    if stays(link.before == 0, link.kind) {
         return block == block_of(assignment, link.before);
     }
     true
@@ -57,12 +57,13 @@ fn line_order(case: &[u8], assignment: &[u16], t: u16, at: u16, link: Link) -> u
     requires { ⌜ AtConstraint (now case) at link ⌝ }
     ensures { λ r. ⌜ r ≡ failingIn (now (case .entry)) (now (assignment .entry)) at (linkRows (now (case .entry)) t link) ⌝ }
 {
+    let second = at + 1;
     let block = block_of(assignment, link.line);
     if !own_block(case, t, block) {
         return at;
     }
     if !stayed(case, assignment, link, block) {
-        return at + 1;
+        return second;
     }
     if block <= most_block(case, assignment, link.next) {
         return 0;

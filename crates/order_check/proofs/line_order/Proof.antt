@@ -9,6 +9,9 @@ use borrow.Author.Needs.{needs}
 use Rattle.order_check.proofs.line_order.Statement.{statement}
 use Rattle.order_check.proofs.line_order.Tie as tie
 
+add-second : tie.Need-add-second
+add-second c = search needs
+
 block-of-requires : tie.Need-block-of-requires
 block-of-requires c κs = search needs
 
@@ -20,9 +23,6 @@ returns c = thread-fails _ _ _ (c .before .before .before .before .before .args 
 
 stayed-requires : tie.Need-stayed-requires
 stayed-requires c κs = search needs
-
-add-result : tie.Need-add-result
-add-result c = search needs
 
 returns-2 : tie.Need-returns-2
 returns-2 c = stay-fails _ _ _ (c .before .before .before .before .before .before .before .args .link) _ (c .before .before .before .before .block-of .ensures) (c .before .before .before .before .before .before .before .args .at) (c .before .before .before .before .before .before .before .pre .kind) (passed (c .before .before .before .own-block .ensures) (c .before .before .if1 .left)) (failed (c .before .stayed .ensures) (c .if2 .taken))
@@ -42,8 +42,8 @@ sub-result c = omega (arith, c .order-rows .ensures, order-count-at-least (eqb (
 cast-result : tie.Need-cast-result
 cast-result c = omega (arith, c .order-rows .ensures, order-count-at-most (eqb (c .before .before .before .before .before .before .before .before .before .before .before .args .link .before) 0) (kindOf (c .before .before .before .before .before .before .before .before .before .before .before .args .link .kind)))
 
-add-result-2 : tie.Need-add-result-2
-add-result-2 c = omega (arith, c .order-rows .ensures, order-count-at-most (eqb (c .before .before .before .before .before .before .before .before .before .before .before .args .link .before) 0) (kindOf (c .before .before .before .before .before .before .before .before .before .before .before .args .link .kind)), c .before .before .before .before .before .before .before .before .before .before .before .pre .number)
+add-result : tie.Need-add-result
+add-result c = omega (arith, c .order-rows .ensures, order-count-at-most (eqb (c .before .before .before .before .before .before .before .before .before .before .before .args .link .before) 0) (kindOf (c .before .before .before .before .before .before .before .before .before .before .before .args .link .kind)), c .before .before .before .before .before .before .before .before .before .before .before .pre .number)
 
 returns-4 : tie.Need-returns-4
 returns-4 c = follow-fails _ _ _ (c .before .before .before .before .before .before .before .before .before .before .before .args .link) _ (c .before .before .before .before .before .before .before .before .block-of .ensures) (c .before .before .before .before .before .before .before .before .before .before .before .args .at) (c .before .before .before .before .before .before .before .before .before .before .before .pre .kind) (passed (c .before .before .before .before .before .before .before .own-block .ensures) (c .before .before .before .before .before .before .if1 .left)) (passed (c .before .before .before .before .before .stayed .ensures) (c .before .before .before .before .if2 .left)) _ (c .before .before .before .most-block .ensures) (c .before .before .if3 .left) (c .order-rows .ensures)
@@ -52,16 +52,16 @@ pub line-order-spec : {M : Type 1} → statement M
 line-order-spec =
     tie.close
     (tie.spec
+    add-second
     block-of-requires
     own-block-requires
     returns
     stayed-requires
-    add-result
     returns-2
     most-block-requires
     returns-3
     order-rows-requires
     sub-result
     cast-result
-    add-result-2
+    add-result
     returns-4)

@@ -2,10 +2,8 @@
 use mathlib.Core.Path.{refl}
 use native.Mathlib.Omega.{arith}
 use lib.ListN.{length}
-use Rattle.model.specs.CaseFile.{kindOf}
 use Rattle.laws.specs.Accepted.{linesFrom}
 use Rattle.laws.proofs.Following.{next-low, lines-less}
-use Rattle.laws.proofs.Sizes.{order-count-at-most}
 use Rattle.order_check.proofs.ThreadOrder.{ThreadOrder, thread-start, thread-end, thread-number, thread-room, thread-found, thread-more}
 use borrow.Author.Needs.{needs}
 use Rattle.order_check.proofs.thread_order.Statement.{statement}
