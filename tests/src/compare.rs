@@ -155,7 +155,7 @@ fn same_check(calls: &dyn Calls, case: &[u8], assignment: &[u16], tally: &mut Ta
     match wanted {
         Checked::Meets => tally.saw("met"),
         Checked::Fails(constraint) => {
-            tally.saw(format!("a {} failed first", kind_of(case, constraint)));
+            tally.saw(format!("constraint {} failed first", kind_of(case, constraint)));
         }
         Checked::Refused { number, .. } => tally.saw(format!("refused {number}")),
     }

@@ -29,6 +29,7 @@ mod program;
 mod proved;
 mod random;
 mod report;
+mod rule;
 mod samples;
 mod script;
 mod search;

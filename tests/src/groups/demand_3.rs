@@ -2,7 +2,7 @@
 //! and some schedules of large ones.
 
 use crate::calls::Calls;
-use crate::demand3::{compare, seen_alike};
+use crate::demand3::{compare, seen_alike, Written};
 use crate::fill::{of_several, UNLOCKS, VIOLATIONS};
 use crate::generate::{accepted, Shape};
 use crate::generate::{
@@ -10,7 +10,6 @@ use crate::generate::{
 };
 use crate::random::Random;
 use crate::report::{Outcome, Report, Tally};
-use crate::table::table_of;
 use crate::vary::schedule;
 
 /// How many large cases are taken.
@@ -67,10 +66,10 @@ fn some_schedules(calls: &dyn Calls, tally: &mut Tally) -> Outcome {
     for seed in 0..LARGE_CASES {
         let mut random = Random::from_seed(80_000_000 + seed);
         let draft = accepted(&mut random, [ANY, LONG, FULL, MANY_HOLDERS][seed as usize % 4]);
-        let table = table_of(calls, &draft.bytes())?;
+        let written = Written::of(calls, &draft, tally)?;
         for _ in 0..10 {
             let schedule = schedule(&mut random, &draft);
-            seen_alike(calls, &draft, &table, &schedule, tally)
+            seen_alike(calls, &draft, &written, &schedule, tally)
                 .map_err(|message| format!("seed {seed}: {message}; case {draft}"))?;
         }
     }
