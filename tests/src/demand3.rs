@@ -197,6 +197,15 @@ fn seen_by_decoder(
     tally.same(decoded, Decoded::Refused { number: 15, place }, about)
 }
 
+/// What is noted of legal runs and the rule.
+pub const MOVED: [&str; 5] = [
+    "violated, and the rule kept",
+    "clean, and the rule kept",
+    "clean, and moved",
+    "violated, and moved",
+    "violated, and at another line first when moved",
+];
+
 /// A legal run has one that keeps the rule, with the same input values: it ends with
 /// the same items, and violates at the same lines, though maybe in another order.
 fn same_when_moved(
@@ -222,13 +231,14 @@ fn same_when_moved(
         lines
     };
     tally.same(in_order(watch(draft, &moved).violations), in_order(violations.to_vec()), about)?;
-    tally.saw(match (moved == schedule, violates(reply)) {
-        (true, true) => "keeps the rule, and violates",
-        (true, false) => "keeps the rule, and is clean",
-        (false, true) if moved_reply != reply => "keeps the rule not, and another line violates first when moved",
-        (false, true) => "keeps the rule not, and violates",
-        (false, false) => "keeps the rule not, and is clean",
-    });
+    let place = match (moved == schedule, violates(reply)) {
+        (true, true) => 0,
+        (true, false) => 1,
+        (false, false) => 2,
+        (false, true) if moved_reply == reply => 3,
+        (false, true) => 4,
+    };
+    tally.saw(MOVED[place]);
     Ok(())
 }
 

@@ -11,8 +11,8 @@ use crate::demand3::small_case;
 use crate::draft::Draft;
 use crate::enumerate::{block_lengths, runs_all_lines, schedules, schedules_with_all_values};
 use crate::generate::{
-    Shape, BUSY, BUSY_WITH_INPUTS, FOUR_HOLDERS, FOUR_THREADS, HOLDERS, HOLDERS_WITH_INPUTS, SMALL, TINY, TINY_HOLDERS,
-    TINY_WITH_INPUTS,
+    Shape, BUSY, BUSY_WITH_INPUTS, FOUR_HOLDERS, FOUR_THREADS, HOLDERS, HOLDERS_WITH_INPUTS, SMALL, STRETCHES,
+    STRETCHES_WITH_INPUTS, TINY, TINY_HOLDERS, TINY_WITH_INPUTS,
 };
 use crate::line::{assert, constant, Line, ASSERT, COMPUTE, INPUT, LOAD, UNLOCK};
 use crate::random::Random;
@@ -247,7 +247,7 @@ fn guard_was_true(draft: &Draft, numbers: &[u16], line: u16) -> bool {
 
 fn with_and_without(calls: &dyn Calls, solver: Solver, tally: &mut Tally) -> Outcome {
     for seed in 0..WITHOUT_EIGHTS {
-        let draft = case_of(60_000 + seed, [BUSY, SMALL, HOLDERS, FOUR_THREADS][seed as usize % 4]);
+        let draft = case_of(60_000 + seed, [BUSY, SMALL, HOLDERS, FOUR_THREADS, STRETCHES][seed as usize % 5]);
         let is_sat = same_without_eights(calls, solver, &draft, tally).map_err(|message| format!("seed {seed}: {message}"))?;
         tally.same(is_sat, !violating(calls, &draft).is_empty(), || format!("sat; case {draft}"))?;
     }
@@ -258,7 +258,7 @@ fn with_and_without(calls: &dyn Calls, solver: Solver, tally: &mut Tally) -> Out
 fn with_and_without_and_an_input(calls: &dyn Calls, solver: Solver, tally: &mut Tally) -> Outcome {
     let holders = Shape { switches: (1, 3), ..HOLDERS_WITH_INPUTS };
     for seed in 0..WITHOUT_EIGHTS_AND_AN_INPUT {
-        let draft = case_of(70_000 + seed, [BUSY_WITH_INPUTS, holders][seed as usize % 2]);
+        let draft = case_of(70_000 + seed, [BUSY_WITH_INPUTS, holders, STRETCHES_WITH_INPUTS][seed as usize % 3]);
         same_without_eights(calls, solver, &draft, tally).map_err(|message| format!("seed {seed}: {message}"))?;
     }
     ["sat", "some 8s"].iter().try_for_each(|answer| tally.saw_often(answer, 5))
