@@ -31,6 +31,7 @@ mod program;
 mod proved;
 mod random;
 mod report;
+mod rule;
 mod samples;
 mod script;
 mod search;
