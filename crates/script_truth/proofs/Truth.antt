@@ -111,7 +111,7 @@ module _ (bytes : List ℕ) (accepted : verdict bytes ≡ verdicts.Accepted) (xs
   placed-of-rows hold = all-threads (Placed case α) (case .threads) (λ t few.
       all-placed case α t 0 (linesOf case t) (line-found case (numbers-once bytes ok) t)
       (all-lines-by bytes ok (OfThread t) t (λ k thread low high. record { thread = refl; fields = record-fields bytes ok t k low high }))
-      (rw (zero-add t) at (order-of-all-rows case α 0 (case .threads) hold t few)))
+      (rw (zero-add t) at (order-of-all-rows case α 0 (case .threads) hold t few .ordered)))
 
   pub each-assertion-agrees : EachAgrees case α (environment xs) (table case) (scriptOf case .assertions)
   unfolding scriptOf table runRows assertionsOf
