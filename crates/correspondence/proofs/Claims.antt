@@ -43,11 +43,11 @@ module _ (case : Case) (wf : WellFormed case) where
   unfolding decode
   lengths-of-decode α = take-at (countedLengths case α) (allDecodedValues case α (case .threads)) (suc (case .n)) (length-of-counted case α)
 
-  values-of-decode : (α : Assignment) → inputValues case (decode case α) ≡ allDecodedValues case α (case .threads)
+  pub values-of-decode : (α : Assignment) → inputValues case (decode case α) ≡ allDecodedValues case α (case .threads)
   unfolding decode
   values-of-decode α = drop-at (countedLengths case α) (allDecodedValues case α (case .threads)) (suc (case .n)) (length-of-counted case α)
 
-  decodes-to-own : (α : Assignment) → DecodesTo case α (blockLengths case (decode case α)) (givenIn case (decode case α))
+  pub decodes-to-own : (α : Assignment) → DecodesTo case α (blockLengths case (decode case α)) (givenIn case (decode case α))
   decodes-to-own α = rw (lengths-of-decode α, values-of-decode α) (record {
     all-blocks = length-of-counted case α;
     lengths = counted-lengths case α;

@@ -26,6 +26,8 @@ pub mod WellFormed
 pub mod Replies
 pub mod Claims
 pub mod RunEnds
+pub mod Keeping
+pub mod Moved
 pub mod RunReplies
 pub mod Demand3
 -- The definitions held beside document 01

@@ -15,7 +15,7 @@ use Rattle.model.specs.Copies.{readsAfter, walkBack}
 use Rattle.model.specs.Holds.{breaksAfter}
 use Rattle.model.specs.Schedule.{linesInBlock}
 use Rattle.laws.specs.RecordNumber.{RecordNumber}
-use Rattle.laws.specs.Order.{AllLines, Positive, Ordered}
+use Rattle.laws.specs.Order.{AllLines, Positive, Ordered, Stays}
 use Rattle.laws.specs.RowValue.{valueAfter}
 
 -- The numbers that a line brings with it, its constant and its thread as holder, have 16 bits.
@@ -66,6 +66,10 @@ pub record Meets (case : Case) (α : Assignment) : Type 0 where
   pub order : (t : ℕ) → t < case .T → Ordered case (α .block) t 0 (linesOf case t)
   pub lines : (t : ℕ) → t < case .T → LinesMet case α [] (linesOf case t)
   pub blocks : (i : ℕ) → i < case .n → (g : ℕ) → g < itemCount case → BlockMet case α i g
+
+-- The 8s, which Five has put beside them.
+abbrev pub AllStay : Case → Assignment → Type 0
+AllStay case α = (t : ℕ) → t < case .T → Stays case (α .block) [] (linesOf case t)
 
 -- Constraint 7 counts: how many lines of a thread violate, after these earlier lines; and of all threads.
 abbrev pub breaksIn : Case → Assignment → List Line → List Line → ℕ
