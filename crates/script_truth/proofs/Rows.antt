@@ -14,7 +14,7 @@ use Rattle.model.specs.CaseFile.{Kind, compute, store, load, input, assert, ass
 use Rattle.model.specs.Line.{noName, itemName, guardName, targetName, Reads, guardTrue, holder, breaks, visible}
 use Rattle.model.specs.Assignment.{Assignment, assignmentOf, wasRun}
 use Rattle.model.specs.Copies.{copyOf, readsAfter, walkBack}
-use Rattle.model.specs.Table.{Row, row, followRow, stayRows, lineOrderRows, orderRows, valueRow, demandRows, valueRows, allOrderRows, allValueRows, itemRows, blockRows, goalRow}
+use Rattle.model.specs.Table.{Row, row, followRow, stayRows, lineOrderRows, orderRows, valueRow, demandRows, valueRows, allOrderRows, allValueRows, itemRows, blockRows, goalRow, withoutEights}
 use Rattle.model.specs.Holds.{readsWith, breaksAfter, someBreaks, someThreadBreaks, holds}
 use Rattle.smt.specs.Term.{constant, Formula, value, meets, tested, joined, resultOf}
 use Rattle.smt.specs.Script.{environment}
@@ -81,6 +81,15 @@ module _ (case : Case) (xs sources : List ℕ) where
   all-agree-append : (ws us : List Row) → AllAgree ws → AllAgree us → AllAgree (ws ++ us)
   all-agree-append [] us h g = g
   all-agree-append (w ∷ ws) us h g = (h .0, all-agree-append ws us (h .1) g)
+
+  pub all-agree-without : (ws : List Row) → AllAgree ws → AllAgree (withoutEights ws)
+  unfolding withoutEights
+  all-agree-without [] h = tt
+  all-agree-without (w ∷ ws) h = go (eqb (w .kind) 8) (all-agree-without ws (h .1))
+    where
+      go : (q : Bool) → AllAgree (withoutEights ws) → AllAgree (cond q (withoutEights ws) (w ∷ withoutEights ws))
+      go true rest = rest
+      go false rest = (h .0, rest)
 
   -- ---- Constraints 1, 2, 3 and 8.
   module _ (some : 0 < case .T) where

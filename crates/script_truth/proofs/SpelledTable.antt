@@ -13,7 +13,7 @@ use Rattle.model.specs.Line.{guardName, operandA, operandB, targetName, visible
 use Rattle.model.specs.Accept.{verdict}
 use Rattle.model.specs.Assignment.{variables}
 use Rattle.model.specs.Holds.{fromRecord}
-use Rattle.model.specs.Table.{Row, row, followRow, stayRows, lineOrderRows, orderRows, demandRows, valueRows, allOrderRows, allValueRows, itemRows, blockRows, runRows, goalRow, table}
+use Rattle.model.specs.Table.{Row, row, followRow, stayRows, lineOrderRows, orderRows, demandRows, valueRows, allOrderRows, allValueRows, itemRows, blockRows, runRows, goalRow, table, withoutEights}
 use Rattle.model.specs.declared.Verdict.the-variants as verdicts
 use Rattle.script.specs.Assertions.{mostSources, source, sourcesFrom, sourcesOf, assertionOf, assertionsOf, scriptOf}
 use Rattle.laws.specs.Accepted.{Accepted}
@@ -28,6 +28,7 @@ use Rattle.laws.proofs.Sizes.{assignment-numbers}
 use Rattle.correspondence.specs.Meaning.{SmallLine}
 use Rattle.correspondence.proofs.WellFormed.{all-lines-by, well-formed}
 use Rattle.reading.specs.Spellable.{AllSpellable, ScriptSpellable}
+use Rattle.script_truth.specs.Filed.{scriptWithoutEights}
 use Rattle.script_truth.proofs.Spelled.{taken, AllRecords, Spells, copy-low, block-spelled, value-assertion-spelled, demand-assertion-spelled, walk-spelled, goal-spelled}
 
 -- ---- The sources are records.
@@ -168,6 +169,14 @@ module _ (case : Case) (few : suc (case .n) < wordSize) (initials : (g : ℕ) �
         (rows-append (allValueRows case (case .threads)) _ (all-values-spelled (case .threads) all) (blocks-spelled 0 (case .n) (omega arith))))
         (goal-spelled case few initials sources known (case .threads) all, tt)
 
+rows-without : (case : Case) (sources : List ℕ) (ws : List Row) → AllSpellable (variables case) (assertionsOf case sources ws)
+    → AllSpellable (variables case) (assertionsOf case sources (withoutEights ws))
+unfolding assertionsOf withoutEights
+rows-without case sources [] h = tt
+rows-without case sources (w ∷ ws) h =
+    let rest = rows-without case sources ws (h .1) in
+    taken (λ us. AllSpellable (variables case) (assertionsOf case sources us)) (eqb (w .kind) 8) (withoutEights ws) (w ∷ withoutEights ws) (λ e. rest) (λ e. (h .0, rest))
+
 -- ---- An accepted case.
 all-spell : (case : Case) (ls : List Line) → AllLines (λ l. lineAt case (l .number) ≡ l) ls → AllLines (λ l. RecordNumber (case .R) (l .number)) ls
     → AllLines SmallLine ls → AllLines (Spells case) ls
@@ -193,3 +202,9 @@ module _ (bytes : List ℕ) (accepted : verdict bytes ≡ verdicts.Accepted) whe
             (all-lines-by bytes ok (λ l. RecordNumber (case .R) (l .number)) t (λ k thread low high. record { some = low; low = high })) (wf .small-lines t)))
             (omega (arith, thread-count bytes, ok .few-threads)) (omega (arith, ok .few-threads));
       }
+
+  pub without-spelled : AllBelow 256 bytes → ScriptSpellable (scriptWithoutEights (caseOf bytes))
+  unfolding scriptOf
+  without-spelled small =
+      let whole = script-spelled small in
+      record { declared = whole .declared; assertions = rows-without (caseOf bytes) (sourcesOf (caseOf bytes)) (table (caseOf bytes)) (whole .assertions) }
