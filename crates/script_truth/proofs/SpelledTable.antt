@@ -94,10 +94,12 @@ module _ (case : Case) (few : suc (case .n) < wordSize) (initials : (g : ℕ) �
   unfolding orderRows lineOrderRows assertionsOf assertionOf
   order-spelled t earlier [] small low before all = tt
   order-spelled t earlier (l ∷ ls) small low before all =
-      let own = block-spelled case few initials (l .number) (all .0 .number) in
-      (((own, few), ((own, low), small)), rows-append (stayRows earlier l ++ (followRow case l ls ∷ [])) _
-      (rows-append (stayRows earlier l) _ (stay-spelled earlier l before (all .0)) (follow-spelled l ls (all .0) (all .1)))
-      (order-spelled t (l ∷ earlier) ls small low (all .0, before) (all .1)))
+      let own = block-spelled case few initials (l .number) (all .0 .number) in (
+        ((own, few), ((own, low), small)),
+        rows-append (stayRows earlier l ++ (followRow case l ls ∷ [])) _
+            (rows-append (stayRows earlier l) _ (stay-spelled earlier l before (all .0)) (follow-spelled l ls (all .0) (all .1)))
+            (order-spelled t (l ∷ earlier) ls small low (all .0, before) (all .1)),
+      )
 
   orders-spelled : (t : ℕ) (threads : List (List Line)) → t + length threads < wordSize → case .T < wordSize → AllThreads (Spells case) threads
       → Rows (allOrderRows case t threads)

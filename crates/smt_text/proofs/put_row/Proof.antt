@@ -87,7 +87,7 @@ same-length-8 : tie.Need-same-length-8
 same-length-8 c = search needs
 
 returns-8 : tie.Need-returns-8
-returns-8 c = stay-spelt _ _ (@match .keys8) (@put-eight .ensures _ (@pre .handed .shaped))
+returns-8 c = stay-spelt _ _ (c .before .before .before .before .match .keys8) (c .before .before .put-eight .ensures _ (c .before .before .before .before .before .before .before .before .before .before .pre .handed .shaped))
 
 same-length-9 : tie.Need-same-length-9
 same-length-9 c = search needs
