@@ -3,27 +3,29 @@
 -- Assumes nothing. This is where the other modules lead.
 use mathlib.Core.Path.{_≡_, refl, sym, ap, _∙_, subst}
 use Prim.Native.Nat.{ℕ, suc, _≤_, _<_}
+use mathlib.Core.Bool.{Bool}
 use mathlib.Core.List.{List, _++_, append-nil}
 use native.Mathlib.Omega.{arith}
 use native.Mathlib.Nat.{le-refl}
+use lib.Dec.{eqb}
 use lib.ListN.{length, take, drop, replicate, length-replicate}
 use lib.Seq.{take-append-seam, drop-length, length-take-le}
 use Rattle.model.specs.Word.{wordSize, AllBelow}
 use Rattle.model.specs.Lists.{writtenOver}
-use Rattle.model.specs.CaseFile.{Case, caseOf, linesOf}
+use Rattle.model.specs.CaseFile.{Line, Case, caseOf, linesOf}
 use Rattle.model.specs.Accept.{verdict}
 use Rattle.model.specs.Machine.{start}
 use Rattle.model.specs.Assignment.{Assignment, variables, assignmentOf}
 use Rattle.model.specs.Table.{table, numbersOf}
 use Rattle.model.specs.Schedule.{scheduleSize, blockLengths, inputValues, givenIn, decode}
-use Rattle.model.specs.Runs.{courseOf, KeepsRule, ends, Takes}
+use Rattle.model.specs.Runs.{courseOf, KeepsRule, ends, BrokenAt, Takes}
 use Rattle.model.specs.Answers.{checked}
 use Rattle.model.specs.declared.Verdict.the-variants.{Accepted}
 use Rattle.model.specs.declared.Checked.the-variants.{Meets}
 use Rattle.model.specs.declared.Decoded.the-variants as decodeds
 use Rattle.laws.proofs.Accepted.{accepted-of}
 use Rattle.laws.proofs.Below.{all-below-drop}
-use Rattle.correspondence.specs.Meaning.{WellFormed}
+use Rattle.correspondence.specs.Meaning.{WellFormed, everyLine}
 use Rattle.correspondence.specs.Meaning as meaning
 use Rattle.correspondence.specs.Fill.{fill}
 use Rattle.laws.specs.AllHold.{AllHold}
@@ -52,12 +54,16 @@ written-whole : (result slice : List ℕ) → length result ≡ length slice →
 unfolding writtenOver
 written-whole result slice h = ap (λ (k : ℕ). result ++ drop k slice) h ∙ ap (λ (xs : List ℕ). result ++ xs) (drop-length slice) ∙ append-nil result
 
+-- Record k alone is asked about.
+abbrev isRecord : ℕ → Line → Bool
+isRecord k l = eqb (l .number) k
+
 -- A schedule whose run finishes and violates, as the trace has it.
 record Breaking (case : Case) (schedule : List ℕ) : Type 0 where
   numbers : AllBelow wordSize schedule
   has-size : length schedule ≡ scheduleSize case
   finished : FinishesRun case schedule
-  some-broken : 0 < brokenIn (eventsOf case schedule)
+  some-broken : 0 < brokenIn everyLine (eventsOf case schedule)
 
 module _ (bytes : List ℕ) (small : AllBelow 256 bytes) (accepted : verdict bytes ≡ Accepted) where
   abbrev case : Case
@@ -87,7 +93,7 @@ module _ (bytes : List ℕ) (small : AllBelow 256 bytes) (accepted : verdict byt
   few-lines : (t : ℕ) → t < case .T → length (linesOf case t) < wordSize
   few-lines t ht = omega (arith, accepted-of bytes accepted .few-lines t ht)
 
-  breaking-of-meets : (α : Assignment) → ((k : ℕ) → α .value k < wordSize) → meaning.Meets case α → 0 < meaning.breakCount case α
+  breaking-of-meets : (α : Assignment) → ((k : ℕ) → α .value k < wordSize) → meaning.Meets case α → 0 < meaning.breakCount case α everyLine
       → Breaking case (decode case α)
   breaking-of-meets α small meets some =
       let run = run-of-meets case wf α meets in
@@ -95,10 +101,10 @@ module _ (bytes : List ℕ) (small : AllBelow 256 bytes) (accepted : verdict byt
         numbers = decoded-below case wf few-lines α small;
         has-size = size-of-decode case wf α;
         finished = run .0;
-        some-broken = rw (← (run .3)) some;
+        some-broken = rw (← (run .3 everyLine)) some;
       }
 
-  met : (xs : List ℕ) → checked bytes xs ≡ Meets → meaning.Meets case (assigned xs) × (0 < meaning.breakCount case (assigned xs))
+  met : (xs : List ℕ) → checked bytes xs ≡ Meets → meaning.Meets case (assigned xs) × (0 < meaning.breakCount case (assigned xs) everyLine)
   met xs told = meets-of-table case wf (assigned xs) (all-hold-without case (assigned xs) (table case) (rows-of-yes xs told))
 
   run-of-yes : (xs : List ℕ) → Yes bytes xs → Breaking case (decode case (assigned xs))
@@ -113,7 +119,7 @@ module _ (bytes : List ℕ) (small : AllBelow 256 bytes) (accepted : verdict byt
       let given = givenIn case schedule in
       let legal = legal-of-finished case given 0 lens (start case) (run .finished) in
       let same = up-to-none (ends case given) (courseOf case schedule) (legal .1) in
-      let found = first-of-some case given (courseOf case schedule) (rw (← (broken-of-steps case given 0 lens (start case))) (run .some-broken)) in
+      let found = first-of-some case given everyLine (courseOf case schedule) (rw (← (broken-of-steps case given everyLine 0 lens (start case))) (run .some-broken)) in
       let takes : Takes case schedule = record {
         not-12 = run .has-size;
         not-13 = lengths-fit case lens (few-steps-of-finished case given wf 0 lens (start case) (wf .thread-count) (run .finished));
@@ -139,7 +145,7 @@ module _ (bytes : List ℕ) (small : AllBelow 256 bytes) (accepted : verdict byt
         numbers = answered .0;
         has-size = run .0 .not-12;
         finished = finished-run case wf schedule (run .0) legal;
-        some-broken = rw (broken-of-steps case given 0 lens (start case)) (some-of-first case given (courseOf case schedule) (run .2 .0) first);
+        some-broken = rw (broken-of-steps case given everyLine 0 lens (start case)) (some-of-first case given everyLine (courseOf case schedule) (run .2 .0) first);
       }
 
   -- ---- What the decoder writes.
@@ -183,7 +189,7 @@ module _ (bytes : List ℕ) (small : AllBelow 256 bytes) (accepted : verdict byt
         filled-small schedule run,
         meets-of-passes bytes (fill case schedule) (passes-of-rows (fill case schedule) (filled-length schedule)
             (table-of-meets case wf (assigned (fill case schedule)) (found .0) (stays-of-keeps case wf schedule (run .has-size) (run .finished) keeps)
-            (rw (found .2) (run .some-broken)))),
+            (rw (found .2 everyLine) (run .some-broken)))),
       )
 
   fill-decoded-as : (schedule : List ℕ) → Breaking case schedule → KeepsRule case schedule → DecodedAs bytes (fill case schedule) schedule
@@ -197,6 +203,7 @@ module _ (bytes : List ℕ) (small : AllBelow 256 bytes) (accepted : verdict byt
     run : Breaking case kept
     keeps : KeepsRule case kept
     same-inputs : inputValues case kept ≡ inputValues case schedule
+    same-lines : (asked : Line → Bool) → brokenIn asked (eventsOf case kept) ≡ brokenIn asked (eventsOf case schedule)
 
   kept-of : (schedule : List ℕ) → Breaking case schedule → KeptOf schedule
   kept-of schedule run =
@@ -204,14 +211,32 @@ module _ (bytes : List ℕ) (small : AllBelow 256 bytes) (accepted : verdict byt
       let found = meets-of-run case wf schedule (run .has-size) (run .finished) in
       let β = movedAssignment case wf α (found .0) in
       let meets = moved-meets case wf α (found .0) in
-      let some : 0 < meaning.breakCount case α = rw (found .2) (run .some-broken) in
+      let some : 0 < meaning.breakCount case α everyLine = rw (found .2 everyLine) (run .some-broken) in
       record {
         kept = decode case β;
-        run = breaking-of-meets β (values-below case wf (fill case schedule) (filled-small schedule run)) meets (rw (moved-breaks case wf α (found .0)) some);
+        run = breaking-of-meets β (values-below case wf (fill case schedule) (filled-small schedule run)) meets (rw (moved-breaks case wf α (found .0) everyLine) some);
         keeps = keeps-of-stays case wf β meets (moved-stays case wf α (found .0));
         same-inputs = values-of-decode case wf β ∙ moved-values case wf α (found .0) ∙ sym (values-of-decode case wf α)
             ∙ ap (inputValues case) (decode-of-fill case wf schedule (run .has-size) (run .finished));
+        same-lines = λ asked. sym (run-of-meets case wf β meets .3 asked) ∙ moved-breaks case wf α (found .0) asked ∙ found .2 asked;
       }
+
+  -- A line violates in the run just where its event does.
+  broken-at-of-events : (schedule : List ℕ) → Breaking case schedule → (k : ℕ) → 0 < brokenIn (isRecord k) (eventsOf case schedule) → BrokenAt case schedule k
+  broken-at-of-events schedule run k some =
+      let lens = blockLengths case schedule in
+      let given = givenIn case schedule in
+      let legal = legal-of-finished case given 0 lens (start case) (run .finished) in
+      rw (up-to-none (ends case given) (courseOf case schedule) (legal .1))
+      (first-of-some case given (isRecord k) (courseOf case schedule) (rw (← (broken-of-steps case given (isRecord k) 0 lens (start case))) some))
+
+  events-of-broken-at : (schedule : List ℕ) → Breaking case schedule → (k : ℕ) → BrokenAt case schedule k → 0 < brokenIn (isRecord k) (eventsOf case schedule)
+  events-of-broken-at schedule run k at =
+      let lens = blockLengths case schedule in
+      let given = givenIn case schedule in
+      let legal = legal-of-finished case given 0 lens (start case) (run .finished) in
+      let first = rw (up-to-none (ends case given) (courseOf case schedule) (legal .1)) at (at .1) in
+      rw (broken-of-steps case given (isRecord k) 0 lens (start case)) (some-of-first case given (isRecord k) (courseOf case schedule) (at .0) first)
 
   yes-of-breaking : (schedule : List ℕ) → Breaking case schedule → (xs : List ℕ) × Yes bytes xs
   yes-of-breaking schedule run = let moved = kept-of schedule run in (fill case (moved .kept), yes-of-run (moved .kept) (moved .run) (moved .keeps))
@@ -280,8 +305,17 @@ module _ (bytes : List ℕ) (small : AllBelow 256 bytes) (accepted : verdict byt
       (λ some. yes-of-breaking _ (breaking-of-without slice (some .0) h (some .1))),
     );
     some-run-keeps-the-rule = λ schedule run.
-        let moved = kept-of schedule (breaking-of-violated schedule (answered-of-run schedule run)) in
-        (moved .kept, run-of-answered (moved .kept) (violated-of-breaking (moved .kept) (moved .run)), moved .keeps, moved .same-inputs);
+        let own = breaking-of-violated schedule (answered-of-run schedule run) in
+        let moved = kept-of schedule own in (
+          moved .kept,
+          run-of-answered (moved .kept) (violated-of-breaking (moved .kept) (moved .run)),
+          moved .keeps,
+          moved .same-inputs,
+          λ k. (
+            (λ at. broken-at-of-events schedule own k (rw (← (moved .same-lines (isRecord k))) (events-of-broken-at (moved .kept) (moved .run) k at))),
+            (λ at. broken-at-of-events (moved .kept) (moved .run) k (rw (moved .same-lines (isRecord k)) (events-of-broken-at schedule own k at))),
+          ),
+        );
     takes-is-no-refusal = λ schedule room h. (answered-of-takes bytes accepted wf schedule room h, takes-of-answered bytes accepted wf schedule room h);
     violated-names-the-first = λ schedule room h k. (
       run-of-violated bytes accepted wf schedule room h k,

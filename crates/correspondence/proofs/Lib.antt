@@ -40,5 +40,6 @@ pub mod CaseBytes
 pub mod Examples
 pub mod StopExamples
 pub mod HolderExamples
+pub mod StayExamples
 pub mod Refusals
 pub mod Conventions

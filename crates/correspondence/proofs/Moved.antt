@@ -297,13 +297,13 @@ module _ (case : Case) (wf : WellFormed case) (α : Assignment) (block' : ℕ �
         lines-stay (l ∷ earlier) ls (kept .0, before) (kept .1) (met .1),
       )
 
-  breaks-stay : (earlier ls : List Line) → AllLines (Kept case (α .block) block') earlier → AllLines (Kept case (α .block) block') ls
-      → breaksIn case moved earlier ls ≡ breaksIn case α earlier ls
-  breaks-stay earlier [] before kept = refl
-  breaks-stay earlier (l ∷ ls) before kept =
+  breaks-stay : (asked : Line → Bool) (earlier ls : List Line) → AllLines (Kept case (α .block) block') earlier → AllLines (Kept case (α .block) block') ls
+      → breaksIn case moved asked earlier ls ≡ breaksIn case α asked earlier ls
+  breaks-stay asked earlier [] before kept = refl
+  breaks-stay asked earlier (l ∷ ls) before kept =
       ap₂ (λ (x y : ℕ). x + y)
-      (ap₂ (λ (q : Bool) (reads : Reads). bit (breaks q (l .kind) l reads (α .value (l .number)))) (kept .0 .still-run) (reads-stay earlier l before (kept .0)))
-      (breaks-stay (l ∷ earlier) ls (kept .0, before) (kept .1))
+      (ap₂ (λ (q : Bool) (reads : Reads). bit (asked l && breaks q (l .kind) l reads (α .value (l .number)))) (kept .0 .still-run) (reads-stay earlier l before (kept .0)))
+      (breaks-stay asked (l ∷ earlier) ls (kept .0, before) (kept .1))
 
   values-stay : (earlier ls : List Line) → AllLines (Kept case (α .block) block') earlier → AllLines (Kept case (α .block) block') ls
       → decodedValues case moved earlier ls ≡ decodedValues case α earlier ls
@@ -363,10 +363,10 @@ module _ (case : Case) (wf : WellFormed case) (α : Assignment) (meets : Meets c
         ∙ sym (walk-stays case wf α movedBlock i g (reverse (linesOf case t)) some (kept-reversed (Kept case (α .block) movedBlock) (linesOf case t) [] kept tt));
   }
 
-  pub moved-breaks : breakCount case movedAssignment ≡ breakCount case α
-  moved-breaks =
-      sumBelow-same (λ t. breaksIn case movedAssignment [] (linesOf case t)) (λ t. breaksIn case α [] (linesOf case t)) (case .T)
-      (λ t few. breaks-stay case wf α movedBlock [] (linesOf case t) tt (along-thread t few .kept))
+  pub moved-breaks : (asked : Line → Bool) → breakCount case movedAssignment asked ≡ breakCount case α asked
+  moved-breaks asked =
+      sumBelow-same (λ t. breaksIn case movedAssignment asked [] (linesOf case t)) (λ t. breaksIn case α asked [] (linesOf case t)) (case .T)
+      (λ t few. breaks-stay case wf α movedBlock asked [] (linesOf case t) tt (along-thread t few .kept))
 
   pub moved-values : allDecodedValues case movedAssignment (case .threads) ≡ allDecodedValues case α (case .threads)
   moved-values =

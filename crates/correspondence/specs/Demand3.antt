@@ -15,7 +15,7 @@ use Rattle.model.specs.Accept.{verdict}
 use Rattle.model.specs.Assignment.{variables, assignmentOf}
 use Rattle.model.specs.Table.{Row, table, withoutEights, numbersOf}
 use Rattle.model.specs.Schedule.{scheduleSize, blockLengths, inputValues, stepsOf, lengthsFit, decode}
-use Rattle.model.specs.Runs.{Step, runSteps, linesRun, KeepsRule, Legal, Violates, InBlocks, Takes, FirstBroken, NoneBroken, FirstEnding, Meets14, lastItems}
+use Rattle.model.specs.Runs.{Step, runSteps, linesRun, KeepsRule, Legal, Violates, InBlocks, Takes, FirstBroken, BrokenAt, NoneBroken, FirstEnding, Meets14, lastItems}
 use Rattle.model.specs.Answers.{encoded, encodedInto, checked, decoded, decodedInto, replayed, replayedInto}
 use Rattle.model.specs.declared.Verdict.the-variants.{Accepted}
 use Rattle.model.specs.declared.Encoded.the-variants as encodeds
@@ -111,9 +111,10 @@ pub record Demand3 (bytes : List ℕ) : Type 0 where
   -- Some assignment gets yes exactly where some assignment meets the table that the encoder writes without its 8s,
   pub same-without-8s : (slice : List ℕ) → tableRoom bytes ≤ length slice
       → ((xs : List ℕ) × Yes bytes xs) ↔ ((xs : List ℕ) × MeetsWithoutEights bytes slice xs)
-  -- for every violating run has one that keeps the rule, with the same input values.
+  -- for every violating run has one that keeps the rule, with the same input values, in which the same lines violate.
   pub some-run-keeps-the-rule : (schedule : List ℕ) → ViolatingRun bytes schedule
       → (kept : List ℕ) × ViolatingRun bytes kept × KeepsRule (caseOf bytes) kept × (inputValues (caseOf bytes) kept ≡ inputValues (caseOf bytes) schedule)
+      × ((k : ℕ) → BrokenAt (caseOf bytes) kept k ↔ BrokenAt (caseOf bytes) schedule k)
   -- ---- "replies and final values are those of the machine under Runs".
   -- With room for the items, the replayer takes a schedule exactly where it gives no refusal.
   pub takes-is-no-refusal : (schedule : List ℕ) (room : ℕ) → itemRoom bytes ≤ room →

@@ -71,17 +71,20 @@ pub record Meets (case : Case) (α : Assignment) : Type 0 where
 abbrev pub AllStay : Case → Assignment → Type 0
 AllStay case α = (t : ℕ) → t < case .T → Stays case (α .block) [] (linesOf case t)
 
--- Constraint 7 counts: how many lines of a thread violate, after these earlier lines; and of all threads.
-abbrev pub breaksIn : Case → Assignment → List Line → List Line → ℕ
-breaksIn case α earlier [] = 0
-breaksIn case α earlier (l ∷ ls) = bit (breaksAfter case α earlier l) + breaksIn case α (l ∷ earlier) ls
+-- Constraint 7 counts: how many of the lines that are asked about violate, of a thread after these earlier lines, and of all threads.
+abbrev pub everyLine : Line → Bool
+everyLine l = true
+
+abbrev pub breaksIn : Case → Assignment → (Line → Bool) → List Line → List Line → ℕ
+breaksIn case α asked earlier [] = 0
+breaksIn case α asked earlier (l ∷ ls) = bit (asked l && breaksAfter case α earlier l) + breaksIn case α asked (l ∷ earlier) ls
 
 abbrev pub sumBelow : (ℕ → ℕ) → ℕ → ℕ
 sumBelow f zero = 0
 sumBelow f (suc m) = f m + sumBelow f m
 
-abbrev pub breakCount : Case → Assignment → ℕ
-breakCount case α = sumBelow (λ t. breaksIn case α [] (linesOf case t)) (case .T)
+abbrev pub breakCount : Case → Assignment → (Line → Bool) → ℕ
+breakCount case α asked = sumBelow (λ t. breaksIn case α asked [] (linesOf case t)) (case .T)
 
 -- The value that decoding gives to an input line: its own where it was run and its guard is true, else 0.
 abbrev pub InputGiven : Kind → Bool → ℕ → ℕ → Type 0
