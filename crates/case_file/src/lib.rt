@@ -30,10 +30,11 @@ pub struct Record {
     pub c: u16,
 }
 
-// Where a line stands in its chain: its record, and the records before and after it; 0 where there is none.
+// A line where it stands in its chain: its record, its kind, and the records before and after it; 0 where there is none.
 pub struct Link {
     pub before: u16,
     pub line: u16,
+    pub kind: u16,
     pub next: u16,
 }
 

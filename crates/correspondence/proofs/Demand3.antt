@@ -76,7 +76,7 @@ module _ (bytes : List ℕ) (small : AllBelow 256 bytes) (accepted : verdict byt
   assigned xs = assignmentOf case xs
 
   -- ---- The encoder's table and the checker's yes.
-  read-back : (slice : List ℕ) → tableRoom bytes ≤ length slice → writtenRows bytes slice ≡ table case
+  pub read-back : (slice : List ℕ) → tableRoom bytes ≤ length slice → writtenRows bytes slice ≡ table case
   unfolding writtenOver
   read-back slice h =
       ap (λ (xs : List ℕ). rowsOf (take (tableRoom bytes) xs)) (encoded-into bytes accepted slice h)

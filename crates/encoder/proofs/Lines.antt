@@ -3,15 +3,17 @@
 use mathlib.Core.Path.{_≡_, refl, sym, ap, _∙_}
 use mathlib.Core.Logic.{_≢_}
 use Prim.Native.Nat.{ℕ, _+_, _*_, _≤_, _<_}
-use mathlib.Core.List.{List, _∷_, reverse, reverse-reverse}
+use mathlib.Core.List.{List, [], _∷_, reverse, reverse-reverse}
 use native.Mathlib.Omega.{arith}
+use borrow.Author.Tests.{ne-eqb}
+use lib.Dec.{eqb}
 use lib.ListN.{length}
 use Rattle.model.specs.CaseFile.{kindOf, Line, records, recordField, threadCount, switchCount, globalCount, nextRecord, lineOf, caseOf, linesOf}
 use Rattle.model.specs.Line.{guardName, operandA, operandB, targetName}
 use Rattle.model.specs.Copies.{copyOf, heldCopy, takeLine, heldAfter}
 use Rattle.model.specs.Table.{valueRow}
 use Rattle.laws.specs.Accepted.{Accepted, linesFrom, threadLines}
-use Rattle.laws.specs.RowCounts.{orderRowCount, valueRowCount}
+use Rattle.laws.specs.RowCounts.{orderRowCount, isFirst, valueRowCount}
 use Rattle.laws.proofs.Chains.{threads-are}
 use Rattle.laws.proofs.Following.{lines-end, lines-more, next-low}
 use Rattle.laws.proofs.Views.{EqView, same, diff, eq-view}
@@ -22,7 +24,7 @@ use Rattle.line.specs.declared.Copies.{Copies}
 use Rattle.copies.specs.Held.{copiesBefore, HeldAfter}
 use Rattle.case_file.specs.declared.Link.{Link}
 use Rattle.rows.specs.Rows.{Nearest, PutsOrder, fourOf, PutsValues}
-use Rattle.encoder.proofs.Walking.{orders, values, Walking, walking-room, walking-more}
+use Rattle.encoder.proofs.Walking.{orders, values, Walking, walking-width, walking-room, walking-more}
 
 nearest-line : (bytes : List ℕ) (t k : ℕ) → Accepted bytes → k ≤ records bytes → Nearest k (linesFrom bytes t k)
 unfolding Nearest
@@ -32,15 +34,28 @@ nearest-line bytes t k ok low = go (eq-view k 0)
     go (same z _) = rw (lines-end bytes t k z) z
     go (diff some _) = rw (lines-more bytes ok t k some low) (record { number = refl; some = some })
 
--- Its order rows are put: it is then the nearest of the earlier lines.
-pub order-step :
-    {bytes : List ℕ} {t k : ℕ} {link : Link} {T n : ℕ} {out : List ℕ} {at : ℕ} {numbers before : List ℕ} {start : ℕ} {out' : List ℕ} → PutsOrder link T n t out at out'
-    → Walking bytes t (orders (caseOf bytes) t) (Nearest (link .before)) k numbers before start out at → Accepted bytes → k ≢ 0 → link .line ≡ k → link .next ≡ nextRecord bytes k
-    → T ≡ threadCount bytes → n ≡ switchCount bytes → Walking bytes t (orders (caseOf bytes) t) (Nearest (link .line)) (link .next) numbers before start out' (at + 6 * orderRowCount)
+no-line-before : (k : ℕ) (earlier : List Line) → Nearest k earlier → eqb k 0 ≡ isFirst earlier
 unfolding Nearest
-order-step {bytes} {t} {k} {link} puts v ok some line next eT en =
+no-line-before k [] none = rw none
+no-line-before k (l ∷ earlier) near = ne-eqb k 0 (near .some)
+
+-- There is room for its order rows.
+pub order-room :
+    (previous kind : ℕ) {bytes : List ℕ} {t k : ℕ} {out : List ℕ} {at : ℕ} {numbers before : List ℕ} {start : ℕ}
+    → Walking bytes t (orders (caseOf bytes) t) (Nearest previous) k numbers before start out at → Accepted bytes → k ≢ 0 → kind ≡ recordField bytes k 1
+    → start + length numbers ≤ length before → at + 6 * orderRowCount (eqb previous 0) (kindOf kind) ≤ length out
+order-room previous kind v ok some ek h = rw (no-line-before previous (v .earlier) (v .known), ek) (walking-room v ok some h)
+
+-- They are put: it is then the nearest of the earlier lines.
+pub order-step :
+    {bytes : List ℕ} {t k : ℕ} {link : Link} {T n : ℕ} {out : List ℕ} {at : ℕ} {numbers before : List ℕ} {start : ℕ} {out' : List ℕ} {end : ℕ} → PutsOrder link T n t out at out' end
+    → Walking bytes t (orders (caseOf bytes) t) (Nearest (link .before)) k numbers before start out at → Accepted bytes → k ≢ 0 → link .line ≡ k → link .kind ≡ recordField bytes k 1
+    → link .next ≡ nextRecord bytes k → T ≡ threadCount bytes → n ≡ switchCount bytes
+    → Walking bytes t (orders (caseOf bytes) t) (Nearest (link .line)) (link .next) numbers before start out' end
+unfolding Nearest
+order-step {bytes} {t} {k} {link} puts v ok some line kind next eT en =
     walking-more v ok some next (record { number = line; some = λ z. some (sym line ∙ z) })
-    (puts (caseOf bytes) (v .earlier) (lineOf bytes t k) (linesFrom bytes t (nextRecord bytes k)) (record { before = v .known; line = line; next = nearest }) eT en) refl
+    (puts (caseOf bytes) (v .earlier) (lineOf bytes t k) (linesFrom bytes t (nextRecord bytes k)) (record { before = v .known; line = line; kind = ap kindOf kind; next = nearest }) eT en)
   where
     nearest : Nearest (link .next) (linesFrom bytes t (nextRecord bytes k))
     nearest = rw next (nearest-line bytes t (nextRecord bytes k) ok (next-low bytes ok t k some (v .low)))
@@ -60,7 +75,7 @@ module _ {bytes : List ℕ} {t k : ℕ} {held : List ℕ} {out : List ℕ} {at :
       → PutsValues (kindOf (l .kind)) (fourOf k copies) out at out' → c ≡ valueRowCount (kindOf (l .kind)) → next ≡ nextRecord bytes k
       → Walking bytes t (values (caseOf bytes)) (HeldAfter (globalCount bytes) held') next numbers before start out' (at + 6 * c)
   value-step {G} {held' = held'} {copies} eG ec taken puts ew next =
-      walking-more v ok some next after ((rw el at puts) (caseOf bytes) (v .earlier) (lineOf bytes t k) four) (omega (arith, width ew))
+      walking-more v ok some next after (record { slice = (rw el at puts) (caseOf bytes) (v .earlier) (lineOf bytes t k) four; place = omega (arith, width ew, walking-width v ok some) })
     where
       copy : (name : ℕ) → heldCopy held name ≡ copyOf (globalCount bytes) name (v .earlier)
       copy name = ap (λ (xs : List ℕ). heldCopy xs name) (v .known) ∙ held-copy (globalCount bytes) name (v .earlier)

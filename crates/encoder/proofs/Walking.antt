@@ -9,8 +9,8 @@ use lib.ListN.{length}
 use Rattle.model.specs.CaseFile.{Line, Case, records, threadCount, firstRecord, nextRecord, lineOf}
 use Rattle.model.specs.Table.{Row, lineOrderRows, orderRows, valueRow, demandRows, valueRows, numbersOf}
 use Rattle.laws.specs.Accepted.{Accepted, linesFrom, threadLines}
-use Rattle.laws.specs.RowCounts.{orderRowCount, valueRowCount}
-use Rattle.laws.specs.Written.{numbersAt, Put}
+use Rattle.laws.specs.RowCounts.{orderRowCount, isFirst, valueRowCount}
+use Rattle.laws.specs.Written.{Put}
 use Rattle.laws.proofs.Following.{lines-end, lines-more, next-low}
 use Rattle.laws.proofs.RowNumbers.{numbers-of-append}
 use Rattle.laws.proofs.Sizes.{six-a-row, line-order-length, line-value-length}
@@ -20,10 +20,10 @@ use Rattle.laws.proofs.Writing.{Writing, writing-start, writing-more, writing-e
 pub record LineRows : Type 0 where
   pub all : List Line → List Line → List Row
   pub here : List Line → Line → List Line → List Row
-  pub count : Line → ℕ
+  pub count : List Line → Line → ℕ
   pub none : (earlier : List Line) → all earlier [] ≡ []
   pub more : (earlier : List Line) (l : Line) (ls : List Line) → all earlier (l ∷ ls) ≡ here earlier l ls ++ all (l ∷ earlier) ls
-  pub size : (earlier : List Line) (l : Line) (ls : List Line) → length (here earlier l ls) ≡ count l
+  pub size : (earlier : List Line) (l : Line) (ls : List Line) → length (here earlier l ls) ≡ count earlier l
 
 pub no-order : (case : Case) (t : ℕ) (earlier : List Line) → orderRows case t earlier [] ≡ []
 unfolding orderRows
@@ -34,12 +34,12 @@ pub more-order : (case : Case) (t : ℕ) (earlier : List Line) (l : Line) (ls : 
 unfolding orderRows
 more-order case t earlier l ls = refl
 
--- The 3s, 1s and 2s of thread t.
+-- The 3s, 8s, 1s and 2s of thread t.
 abbrev pub orders : Case → ℕ → LineRows
 orders case t = record {
   all = orderRows case t;
   here = lineOrderRows case t;
-  count = λ l. orderRowCount;
+  count = λ earlier l. orderRowCount (isFirst earlier) (l .kind);
   none = no-order case t;
   more = more-order case t;
   size = line-order-length case t;
@@ -59,7 +59,7 @@ abbrev pub values : Case → LineRows
 values case = record {
   all = valueRows case;
   here = λ earlier l ls. valueRow case earlier l ∷ demandRows (l .kind) case earlier l;
-  count = λ l. valueRowCount (l .kind);
+  count = λ earlier l. valueRowCount (l .kind);
   none = no-values case;
   more = more-values case;
   size = λ earlier l ls. line-value-length (l .kind) case earlier l;
@@ -117,19 +117,19 @@ module _ {bytes : List ℕ} {t : ℕ} {rows : LineRows} {Known : List Line → T
         ap (λ (ls : List Line). numbersOf (rows .all (v .earlier) ls)) goes-on
         ∙ ap numbersOf (rows .more (v .earlier) line rest) ∙ numbers-of-append (rows .here (v .earlier) line rest) (rows .all (line ∷ v .earlier) rest)
 
-    width : length here ≡ 6 * rows .count line
-    width = omega (arith, six-a-row (rows .here (v .earlier) line rest), rows .size (v .earlier) line rest)
+    pub walking-width : length here ≡ 6 * rows .count (v .earlier) line
+    walking-width = omega (arith, six-a-row (rows .here (v .earlier) line rest), rows .size (v .earlier) line rest)
 
-    pub walking-room : start + length numbers ≤ length before → at + 6 * rows .count line ≤ length out
-    walking-room fits = omega (arith, writing-room (v .writes) here after split fits, width)
+    pub walking-room : start + length numbers ≤ length before → at + 6 * rows .count (v .earlier) line ≤ length out
+    walking-room fits = omega (arith, writing-room (v .writes) here after split fits, walking-width)
 
     pub walking-more :
         {Known' : List Line → Type 0} {next : ℕ} {out' : List ℕ} {at' : ℕ} → next ≡ nextRecord bytes k → Known' (line ∷ v .earlier)
-        → out' ≡ numbersAt out at here → at' ≡ at + 6 * rows .count line → Walking bytes t rows Known' next numbers before start out' at'
-    walking-more e known eo ea = rw e (record {
+        → Put here out at out' at' → Walking bytes t rows Known' next numbers before start out' at'
+    walking-more e known put = rw e (record {
       earlier = line ∷ v .earlier;
       low = next-low bytes ok t k some (v .low);
       whole = sym (ap (λ (ls : List Line). reverseAux ls (v .earlier)) goes-on) ∙ v .whole;
       known = known;
-      writes = writing-more (v .writes) split (record { slice = eo; place = omega (arith, width) });
+      writes = writing-more (v .writes) split put;
     })

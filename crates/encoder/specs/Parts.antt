@@ -6,7 +6,7 @@ use Rattle.model.specs.CaseFile.{threadCount, switchCount, caseOf, linesOf, ite
 use Rattle.model.specs.Table.{orderRows, allOrderRows, valueRows, allValueRows, itemRows, blockRows, runRows, table, numbersOf}
 use Rattle.laws.specs.Accepted.{threadLines}
 
--- The 3s, 1s and 2s of thread t, and of all threads.
+-- The 3s, 8s, 1s and 2s of thread t, and of all threads.
 unfoldable pub orderNumbers : List ℕ → ℕ → List ℕ
 orderNumbers bytes t = numbersOf (orderRows (caseOf bytes) t [] (threadLines bytes t))
 

@@ -9,8 +9,9 @@ ghost use Rattle.model.specs.Table as model;
 ghost use Rattle.model.specs.Accept.{verdict};
 ghost use Rattle.model.specs.Answers.{encoded, encodedInto};
 ghost use Rattle.model.specs.declared.Verdict.the-variants as verdicts;
-ghost use Rattle.laws.specs.Accepted.{Accepted};
+ghost use Rattle.laws.specs.Accepted.{Accepted, threadLines};
 ghost use Rattle.laws.specs.Written.{Put, RoomFor, ThreadRoom};
+ghost use Rattle.encoder.specs.Firsts.{invisibleFirst, invisibleFirsts, OfThread};
 ghost use Rattle.encoder.specs.Parts.{orderNumbers, allOrderNumbers, valueNumbers, allValueNumbers, itemNumbers, allItemNumbers, runNumbers, tableNumbers};
 ghost use Rattle.encoder.specs.Writers.{CopiesRoom, ThreadCopiesRoom, PutThread, PutCopies, Answered};
 use accept::accept;
@@ -28,11 +29,14 @@ use case_file::threads;
 use case_file::variables;
 use copies::copy_of;
 use copies::take_line;
-use line::ORDER_ROWS;
+use line::bit_of;
+use line::order_rows;
+use line::stays;
 use line::value_rows;
 use model::Encoded;
 use model::ITEMS;
 use model::LOCALS;
+use model::MOST_LINES;
 use model::MOST_RECORDS;
 use model::MOST_SWITCHES;
 use model::NAMES;
@@ -40,8 +44,10 @@ use model::THREADS;
 use model::Verdict;
 use rows::ROW;
 
-// The largest table has four constraints for each record, one for each block value and the goal, of six numbers each.
-pub const MOST_NUMBERS: usize = ROW * (4 * MOST_RECORDS + MOST_SWITCHES as usize * ITEMS + 1);
+// The largest table has four constraints for each record, one more for each but its thread's first, one for each block value and the
+// goal, of six numbers each.
+pub const MOST_NUMBERS: usize = ROW
+    * (4 * MOST_RECORDS + THREADS * (MOST_LINES - 1) + MOST_SWITCHES as usize * ITEMS + 1);
 
 // The table of a case: refusals 1 to 9, then 10; else its constraints, six numbers each, from the slice's start.
 pub fn encode(case: &[u8], table: &mut [u16]) -> Encoded
@@ -73,7 +79,8 @@ fn encode_accepted(case: &[u8], table: &mut [u16]) -> Encoded
     }
 }
 
-// How many constraints the table of an accepted case has: its records' rows, the 6s and the 7.
+// How many constraints the table of an accepted case has: its records' rows, but for the 8s that first lines would have, the 6s and
+// the 7.
 fn constraint_count(case: &[u8]) -> usize
     requires { ⌜ Accepted (now case) ⌝ }
     ensures { λ r. ⌜ r ≡ length (model.table (caseOf (now (case .entry)))) ⌝ }
@@ -82,10 +89,38 @@ fn constraint_count(case: &[u8]) -> usize
     let mut n = 0;
     let mut k = 1;
     while k <= last {
-        n += ORDER_ROWS + value_rows(kind_of(case, k));
+        let kind = kind_of(case, k);
+        n += order_rows(false, kind) + value_rows(kind);
         k += 1;
     }
-    n + block_values(case) + 1
+    n - invisible_firsts(case) + block_values(case) + 1
+}
+
+// How many threads have an invisible first line.
+fn invisible_firsts(case: &[u8]) -> usize
+    requires { ⌜ Accepted (now case) ⌝ }
+    ensures { λ r. ⌜ r ≡ invisibleFirsts (caseOf (now (case .entry)) .threads) ⌝ }
+{
+    let threads = threads(case) as usize;
+    let mut n = 0;
+    let mut t = 0;
+    while t < threads {
+        n += bit_of(invisible_first(case, t)) as usize;
+        t += 1;
+    }
+    n
+}
+
+// Whether thread t has one.
+fn invisible_first(case: &[u8], t: usize) -> bool
+    requires { ⌜ OfThread (now case) t ⌝ }
+    ensures { λ r. ⌜ r ≡ invisibleFirst (threadLines (now (case .entry)) t) ⌝ }
+{
+    let k = first_of(case, t);
+    if k == 0 {
+        return false;
+    }
+    stays(false, kind_of(case, k))
 }
 
 // The table of an accepted case, from the slice's start: its rows without the goal, and the goal.
@@ -109,7 +144,7 @@ fn write_run(case: &[u8], table: &mut [u16]) -> usize
     write_blocks(case, table, values, &latest)
 }
 
-// The 3s, 1s and 2s of all threads, from the slice's start; the place after them.
+// The 3s, 8s, 1s and 2s of all threads, from the slice's start; the place after them.
 fn write_orders(case: &[u8], table: &mut [u16]) -> usize
     requires { ⌜ RoomFor (now case) (length (allOrderNumbers (now case))) (now table) ⌝ }
     ensures { λ r. ⌜ Put (allOrderNumbers (now (case .entry))) (now (table .entry)) 0 (now (table .exit)) r ⌝ }
@@ -140,10 +175,10 @@ fn write_order(case: &[u8], table: &mut [u16], start: usize, t: usize) -> usize
         let link = Link {
             before: previous,
             line,
+            kind: kind_of(case, k),
             next: next as u16,
         };
-        rows::put_order(table, at, link, threads, last, t as u16);
-        at += ROW * ORDER_ROWS;
+        at = rows::put_order(table, at, link, threads, last, t as u16);
         previous = line;
         k = next;
     }

@@ -9,7 +9,7 @@ use borrow.Author.Tests.{ne-eqb, not-true, not-false}
 use Rattle.laws.specs.RowCounts.{valueRowCount}
 use Rattle.laws.proofs.Views.{EqView, same, diff, eq-view}
 use Rattle.model.specs.CaseFile.{Kind, compute, store, load, input, assert, assume, lock, unlock, Line, kindOf}
-use Rattle.model.specs.Line.{Reads, noName, itemName, localName, nameOfA, hasExpression, nameOfB, nameOfTarget, guardTrue, holder, unrunValue, breaks, isInput}
+use Rattle.model.specs.Line.{Reads, noName, itemName, localName, nameOfA, hasExpression, nameOfB, nameOfTarget, guardTrue, holder, unrunValue, breaks, visible, isInput}
 
 -- A kind of number k: one of 1 to 7, or an unlock, which every other number gives.
 pub data KindView (k : ℕ) : Kind → Type 0 where
@@ -196,4 +196,17 @@ rows-other k n = go (kindOf k) (kind-view k)
     go assert v = refl
     go assume (is6 e) = absurd (n .0 .1 e)
     go lock (is7 e) = absurd (n .1 e)
+    go unlock v = refl
+
+pub visible-other : (k : ℕ) → (Not2 k 1 4 × k ≢ 5) × k ≢ 6 → true ≡ visible (kindOf k)
+visible-other k n = go (kindOf k) (kind-view k)
+  where
+    go : (κ : Kind) → KindView k κ → true ≡ visible κ
+    go compute (is1 e) = absurd (n .0 .0 .0 .1 e)
+    go store v = refl
+    go load v = refl
+    go input (is4 e) = absurd (n .0 .0 .1 e)
+    go assert (is5 e) = absurd (n .0 .1 e)
+    go assume (is6 e) = absurd (n .1 e)
+    go lock v = refl
     go unlock v = refl

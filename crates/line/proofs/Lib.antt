@@ -1,4 +1,5 @@
 pub mod KindNumbers
 pub mod Memories
 pub mod Expressions
+pub mod Eights
 pub mod CaseCounts

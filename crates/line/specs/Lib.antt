@@ -1,2 +1,3 @@
 pub mod CaseCounts
+pub mod Eights
 pub mod LineReads

@@ -12,8 +12,9 @@ ghost use Rattle.model.specs.Line.{localName, itemName, guardName, operandA, ha
 ghost use Rattle.model.specs.Line as model;
 ghost use Rattle.model.specs.Machine.{look, putLocal, putItem};
 ghost use Rattle.laws.specs.Accepted.{Accepted};
-ghost use Rattle.laws.specs.RowCounts.{valueRowCount};
+ghost use Rattle.laws.specs.RowCounts.{orderRowCount, valueRowCount};
 ghost use Rattle.case_file.specs.Records.{asLine};
+ghost use Rattle.line.specs.Eights.{hasEight};
 ghost use Rattle.line.specs.LineReads.{memory, readsFrom, Expressed, Breaks};
 ghost use Rattle.line.specs.CaseCounts.{HasCounts, OfCase};
 use case_file::Record;
@@ -128,8 +129,35 @@ pub fn target_name(globals: usize, l: Record) -> usize
     }
 }
 
-// How many order rows a line has in the table: a 3, and a 1 or a 2.
-pub const ORDER_ROWS: usize = 2;
+// Whether a line of a kind is visible: load, store, lock and unlock are.
+pub fn visible(kind: u16) -> bool
+    ensures { λ r. ⌜ r ≡ model.visible (kindOf kind) ⌝ }
+{
+    match kind {
+        1 => false,
+        4 => false,
+        5 => false,
+        6 => false,
+        _ => true,
+    }
+}
+
+// Whether a line, which is its thread's first or not, has an 8 in the table: an invisible line that is not the first has one.
+pub fn stays(first: bool, kind: u16) -> bool
+    ensures { λ r. ⌜ r ≡ hasEight first (kindOf kind) ⌝ }
+{
+    if first {
+        return false;
+    }
+    !visible(kind)
+}
+
+// How many order rows it has: a 3, its 8, and a 1 or a 2.
+pub fn order_rows(first: bool, kind: u16) -> usize
+    ensures { λ r. ⌜ r ≡ orderRowCount first (kindOf kind) ⌝ }
+{
+    if stays(first, kind) { 3 } else { 2 }
+}
 
 // How many other rows a line of a kind has: a 4, and a 5 for assume and lock.
 pub fn value_rows(kind: u16) -> usize

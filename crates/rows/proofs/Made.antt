@@ -1,23 +1,28 @@
 -- What the numbers of one row are, and which rows a line has.
 -- Assumes nothing.
-use mathlib.Core.Path.{_≡_, refl, sym, _∙_}
+use mathlib.Core.Path.{_≡_, refl, sym, ap, _∙_}
 use mathlib.Core.Logic.{_≢_, _⊎_, inl, inr}
-use Prim.Native.Nat.{ℕ, _+_, _≤_}
-use mathlib.Core.List.{List, [], _∷_}
+use Prim.Native.Nat.{ℕ, _+_, _*_, _≤_}
+use mathlib.Core.Bool.{Bool, true, false, cond, not}
+use mathlib.Core.List.{List, [], _∷_, _++_}
 use native.Mathlib.Omega.{arith}
 use native.Mathlib.Numerals.{add-one, add-two, add-three, add-four, add-five}
 use borrow.Author.Tests.{ne-eqb}
-use lib.ListN.{set}
+use lib.Dec.{eqb}
+use lib.ListN.{length, set}
 use Rattle.model.specs.CaseFile.{Kind, kindOf, Line, lineOf, Case, caseOf}
-use Rattle.model.specs.Table.{Row, row, followRow, lineOrderRows, valueRow, demandRows, numbersOf}
-use Rattle.laws.specs.RowCounts.{valueRowCount}
-use Rattle.laws.specs.Written.{numbersAt}
+use Rattle.model.specs.Line.{visible}
+use Rattle.model.specs.Table.{Row, row, followRow, stayRows, lineOrderRows, valueRow, demandRows, numbersOf}
+use Rattle.laws.specs.RowCounts.{orderRowCount, valueRowCount}
+use Rattle.laws.specs.Written.{numbersAt, Put}
 use Rattle.laws.proofs.Views.{EqView, same, diff, eq-view}
-use Rattle.laws.proofs.Writing.{numbers-none}
-use Rattle.laws.proofs.RowNumbers.{rows-then}
-use Rattle.laws.proofs.Sizes.{line-value-length}
+use Rattle.laws.proofs.Writing.{numbers-none, put-then}
+use Rattle.laws.proofs.RowNumbers.{numbers-of-append, rows-then}
+use Rattle.laws.proofs.Sizes.{six-a-row, line-value-length}
 use Rattle.case_file.specs.declared.Link.{Link}
-use Rattle.rows.specs.Rows.{Nearest, Stands}
+use Rattle.line.specs.Eights.{hasEight}
+use Rattle.line.proofs.Eights.{rows-by-eight}
+use Rattle.rows.specs.Rows.{Nearest, Stands, eightOf}
 
 pub six-stores :
     (d : List ℕ) (at a b c e f g : ℕ) →
@@ -29,7 +34,10 @@ six-stores d at a b c e f g = rw (add-one at, add-two at, add-three at, add-four
 pub one-row : (d a : List ℕ) (at : ℕ) {v w : Row} → a ≡ numbersAt d at (numbersOf (v ∷ [])) → v ≡ w → a ≡ numbersAt d at (numbersOf (w ∷ []))
 one-row d a at ea e = rw (← e) ea
 
--- the row after a line's 3
+pub put-one : {d a : List ℕ} {at : ℕ} {v w : Row} → a ≡ numbersAt d at (numbersOf (v ∷ [])) → v ≡ w → Put (numbersOf (w ∷ [])) d at a (at + 6)
+put-one {d} {a} {at} {w = w} ea e = record { slice = one-row d a at ea e; place = omega (arith, six-a-row (w ∷ [])) }
+
+-- the last order row of a line
 module _ (link : Link) (case : Case) (earlier : List Line) (l : Line) where
   pub follow-last : (ls : List Line) (n : ℕ) → link .next ≡ 0 → Stands link earlier l ls → n ≡ case .n → row 2 (link .line) n 0 0 0 ≡ followRow case l ls
   unfolding followRow Nearest
@@ -41,15 +49,41 @@ module _ (link : Link) (case : Case) (earlier : List Line) (l : Line) where
   follow-next [] z s = absurd (z (s .next))
   follow-next (next ∷ ls) z s = rw (s .line, s .next .number)
 
-  -- both order rows
-  pub order-is :
-      (ls : List Line) (d a b : List ℕ) (at T t : ℕ) (v w : Row) → Stands link earlier l ls → T ≡ case .T → v ≡ row 3 (link .line) T t 0 0
-      → w ≡ followRow case l ls → a ≡ numbersAt d at (numbersOf (v ∷ [])) → b ≡ numbersAt a (at + 6) (numbersOf (w ∷ []))
-      → b ≡ numbersAt d at (numbersOf (lineOrderRows case t earlier l ls))
+  -- the 8
+  pub stay-is : (ls : List Line) → Stands link earlier l ls → eightOf link ≡ stayRows earlier l
+  unfolding stayRows Nearest
+  stay-is ls s = go earlier (s .before)
+    where
+      turned : (q : Bool) (rows : List Row) → cond (not q) rows [] ≡ cond q [] rows
+      turned true rows = refl
+      turned false rows = refl
+
+      go : (early : List Line) → Nearest (link .before) early → eightOf link ≡ stayRows early l
+      go [] none = rw none
+      go (before ∷ early) near = rw (ne-eqb (link .before) 0 (near .some), s .kind, s .line, near .number) (turned (visible (l .kind)) _)
+
+  -- all order rows
+  pub order-put :
+      (ls : List Line) {d a b e : List ℕ} {at T t place : ℕ} {v w : Row} → Stands link earlier l ls → T ≡ case .T → v ≡ row 3 (link .line) T t 0 0
+      → w ≡ followRow case l ls → a ≡ numbersAt d at (numbersOf (v ∷ [])) → Put (numbersOf (eightOf link)) a (at + 6) b place
+      → e ≡ numbersAt b place (numbersOf (w ∷ [])) → Put (numbersOf (lineOrderRows case t earlier l ls)) d at e (place + 6)
   unfolding lineOrderRows
-  order-is ls d a b at T t v w s eT ev ew ea eb =
-      rows-then d a b at (at + 6) (row 3 (l .number) (case .T) t 0 0 ∷ []) (followRow case l ls ∷ [])
-      (one-row d a at ea (ev ∙ rw (s .line, eT))) refl (one-row a b (at + 6) eb ew)
+  order-put ls {t = t} s eT ev ew ea put ee =
+      rw (numbers-of-append (row 3 (l .number) (case .T) t 0 0 ∷ []) _, numbers-of-append (stayRows earlier l) _, ← (stay-is ls s))
+      (put-then (put-one ea (ev ∙ rw (s .line, eT))) (put-then put (put-one ee ew)))
+
+-- an 8, by whether the line has one, and how many numbers it is
+module _ (link : Link) {r q : Bool} (is : r ≡ hasEight (eqb (link .before) 0) (kindOf (link .kind))) (h : r ≡ q) where
+  pub eight-by : eightOf link ≡ cond q (row 8 (link .line) (link .before) 0 0 0 ∷ []) []
+  eight-by = ap (λ (x : Bool). cond x (row 8 (link .line) (link .before) 0 0 0 ∷ []) []) (sym is ∙ h)
+
+pub eight-size : (link : Link) → 12 + length (numbersOf (eightOf link)) ≡ 6 * orderRowCount (eqb (link .before) 0) (kindOf (link .kind))
+unfolding numbersOf
+eight-size link = go (hasEight (eqb (link .before) 0) (kindOf (link .kind))) ∙ ap (λ (x : ℕ). 6 * x) (rows-by-eight _ _ refl refl)
+  where
+    go : (q : Bool) → 12 + length (numbersOf (cond q (row 8 (link .line) (link .before) 0 0 0 ∷ []) [])) ≡ 6 * cond q 3 2
+    go true = refl
+    go false = refl
 
 -- the 5s
 no-demand : (x : ℕ) (case : Case) (earlier : List Line) (l : Line) → x ≢ 6 → x ≢ 7 → demandRows (kindOf x) case earlier l ≡ []

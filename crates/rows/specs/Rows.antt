@@ -4,13 +4,16 @@
 use mathlib.Core.Path.{_≡_}
 use mathlib.Core.Logic.{_≢_}
 use Prim.Native.Nat.{ℕ}
+use mathlib.Core.Bool.{cond}
 use mathlib.Core.List.{List, [], _∷_}
-use Rattle.model.specs.CaseFile.{Kind, Line, Case}
+use lib.Dec.{eqb}
+use Rattle.model.specs.CaseFile.{Kind, kindOf, Line, Case}
 use Rattle.model.specs.Table.{Row, row, followRow, lineOrderRows, valueRow, demandRows, numbersOf}
-use Rattle.laws.specs.Written.{numbersAt}
+use Rattle.laws.specs.Written.{numbersAt, Put}
 use Rattle.rows.specs.declared.Constraint.{Constraint}
 use Rattle.case_file.specs.declared.Link.{Link}
 use Rattle.line.specs.declared.Copies.{Copies}
+use Rattle.line.specs.Eights.{hasEight}
 
 -- A constraint as the code holds it.
 abbrev pub asRow : Constraint → Row
@@ -29,18 +32,23 @@ Nearest k (l ∷ ls) = IsLine k l
 pub record Stands (link : Link) (earlier : List Line) (l : Line) (ls : List Line) : Type 0 where
   pub before : Nearest (link .before) earlier
   pub line : link .line ≡ l .number
+  pub kind : kindOf (link .kind) ≡ l .kind
   pub next : Nearest (link .next) ls
 
--- The row after its 3, where n is the last block.
+-- Its 8, where it has one.
+abbrev pub eightOf : Link → List Row
+eightOf link = cond (hasEight (eqb (link .before) 0) (kindOf (link .kind))) (row 8 (link .line) (link .before) 0 0 0 ∷ []) []
+
+-- Its last order row, where n is the last block.
 abbrev pub Follows : Link → ℕ → Row → Type 0
 Follows link n w =
     (case : Case) (earlier : List Line) (l : Line) (ls : List Line) → Stands link earlier l ls → n ≡ case .n → w ≡ followRow case l ls
 
--- Its order rows, in a slice from a place on: the slice before and after.
-abbrev pub PutsOrder : Link → ℕ → ℕ → ℕ → List ℕ → ℕ → List ℕ → Type 0
-PutsOrder link T n t slice at after =
+-- Its order rows, in a slice from a place on: the slice before and after, and the place after them.
+abbrev pub PutsOrder : Link → ℕ → ℕ → ℕ → List ℕ → ℕ → List ℕ → ℕ → Type 0
+PutsOrder link T n t slice at after end =
     (case : Case) (earlier : List Line) (l : Line) (ls : List Line) → Stands link earlier l ls → T ≡ case .T → n ≡ case .n
-    → after ≡ numbersAt slice at (numbersOf (lineOrderRows case t earlier l ls))
+    → Put (numbersOf (lineOrderRows case t earlier l ls)) slice at after end
 
 -- The 4 of line k with these copies.
 abbrev pub fourOf : ℕ → Copies → Row

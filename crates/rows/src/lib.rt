@@ -3,14 +3,16 @@
 ghost use mathlib.Core.Path.{_≡_};
 ghost use Prim.Native.Nat.{_+_, _*_, _≤_};
 ghost use mathlib.Core.List.{[], _∷_};
+ghost use lib.Dec.{eqb};
 ghost use lib.ListN.{length};
 ghost use Rattle.model.specs.CaseFile.{kindOf};
 ghost use Rattle.model.specs.Table.{row, goalRow, numbersOf};
 ghost use Rattle.laws.specs.RowCounts.{orderRowCount, valueRowCount};
-ghost use Rattle.laws.specs.Written.{numbersAt};
-ghost use Rattle.rows.specs.Rows.{asRow, Follows, PutsOrder, fourOf, PutsDemand, PutsValues};
+ghost use Rattle.laws.specs.Written.{numbersAt, Put};
+ghost use Rattle.rows.specs.Rows.{asRow, Follows, eightOf, PutsOrder, fourOf, PutsDemand, PutsValues};
 use case_file::Link;
 use line::Copies;
+use line::stays;
 
 // A row of the table, and how many numbers it has.
 pub struct Constraint {
@@ -51,7 +53,21 @@ fn thread_row(k: u16, threads: u16, t: u16) -> Constraint
     }
 }
 
-// The row after a line's 3: a 1 with the next line, or a 2 with the last block.
+// The 8 of a line, with the line before it.
+fn stay_row(link: Link) -> Constraint
+    ensures { λ r. ⌜ asRow r ≡ row 8 (link .line) (link .before) 0 0 0 ⌝ }
+{
+    Constraint {
+        kind: 8,
+        one: link.line,
+        two: link.before,
+        three: 0,
+        four: 0,
+        five: 0,
+    }
+}
+
+// The last order row of a line: a 1 with the next line, or a 2 with the last block.
 fn follow_row(link: Link, last: u16) -> Constraint
     ensures { λ r. ⌜ Follows link last (asRow r) ⌝ }
 {
@@ -75,15 +91,30 @@ fn follow_row(link: Link, last: u16) -> Constraint
     }
 }
 
-// The order rows of a line of thread t.
-pub fn put_order(table: &mut [u16], at: usize, link: Link, threads: u16, last: u16, t: u16)
-    requires { ⌜ at + 6 * orderRowCount ≤ length (now table) ⌝ }
-    ensures { λ x. ⌜ PutsOrder link threads last t (now (table .entry)) at (now (table .exit)) ⌝ }
+// The 8 of a line, where it has one; the place after it.
+fn put_stay(table: &mut [u16], at: usize, link: Link) -> usize
+    requires { ⌜ at + length (numbersOf (eightOf link)) ≤ length (now table) ⌝ }
+    ensures { λ r. ⌜ Put (numbersOf (eightOf link)) (now (table .entry)) at (now (table .exit)) r ⌝ }
 {
-    let first = thread_row(link.line, threads, t);
-    put_row(table, at, first);
-    let second = follow_row(link, last);
-    put_row(table, at + ROW, second);
+    if stays(link.before == 0, link.kind) {
+        let w = stay_row(link);
+        put_row(table, at, w);
+        return at + ROW;
+    }
+    at
+}
+
+// The order rows of a line of thread t; the place after them.
+pub fn put_order(table: &mut [u16], at: usize, link: Link, threads: u16, last: u16, t: u16) -> usize
+    requires { ⌜ at + 6 * orderRowCount (eqb (link .before) 0) (kindOf (link .kind)) ≤ length (now table) ⌝ }
+    ensures { λ r. ⌜ PutsOrder link threads last t (now (table .entry)) at (now (table .exit)) r ⌝ }
+{
+    let three = thread_row(link.line, threads, t);
+    put_row(table, at, three);
+    let place = put_stay(table, at + ROW, link);
+    let follow = follow_row(link, last);
+    put_row(table, place, follow);
+    place + ROW
 }
 
 // The 4 of line k, which has these copies.

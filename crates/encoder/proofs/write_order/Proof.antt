@@ -8,8 +8,8 @@ use Rattle.laws.specs.Accepted.{linesFrom}
 use Rattle.laws.proofs.Following.{lines-less, next-low}
 use Rattle.rows.specs.Rows.{Nearest}
 use Rattle.encoder.specs.Parts.{orderNumbers}
-use Rattle.encoder.proofs.Walking.{orders, Walking, walking-start, walking-room, walking-end}
-use Rattle.encoder.proofs.Lines.{order-step}
+use Rattle.encoder.proofs.Walking.{orders, Walking, walking-start, walking-end}
+use Rattle.encoder.proofs.Lines.{order-room, order-step}
 use Rattle.encoder.proofs.write_order.Statement.{statement}
 use Rattle.encoder.proofs.write_order.Tie as tie
 
@@ -38,26 +38,23 @@ next-of-requires c κs = search needs
 cast-line : tie.Need-cast-line Inv-loop μ-loop
 cast-line c = search needs
 
-cast-put-order : tie.Need-cast-put-order Inv-loop μ-loop
-cast-put-order c = omega (arith, next-low _ (c .before .before .before .before .before .before .before .before .pre .accepted) (c .before .before .before .before .before .before .before .before .args .t) _ (c .before .loop-test .taken) (c .before .before .loop .inv .low), c .next-of .ensures)
+kind-of-requires : tie.Need-kind-of-requires Inv-loop μ-loop
+kind-of-requires c κs = search needs
 
-cast-put-order-2 : tie.Need-cast-put-order-2 Inv-loop μ-loop
-cast-put-order-2 c = search needs
+cast-t15 : tie.Need-cast-t15 Inv-loop μ-loop
+cast-t15 c = omega (arith, next-low _ (c .before .before .before .before .before .before .before .before .before .pre .accepted) (c .before .before .before .before .before .before .before .before .before .args .t) _ (c .before .before .loop-test .taken) (c .before .before .before .loop .inv .low), c .before .next-of .ensures)
+
+cast-put-order : tie.Need-cast-put-order Inv-loop μ-loop
+cast-put-order c = search needs
 
 put-order-requires : tie.Need-put-order-requires Inv-loop μ-loop
-put-order-requires c κs = walking-room (c .before .before .before .loop .inv) (c .before .before .before .before .before .before .before .before .before .pre .accepted) (c .before .before .loop-test .taken) (c .before .before .before .before .before .before .before .before .before .pre .room)
-
-mul-at : tie.Need-mul-at Inv-loop μ-loop
-mul-at c = search needs
-
-add-at : tie.Need-add-at Inv-loop μ-loop
-add-at c = let room = walking-room (c .before .before .before .before .before .before .loop .inv) (c .before .before .before .before .before .before .before .before .before .before .before .before .pre .accepted) (c .before .before .before .before .before .loop-test .taken) (c .before .before .before .before .before .before .before .before .before .before .before .before .pre .room) in omega arith
+put-order-requires c κs = order-room _ _ (c .before .before .before .before .loop .inv) (c .before .before .before .before .before .before .before .before .before .before .pre .accepted) (c .before .before .before .loop-test .taken) (c .before .kind-of .ensures) (c .before .before .before .before .before .before .before .before .before .before .pre .room)
 
 loop-less : tie.Need-loop-less Inv-loop μ-loop
-loop-less c = lines-less _ (c .before .before .before .before .before .before .before .before .before .before .before .before .pre .accepted) _ _ (c .before .before .before .before .before .loop-test .taken) (c .before .before .before .before .before .before .loop .inv .low) _ (c .before .before .before .before .next-of .ensures)
+loop-less c = lines-less _ (c .before .before .before .before .before .before .before .before .before .before .before .before .before .pre .accepted) _ _ (c .before .before .before .before .before .before .loop-test .taken) (c .before .before .before .before .before .before .before .loop .inv .low) _ (c .before .before .before .before .before .next-of .ensures)
 
 loop-again : tie.Need-loop-again Inv-loop μ-loop
-loop-again c = order-step (c .before .before .put-order .ensures) (c .before .before .before .before .before .before .loop .inv) (c .before .before .before .before .before .before .before .before .before .before .before .before .pre .accepted) (c .before .before .before .before .before .loop-test .taken) refl (c .before .before .before .before .next-of .ensures) (c .before .before .before .before .before .before .before .before .before .threads .ensures) (c .before .before .before .before .before .before .before .before .switches .ensures)
+loop-again c = order-step (c .before .before .put-order .ensures) (c .before .before .before .before .before .before .before .loop .inv) (c .before .before .before .before .before .before .before .before .before .before .before .before .before .pre .accepted) (c .before .before .before .before .before .before .loop-test .taken) refl (c .before .before .before .before .kind-of .ensures) (c .before .before .before .before .before .next-of .ensures) (c .before .before .before .before .before .before .before .before .before .before .threads .ensures) (c .before .before .before .before .before .before .before .before .before .switches .ensures)
 
 same-length : tie.Need-same-length Inv-loop μ-loop
 same-length c = c .before .loop .inv .writes .same
@@ -77,11 +74,10 @@ write-order-spec =
     loop-holds
     next-of-requires
     cast-line
+    kind-of-requires
+    cast-t15
     cast-put-order
-    cast-put-order-2
     put-order-requires
-    mul-at
-    add-at
     loop-less
     loop-again
     same-length
