@@ -269,11 +269,16 @@ module _ (case : Case) (wf : WellFormed case) where
     below-all-decoded (ls ∷ threads) =
         all-below-append wordSize (decodedValues case α [] ls) (allDecodedValues case α threads) (below-decoded [] ls) (below-all-decoded threads)
 
-  pub decoded-below : ((t : ℕ) → t < case .T → length (linesOf case t) < wordSize) → (xs : List ℕ) → AllBelow wordSize xs
-      → AllBelow wordSize (decode case (assignmentOf case xs))
-  unfolding decode assignmentOf
-  decoded-below few xs h =
-      all-below-append wordSize (countedLengths case (assignmentOf case xs)) (allDecodedValues case (assignmentOf case xs) (case .threads))
+  pub decoded-below : ((t : ℕ) → t < case .T → length (linesOf case t) < wordSize) → (α : Assignment) → ((k : ℕ) → α .value k < wordSize)
+      → AllBelow wordSize (decode case α)
+  unfolding decode
+  decoded-below few α h =
+      all-below-append wordSize (countedLengths case α) (allDecodedValues case α (case .threads))
       (all-below-numbersFrom wordSize _ 0 (suc (case .n))
-      (λ i. omega (arith, lines-in-block-few (assignmentOf case xs .block) i (linesOf case (i % case .T)), few (i % case .T) (turn case wf i))))
-      (below-all-decoded (assignmentOf case xs) (λ k. below-at wordSize xs (omega arith) h (2 * (k - 1) + 1)) (case .threads))
+      (λ i. omega (arith, lines-in-block-few (α .block) i (linesOf case (i % case .T)), few (i % case .T) (turn case wf i))))
+      (below-all-decoded α h (case .threads))
+
+  -- The values of an assignment that is a list of such numbers.
+  pub values-below : (xs : List ℕ) → AllBelow wordSize xs → (k : ℕ) → assignmentOf case xs .value k < wordSize
+  unfolding assignmentOf
+  values-below xs h k = below-at wordSize xs (omega arith) h (2 * (k - 1) + 1)

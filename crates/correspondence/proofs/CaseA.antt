@@ -6,7 +6,7 @@ use mathlib.Core.Logic.{_↔_, _⊎_, inl, inr}
 use Prim.Native.Nat.{ℕ, zero, suc, _≤_, _<_}
 use Prim.Native.Char.{code}
 use Prim.Native.String.{String, [] as nothing, _∷_ as _then_}
-use mathlib.Core.Bool.{Bool, true, cond, _||_}
+use mathlib.Core.Bool.{Bool, true, cond, _||_, true≢false}
 use mathlib.Core.List.{List, [], _∷_, _++_}
 use native.Mathlib.Omega.{arith}
 use native.Mathlib.Nat.{le-refl}
@@ -15,7 +15,7 @@ use Rattle.model.specs.Word.{wordSize, AllBelow}
 use Rattle.model.specs.CaseFile.{records, switchCount, caseOf, linesOf}
 use Rattle.model.specs.Accept.{verdict}
 use Rattle.model.specs.Schedule.{scheduleSize, lengthsFit, runOf}
-use Rattle.model.specs.Runs.{Legal, NoneBroken, InBlocks}
+use Rattle.model.specs.Runs.{KeepsRule, Legal, NoneBroken, InBlocks}
 use Rattle.model.specs.Answers.{answerOfRun, encoded, encodedInto, checked, decodedInto, replayed}
 use Rattle.model.specs.Listing.{listingText}
 use Rattle.model.specs.declared.Verdict.the-variants.{Accepted}
@@ -50,7 +50,7 @@ caseA n = bytesOf (
     ∷ 0 ∷ 2 ∷ 0 ∷ 0 ∷ 0 ∷ 16 ∷ 0 ∷ 5
     ∷ [])
 
--- The listing's rows, as the encoder writes them.
+-- The listing's rows, as the encoder writes them. Five: "case A's listing then begins 19 12 and has 8 4 3 0 0 0 after 3 4 2 0 0 0".
 unfoldable pub listingA : List ℕ
 listingA =
     3 ∷ 1 ∷ 2 ∷ 0 ∷ 0 ∷ 0
@@ -60,6 +60,7 @@ listingA =
     ∷ 3 ∷ 3 ∷ 2 ∷ 0 ∷ 0 ∷ 0
     ∷ 1 ∷ 3 ∷ 4 ∷ 0 ∷ 0 ∷ 0
     ∷ 3 ∷ 4 ∷ 2 ∷ 0 ∷ 0 ∷ 0
+    ∷ 8 ∷ 4 ∷ 3 ∷ 0 ∷ 0 ∷ 0
     ∷ 2 ∷ 4 ∷ 2 ∷ 0 ∷ 0 ∷ 0
     ∷ 3 ∷ 5 ∷ 2 ∷ 1 ∷ 0 ∷ 0
     ∷ 2 ∷ 5 ∷ 2 ∷ 0 ∷ 0 ∷ 0
@@ -86,7 +87,7 @@ linesOfText (line ∷ lines) = codesOf line ++ (10 ∷ linesOfText lines)
 unfoldable pub textA : List ℕ
 unfolding codesOf linesOfText
 textA = linesOfText (
-    "18 12"
+    "19 12"
     ∷ "3 1 2 0 0 0"
     ∷ "1 1 2 0 0 0"
     ∷ "3 2 2 0 0 0"
@@ -94,6 +95,7 @@ textA = linesOfText (
     ∷ "3 3 2 0 0 0"
     ∷ "1 3 4 0 0 0"
     ∷ "3 4 2 0 0 0"
+    ∷ "8 4 3 0 0 0"
     ∷ "2 4 2 0 0 0"
     ∷ "3 5 2 1 0 0"
     ∷ "2 5 2 0 0 0"
@@ -125,8 +127,8 @@ pub record EveryRunIsClean (bytes : List ℕ) : Type 0 where
 -- Document 01: "To be proved, as one table". One item, so one number of room for the final values.
 pub record CaseA : Type 0 where
   pub accepted : verdict (caseA 2) ≡ Accepted
-  pub counts : encoded (caseA 2) 108 ≡ Table 18 12
-  pub listing : encodedInto (caseA 2) (replicate 108 0) ≡ listingA
+  pub counts : encoded (caseA 2) 114 ≡ Table 19 12
+  pub listing : encodedInto (caseA 2) (replicate 114 0) ≡ listingA
   pub text : listingText (caseA 2) ≡ textA
   pub p1 : replayed (caseA 2) (2 ∷ 1 ∷ 2 ∷ []) 1 ≡ Violated 4
   pub p2 : replayed (caseA 2) (0 ∷ 1 ∷ 4 ∷ []) 1 ≡ Violated 4
@@ -140,6 +142,9 @@ pub record CaseA : Type 0 where
   -- Two: "Case A keeps its two violating schedules": the runs that violate are theirs, and no other schedule is answered with violated.
   pub two-violating-runs : (schedule : List ℕ) → ViolatingRun (caseA 2) schedule ↔ OneOfTheTwo schedule
   pub two-violated : (schedule : List ℕ) (room k : ℕ) → (replayed (caseA 2) schedule room ≡ Violated k) ↔ ((1 ≤ room) × (k ≡ 4) × OneOfTheTwo schedule)
+  -- Five: both keep the rule, so they are the two that assignments decode to; P4's does not, since its assert is run after a switch.
+  pub two-keep-the-rule : (schedule : List ℕ) → OneOfTheTwo schedule → KeepsRule (caseOf (caseA 2)) schedule
+  pub p4-breaks-the-rule : KeepsRule (caseOf (caseA 2)) (3 ∷ 1 ∷ 1 ∷ []) → ⊥
   -- Two: "P8 and P9 become: every run is clean." There are runs: here those with the most steps.
   pub p8 : EveryRunIsClean (caseA 0)
   pub p8-most-steps : replayed (caseA 0) (4 ∷ []) 1 ≡ Clean
@@ -253,6 +258,21 @@ violating-is-two schedule =
       λ two. violating .0 (two-small schedule two, (4, λ room h. two-answered schedule room h two)),
     )
 
+two-keep : (schedule : List ℕ) → OneOfTheTwo schedule → KeepsRule (caseOf (caseA 2)) schedule
+unfolding computing caseA
+two-keep schedule (inl e) = rw e keep
+  where
+    keep : KeepsRule (caseOf (caseA 2)) scheduleP1
+    keep zero few = (refl, (refl, (refl, tt)))
+    keep (suc zero) few = tt
+    keep (suc (suc t)) few = absurd (omega arith)
+two-keep schedule (inr e) = rw e keep
+  where
+    keep : KeepsRule (caseOf (caseA 2)) scheduleP2
+    keep zero few = (refl, (refl, (refl, tt)))
+    keep (suc zero) few = tt
+    keep (suc (suc t)) few = absurd (omega arith)
+
 pub case-a : CaseA
 unfolding computing allLists caseA listingA textA
 case-a = record {
@@ -271,6 +291,8 @@ case-a = record {
   p7-decodes = refl;
   two-violating-runs = violating-is-two;
   two-violated = λ schedule room k. (two-of-violated schedule room k, λ is. rw (is .1) (two-answered schedule room (is .0) (is .2)));
+  two-keep-the-rule = two-keep;
+  p4-breaks-the-rule = λ keeps. true≢false (keeps 0 (omega arith) .1 .1 .0);
   p8 = every-run-is-clean 0 refl refl refl (omega arith);
   p8-most-steps = refl;
   p9 = every-run-is-clean 1 refl refl refl (omega arith);

@@ -3,11 +3,12 @@
 -- Assumes nothing. Met again in Demand3.
 use mathlib.Core.Path.{_≡_, sym, ap₂, _∙_}
 use Prim.Native.Nat.{ℕ, suc, _+_}
+use mathlib.Core.Bool.{Bool}
 use mathlib.Core.List.{List, _++_}
 use native.Mathlib.Omega.{arith}
 use lib.ListN.{length, length-append, length-drop, take-append-drop}
 use lib.Seq.{take-at, drop-at, length-take-le}
-use Rattle.model.specs.CaseFile.{Case, hasNumber}
+use Rattle.model.specs.CaseFile.{Line, Case, hasNumber}
 use Rattle.model.specs.Machine.{start}
 use Rattle.model.specs.Assignment.{Assignment, variables, assignmentOf}
 use Rattle.model.specs.Schedule.{allInputLines, blockLengths, inputValues, givenIn, scheduleSize, countedLengths, allDecodedValues, decode}
@@ -43,11 +44,11 @@ module _ (case : Case) (wf : WellFormed case) where
   unfolding decode
   lengths-of-decode α = take-at (countedLengths case α) (allDecodedValues case α (case .threads)) (suc (case .n)) (length-of-counted case α)
 
-  values-of-decode : (α : Assignment) → inputValues case (decode case α) ≡ allDecodedValues case α (case .threads)
+  pub values-of-decode : (α : Assignment) → inputValues case (decode case α) ≡ allDecodedValues case α (case .threads)
   unfolding decode
   values-of-decode α = drop-at (countedLengths case α) (allDecodedValues case α (case .threads)) (suc (case .n)) (length-of-counted case α)
 
-  decodes-to-own : (α : Assignment) → DecodesTo case α (blockLengths case (decode case α)) (givenIn case (decode case α))
+  pub decodes-to-own : (α : Assignment) → DecodesTo case α (blockLengths case (decode case α)) (givenIn case (decode case α))
   decodes-to-own α = rw (lengths-of-decode α, values-of-decode α) (record {
     all-blocks = length-of-counted case α;
     lengths = counted-lengths case α;
@@ -57,7 +58,7 @@ module _ (case : Case) (wf : WellFormed case) where
   -- An assignment that meets constraints 1 to 6 decodes to a run that finishes and has its numbers.
   pub run-of-meets : (α : Assignment) → Meets case α
       → FinishesRun case (decode case α) × Agrees α (eventsOf case (decode case α)) × AgreesItems case α 0 (snapshotsOf case (decode case α))
-      × (breakCount case α ≡ brokenIn (eventsOf case (decode case α)))
+      × ((asked : Line → Bool) → breakCount case α asked ≡ brokenIn asked (eventsOf case (decode case α)))
   run-of-meets α m = sound case wf α (blockLengths case (decode case α)) (givenIn case (decode case α)) m (decodes-to-own α)
 
   -- ---- A schedule's assignment.
@@ -87,7 +88,7 @@ module _ (case : Case) (wf : WellFormed case) where
     -- The filled assignment of a run that finishes meets constraints 1 to 6,
     pub meets-of-run : FinishesRun case schedule
         → Meets case filled × DecodesTo case filled (blockLengths case schedule) (givenIn case schedule)
-        × (breakCount case filled ≡ brokenIn (eventsOf case schedule))
+        × ((asked : Line → Bool) → breakCount case filled asked ≡ brokenIn asked (eventsOf case schedule))
     meets-of-run legal = complete case wf filled (blockLengths case schedule) (givenIn case schedule) all-blocks legal (filled-agrees .0) (filled-agrees .1)
 
     -- and decodes to the schedule.

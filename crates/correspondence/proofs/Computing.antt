@@ -7,7 +7,7 @@ use Rattle.model.specs.Line.{localName, guardName, nameOfA, nameOfB, nameOfTarg
 use Rattle.model.specs.Machine.{look, putLocal, putItem, runBlock, strayLeft, firstStrayLeft, runBlocks, run}
 use Rattle.model.specs.Assignment.{assignmentOf, wasRun}
 use Rattle.model.specs.Copies.{latest, copyOf, valueBefore, readLocal, readItem, readName, readAfter, walkBack}
-use Rattle.model.specs.Table.{followRow, lineOrderRows, orderRows, demandRows, valueRows, allOrderRows, allValueRows, itemRows, blockRows, runRows, table, numbersOf}
+use Rattle.model.specs.Table.{followRow, stayRows, lineOrderRows, orderRows, demandRows, valueRows, allOrderRows, allValueRows, itemRows, blockRows, runRows, table, numbersOf}
 use Rattle.model.specs.Holds.{demandMet, fromRecord, someBreaks, someThreadBreaks, holds, firstFailing}
 use Rattle.model.specs.Schedule.{inputLines, allInputLines, valueGiven, stepsOf, lengthsFit, runOf, linesInBlock, decodedValues, allDecodedValues, decode}
 use Rattle.model.specs.Answers.{onCase, encoded, encodedInto, checked, decoded, decodedInto, replayed, replayedInto}
@@ -21,7 +21,7 @@ unfolding numbersFrom allFrom lowestFailing writtenOver
     look putLocal putItem runBlock strayLeft firstStrayLeft runBlocks run
     assignmentOf wasRun
     latest copyOf valueBefore readLocal readItem readName readAfter walkBack
-    followRow lineOrderRows orderRows demandRows valueRows allOrderRows allValueRows itemRows blockRows runRows table numbersOf
+    followRow stayRows lineOrderRows orderRows demandRows valueRows allOrderRows allValueRows itemRows blockRows runRows table numbersOf
     demandMet fromRecord someBreaks someThreadBreaks holds firstFailing
     inputLines allInputLines valueGiven stepsOf lengthsFit runOf linesInBlock decodedValues allDecodedValues decode
     onCase encoded encodedInto checked decoded decodedInto replayed replayedInto

@@ -44,7 +44,8 @@ columns = file (header 2 2 1 1 7 11 0 0)
     (rec 1 3 2 0 0 0 0 0
     [])))))))))))))
 
--- "3, line, T, thread", "1, line, next line", "2, last line, n": "for each thread and line a 3, then a 1 or (last line) a 2";
+-- "3, line, T, thread", "1, line, next line", "2, last line, n": "for each thread and line a 3, then a 1 or (last line) a 2"; Five: "8 (line,
+-- line before)", at records 12, 9 and 1 and at 8, after their 3s: the line before in the chain, whatever its number;
 -- "then for each thread and line a 4, and a 5 for assume and lock; then the 6s by block and item; then the 7."
 -- "4, line, guard copy, a copy, b copy, target copy": record 3 has five different numbers, and so has 13 but for b.
 -- "5, line, guard copy, target copy": record 4's, the second lock; 8's is an assume ("both copies then 0").
@@ -55,8 +56,10 @@ columnsListing =
     3 ∷ 7 ∷ 2 ∷ 0 ∷ 0 ∷ 0
     ∷ 1 ∷ 7 ∷ 12 ∷ 0 ∷ 0 ∷ 0
     ∷ 3 ∷ 12 ∷ 2 ∷ 0 ∷ 0 ∷ 0
+    ∷ 8 ∷ 12 ∷ 7 ∷ 0 ∷ 0 ∷ 0
     ∷ 1 ∷ 12 ∷ 9 ∷ 0 ∷ 0 ∷ 0
     ∷ 3 ∷ 9 ∷ 2 ∷ 0 ∷ 0 ∷ 0
+    ∷ 8 ∷ 9 ∷ 12 ∷ 0 ∷ 0 ∷ 0
     ∷ 1 ∷ 9 ∷ 5 ∷ 0 ∷ 0 ∷ 0
     ∷ 3 ∷ 5 ∷ 2 ∷ 0 ∷ 0 ∷ 0
     ∷ 1 ∷ 5 ∷ 3 ∷ 0 ∷ 0 ∷ 0
@@ -69,6 +72,7 @@ columnsListing =
     ∷ 3 ∷ 13 ∷ 2 ∷ 0 ∷ 0 ∷ 0
     ∷ 1 ∷ 13 ∷ 1 ∷ 0 ∷ 0 ∷ 0
     ∷ 3 ∷ 1 ∷ 2 ∷ 0 ∷ 0 ∷ 0
+    ∷ 8 ∷ 1 ∷ 13 ∷ 0 ∷ 0 ∷ 0
     ∷ 2 ∷ 1 ∷ 2 ∷ 0 ∷ 0 ∷ 0
     ∷ 3 ∷ 11 ∷ 2 ∷ 1 ∷ 0 ∷ 0
     ∷ 1 ∷ 11 ∷ 6 ∷ 0 ∷ 0 ∷ 0
@@ -77,6 +81,7 @@ columnsListing =
     ∷ 3 ∷ 2 ∷ 2 ∷ 1 ∷ 0 ∷ 0
     ∷ 1 ∷ 2 ∷ 8 ∷ 0 ∷ 0 ∷ 0
     ∷ 3 ∷ 8 ∷ 2 ∷ 1 ∷ 0 ∷ 0
+    ∷ 8 ∷ 8 ∷ 2 ∷ 0 ∷ 0 ∷ 0
     ∷ 2 ∷ 8 ∷ 2 ∷ 0 ∷ 0 ∷ 0
     ∷ 4 ∷ 7 ∷ 0 ∷ 0 ∷ 0 ∷ 0
     ∷ 4 ∷ 12 ∷ 0 ∷ 0 ∷ 0 ∷ 0
@@ -101,12 +106,12 @@ columnsListing =
     ∷ 7 ∷ 0 ∷ 0 ∷ 0 ∷ 0 ∷ 0
     ∷ []
 
-columns-listing : encodedInto columns (replicate 282 9) ≡ columnsListing
+columns-listing : encodedInto columns (replicate 306 9) ≡ columnsListing
 unfolding computing columns columnsListing
 columns-listing = refl
 
--- 47 constraints; "2R + n × (G + M)": 26 + 2 × 2.
-columns-counts : encoded columns 282 ≡ Table 47 30
+-- 51 constraints; "2R + n × (G + M)": 26 + 2 × 2.
+columns-counts : encoded columns 306 ≡ Table 51 30
 unfolding computing columns
 columns-counts = refl
 
@@ -123,34 +128,34 @@ block-values : checked columns (assigned 14 1 25 0) ≡ Meets
 unfolding computing columns assigned
 block-values = refl
 
--- The items of block 0 exchanged: row 43 is the 6 of item 0 in block 0.
-items-of-block-0-exchanged : checked columns (assigned 1 14 25 0) ≡ Fails 43
+-- The items of block 0 exchanged: row 47 is the 6 of item 0 in block 0.
+items-of-block-0-exchanged : checked columns (assigned 1 14 25 0) ≡ Fails 47
 unfolding computing columns assigned
 items-of-block-0-exchanged = refl
 
--- The items of block 1 exchanged: the mutex reads 25 at record 4 in block 2, and row 35 is its 5.
-items-of-block-1-exchanged : checked columns (assigned 14 1 0 25) ≡ Fails 35
+-- The items of block 1 exchanged: the mutex reads 25 at record 4 in block 2, and row 39 is its 5.
+items-of-block-1-exchanged : checked columns (assigned 14 1 0 25) ≡ Fails 39
 unfolding computing columns assigned
 items-of-block-1-exchanged = refl
 
--- The blocks of item 0 exchanged: record 13 in block 2 loads 14, and row 36 is its 4.
-blocks-of-item-0-exchanged : checked columns (assigned 25 1 14 0) ≡ Fails 36
+-- The blocks of item 0 exchanged: record 13 in block 2 loads 14, and row 40 is its 4.
+blocks-of-item-0-exchanged : checked columns (assigned 25 1 14 0) ≡ Fails 40
 unfolding computing columns assigned
 blocks-of-item-0-exchanged = refl
 
 -- The blocks of item 1 exchanged: the mutex reads 1 at record 4.
-blocks-of-item-1-exchanged : checked columns (assigned 14 0 25 1) ≡ Fails 35
+blocks-of-item-1-exchanged : checked columns (assigned 14 0 25 1) ≡ Fails 39
 unfolding computing columns assigned
 blocks-of-item-1-exchanged = refl
 
 -- By item and then block: record 13 loads 1.
-block-and-item-exchanged : checked columns (assigned 14 25 1 0) ≡ Fails 36
+block-and-item-exchanged : checked columns (assigned 14 25 1 0) ≡ Fails 40
 unfolding computing columns assigned
 block-and-item-exchanged = refl
 
 -- "walking back over that thread's copies of the item, the block value is that of the first with block number i": record 10's,
--- since 4 is in block 2. Row 44 is the 6 of item 1 in block 0.
-walks-back : checked columns (assigned 14 0 25 0) ≡ Fails 44
+-- since 4 is in block 2. Row 48 is the 6 of item 1 in block 0.
+walks-back : checked columns (assigned 14 0 25 0) ≡ Fails 48
 unfolding computing columns assigned
 walks-back = refl
 
@@ -283,7 +288,7 @@ refused-numbers : verdictNumbers (verdict (file (header 2 0 0 0 1 0 0 0) (rec 2 
 unfolding computing file numbers
 refused-numbers = refl
 
-encoded-numbers : encodedNumbers (encoded (caseA 2) 108) ≡ numbers 0 0 1 18 12
+encoded-numbers : encodedNumbers (encoded (caseA 2) 114) ≡ numbers 0 0 1 19 12
 unfolding computing caseA numbers
 encoded-numbers = refl
 
@@ -291,7 +296,7 @@ meets-numbers : checkedNumbers (checked columns (assigned 14 1 25 0)) ≡ number
 unfolding computing columns assigned numbers
 meets-numbers = refl
 
-fails-numbers : checkedNumbers (checked columns (assigned 14 0 25 0)) ≡ numbers 0 0 2 44 0
+fails-numbers : checkedNumbers (checked columns (assigned 14 0 25 0)) ≡ numbers 0 0 2 48 0
 unfolding computing columns assigned numbers
 fails-numbers = refl
 
@@ -311,6 +316,6 @@ cut-off-numbers : replayedNumbers (replayed cutAfterAssert (6 ∷ 1 ∷ []) 5) �
 unfolding computing cutAfterAssert numbers
 cut-off-numbers = refl
 
-listed-numbers : listedNumbers (listed (caseA 2) 222) ≡ numbers 0 0 1 222 0
+listed-numbers : listedNumbers (listed (caseA 2) 234) ≡ numbers 0 0 1 234 0
 unfolding computing caseA numbers
 listed-numbers = refl

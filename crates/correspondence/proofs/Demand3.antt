@@ -3,44 +3,50 @@
 -- Assumes nothing. This is where the other modules lead.
 use mathlib.Core.Path.{_≡_, refl, sym, ap, _∙_, subst}
 use Prim.Native.Nat.{ℕ, suc, _≤_, _<_}
+use mathlib.Core.Bool.{Bool}
 use mathlib.Core.List.{List, _++_, append-nil}
 use native.Mathlib.Omega.{arith}
 use native.Mathlib.Nat.{le-refl}
+use lib.Dec.{eqb}
 use lib.ListN.{length, take, drop, replicate, length-replicate}
 use lib.Seq.{take-append-seam, drop-length, length-take-le}
 use Rattle.model.specs.Word.{wordSize, AllBelow}
 use Rattle.model.specs.Lists.{writtenOver}
-use Rattle.model.specs.CaseFile.{Case, caseOf, linesOf}
+use Rattle.model.specs.CaseFile.{Line, Case, caseOf, linesOf}
 use Rattle.model.specs.Accept.{verdict}
 use Rattle.model.specs.Machine.{start}
 use Rattle.model.specs.Assignment.{Assignment, variables, assignmentOf}
 use Rattle.model.specs.Table.{table, numbersOf}
 use Rattle.model.specs.Schedule.{scheduleSize, blockLengths, inputValues, givenIn, decode}
-use Rattle.model.specs.Runs.{courseOf, ends, Takes}
+use Rattle.model.specs.Runs.{courseOf, KeepsRule, ends, BrokenAt, Takes}
 use Rattle.model.specs.Answers.{checked}
 use Rattle.model.specs.declared.Verdict.the-variants.{Accepted}
 use Rattle.model.specs.declared.Checked.the-variants.{Meets}
 use Rattle.model.specs.declared.Decoded.the-variants as decodeds
 use Rattle.laws.proofs.Accepted.{accepted-of}
 use Rattle.laws.proofs.Below.{all-below-drop}
-use Rattle.correspondence.specs.Meaning.{WellFormed}
+use Rattle.correspondence.specs.Meaning.{WellFormed, everyLine}
+use Rattle.correspondence.specs.Meaning as meaning
 use Rattle.correspondence.specs.Fill.{fill}
 use Rattle.laws.specs.AllHold.{AllHold}
 use Rattle.correspondence.specs.ReadBack.{rowsOf}
 use Rattle.correspondence.specs.Agreement.{brokenIn}
-use Rattle.correspondence.specs.Demand3.{tableRoom, scheduleRoom, itemRoom, writtenRows, Yes, DecodedAs, counted, AnsweredViolated, ViolatingRun, Demand3, ForEveryAcceptedCase}
+use Rattle.correspondence.specs.Demand3.{tableRoom, scheduleRoom, itemRoom, writtenRows, Yes, DecodedAs, counted, AnsweredViolated, ViolatingRun, MeetsWithoutEights, Demand3, ForEveryAcceptedCase}
 use Rattle.correspondence.proofs.KindByKind.{steps-as-said}
 use Rattle.correspondence.proofs.WellFormed.{well-formed}
 use Rattle.correspondence.proofs.Replies.{PassesCheck, passes-of-meets, meets-of-passes, encoded-with-room, encoded-short, encoded-into, decoded-with-room, decoded-short, decoded-into, replayed-short}
-use Rattle.correspondence.proofs.Rows.{meets-of-table, table-of-meets}
+use Rattle.correspondence.proofs.Rows.{meets-of-table, stays-of-table, table-of-meets}
 use Rattle.laws.proofs.AllHold.{none-fails, all-hold-none-fails}
+use Rattle.laws.proofs.WithoutEights.{all-hold-without}
 use Rattle.correspondence.proofs.FirstFailing.{checker-names-the-first, fails-of-first, rows-of-numbers}
 use Rattle.correspondence.proofs.Numbers.{length-of-assignment}
-use Rattle.correspondence.proofs.Bounds.{filled-below, decoded-below}
-use Rattle.correspondence.proofs.Claims.{eventsOf, FinishesRun, size-of-decode, run-of-meets, meets-of-run, decode-of-fill, fill-of-decode}
+use Rattle.correspondence.proofs.Bounds.{filled-below, decoded-below, values-below}
+use Rattle.correspondence.proofs.Claims.{eventsOf, FinishesRun, size-of-decode, values-of-decode, run-of-meets, meets-of-run, decode-of-fill, fill-of-decode}
 use Rattle.correspondence.proofs.Courses.{up-to-none}
 use Rattle.correspondence.proofs.Endings.{no-stray-of-left, few-steps, lengths-fit, legal-of-finished, left-of-finished, few-steps-of-finished, broken-of-steps, first-of-some, some-of-first}
 use Rattle.correspondence.proofs.RunEnds.{finished-run, first-lines-of-legal}
+use Rattle.correspondence.proofs.Keeping.{keeps-of-stays, stays-of-keeps}
+use Rattle.correspondence.proofs.Moved.{movedAssignment, moved-stays, moved-meets, moved-breaks, moved-values}
 use Rattle.correspondence.proofs.RunReplies.{takes-of-answered, answered-of-takes, run-of-violated, violated-of-run, run-of-clean, clean-of-run, run-of-cut-off, cut-off-of-run, run-of-14, refused-14-of-run, values-of-cut-off, values-of-legal, takes-of-in-blocks}
 
 -- A result as long as the slice takes its place.
@@ -48,12 +54,16 @@ written-whole : (result slice : List ℕ) → length result ≡ length slice →
 unfolding writtenOver
 written-whole result slice h = ap (λ (k : ℕ). result ++ drop k slice) h ∙ ap (λ (xs : List ℕ). result ++ xs) (drop-length slice) ∙ append-nil result
 
+-- Record k alone is asked about.
+abbrev isRecord : ℕ → Line → Bool
+isRecord k l = eqb (l .number) k
+
 -- A schedule whose run finishes and violates, as the trace has it.
 record Breaking (case : Case) (schedule : List ℕ) : Type 0 where
   numbers : AllBelow wordSize schedule
   has-size : length schedule ≡ scheduleSize case
   finished : FinishesRun case schedule
-  some-broken : 0 < brokenIn (eventsOf case schedule)
+  some-broken : 0 < brokenIn everyLine (eventsOf case schedule)
 
 module _ (bytes : List ℕ) (small : AllBelow 256 bytes) (accepted : verdict bytes ≡ Accepted) where
   abbrev case : Case
@@ -66,7 +76,7 @@ module _ (bytes : List ℕ) (small : AllBelow 256 bytes) (accepted : verdict byt
   assigned xs = assignmentOf case xs
 
   -- ---- The encoder's table and the checker's yes.
-  read-back : (slice : List ℕ) → tableRoom bytes ≤ length slice → writtenRows bytes slice ≡ table case
+  pub read-back : (slice : List ℕ) → tableRoom bytes ≤ length slice → writtenRows bytes slice ≡ table case
   unfolding writtenOver
   read-back slice h =
       ap (λ (xs : List ℕ). rowsOf (take (tableRoom bytes) xs)) (encoded-into bytes accepted slice h)
@@ -83,16 +93,25 @@ module _ (bytes : List ℕ) (small : AllBelow 256 bytes) (accepted : verdict byt
   few-lines : (t : ℕ) → t < case .T → length (linesOf case t) < wordSize
   few-lines t ht = omega (arith, accepted-of bytes accepted .few-lines t ht)
 
-  run-of-yes : (xs : List ℕ) → Yes bytes xs → Breaking case (decode case (assigned xs))
-  run-of-yes xs told =
-      let met = meets-of-table case wf (assigned xs) (rows-of-yes xs (told .1)) in
-      let run = run-of-meets case wf (assigned xs) (met .0) in
+  breaking-of-meets : (α : Assignment) → ((k : ℕ) → α .value k < wordSize) → meaning.Meets case α → 0 < meaning.breakCount case α everyLine
+      → Breaking case (decode case α)
+  breaking-of-meets α small meets some =
+      let run = run-of-meets case wf α meets in
       record {
-        numbers = decoded-below case wf few-lines xs (told .0);
-        has-size = size-of-decode case wf (assigned xs);
+        numbers = decoded-below case wf few-lines α small;
+        has-size = size-of-decode case wf α;
         finished = run .0;
-        some-broken = rw (← (run .3)) (met .1);
+        some-broken = rw (← (run .3 everyLine)) some;
       }
+
+  met : (xs : List ℕ) → checked bytes xs ≡ Meets → meaning.Meets case (assigned xs) × (0 < meaning.breakCount case (assigned xs) everyLine)
+  met xs told = meets-of-table case wf (assigned xs) (all-hold-without case (assigned xs) (table case) (rows-of-yes xs told))
+
+  run-of-yes : (xs : List ℕ) → Yes bytes xs → Breaking case (decode case (assigned xs))
+  run-of-yes xs told = breaking-of-meets (assigned xs) (values-below case wf xs (told .0)) (met xs (told .1) .0) (met xs (told .1) .1)
+
+  keeps-of-yes : (xs : List ℕ) → Yes bytes xs → KeepsRule case (decode case (assigned xs))
+  keeps-of-yes xs told = keeps-of-stays case wf (assigned xs) (met xs (told .1) .0) (stays-of-table case wf (assigned xs) (rows-of-yes xs (told .1)))
 
   violated-of-breaking : (schedule : List ℕ) → Breaking case schedule → AnsweredViolated bytes schedule
   violated-of-breaking schedule run =
@@ -100,7 +119,7 @@ module _ (bytes : List ℕ) (small : AllBelow 256 bytes) (accepted : verdict byt
       let given = givenIn case schedule in
       let legal = legal-of-finished case given 0 lens (start case) (run .finished) in
       let same = up-to-none (ends case given) (courseOf case schedule) (legal .1) in
-      let found = first-of-some case given (courseOf case schedule) (rw (← (broken-of-steps case given 0 lens (start case))) (run .some-broken)) in
+      let found = first-of-some case given everyLine (courseOf case schedule) (rw (← (broken-of-steps case given everyLine 0 lens (start case))) (run .some-broken)) in
       let takes : Takes case schedule = record {
         not-12 = run .has-size;
         not-13 = lengths-fit case lens (few-steps-of-finished case given wf 0 lens (start case) (wf .thread-count) (run .finished));
@@ -126,7 +145,7 @@ module _ (bytes : List ℕ) (small : AllBelow 256 bytes) (accepted : verdict byt
         numbers = answered .0;
         has-size = run .0 .not-12;
         finished = finished-run case wf schedule (run .0) legal;
-        some-broken = rw (broken-of-steps case given 0 lens (start case)) (some-of-first case given (courseOf case schedule) (run .2 .0) first);
+        some-broken = rw (broken-of-steps case given everyLine 0 lens (start case)) (some-of-first case given everyLine (courseOf case schedule) (run .2 .0) first);
       }
 
   -- ---- What the decoder writes.
@@ -151,24 +170,85 @@ module _ (bytes : List ℕ) (small : AllBelow 256 bytes) (accepted : verdict byt
   filling-is : (xs schedule : List ℕ) → Yes bytes xs → DecodedAs bytes xs schedule → fill case schedule ≡ xs
   filling-is xs schedule told written =
       ap (fill case) (sym (decoding-is xs schedule told written))
-      ∙ fill-of-decode case wf xs (passes-of-meets bytes xs (told .1) .has-size) (meets-of-table case wf (assigned xs) (rows-of-yes xs (told .1)) .0)
+      ∙ fill-of-decode case wf xs (passes-of-meets bytes xs (told .1) .has-size) (met xs (told .1) .0)
 
   -- ---- From violated to yes.
-  yes-of-run : (schedule : List ℕ) → Breaking case schedule → Yes bytes (fill case schedule)
+  filled-small : (schedule : List ℕ) → Breaking case schedule → AllBelow wordSize (fill case schedule)
   unfolding fill
-  yes-of-run schedule run =
-      let met = meets-of-run case wf schedule (run .has-size) (run .finished) in
-      let lens-sized = length-take-le (suc (case .n)) schedule (omega (arith, run .has-size)) in (
-        filled-below case wf (inputValues case schedule) (blockLengths case schedule)
-            (all-below-drop wordSize (suc (case .n)) schedule (run .numbers)) lens-sized,
-        meets-of-passes bytes (fill case schedule) (passes-of-rows (fill case schedule) (length-of-assignment case _)
-            (table-of-meets case wf (assigned (fill case schedule)) (met .0) (rw (met .2) (run .some-broken)))),
+  filled-small schedule run =
+      filled-below case wf (inputValues case schedule) (blockLengths case schedule) (all-below-drop wordSize (suc (case .n)) schedule (run .numbers))
+      (length-take-le (suc (case .n)) schedule (omega (arith, run .has-size)))
+
+  filled-length : (schedule : List ℕ) → length (fill case schedule) ≡ variables case
+  unfolding fill
+  filled-length schedule = length-of-assignment case _
+
+  yes-of-run : (schedule : List ℕ) → Breaking case schedule → KeepsRule case schedule → Yes bytes (fill case schedule)
+  yes-of-run schedule run keeps =
+      let found = meets-of-run case wf schedule (run .has-size) (run .finished) in (
+        filled-small schedule run,
+        meets-of-passes bytes (fill case schedule) (passes-of-rows (fill case schedule) (filled-length schedule)
+            (table-of-meets case wf (assigned (fill case schedule)) (found .0) (stays-of-keeps case wf schedule (run .has-size) (run .finished) keeps)
+            (rw (found .2 everyLine) (run .some-broken)))),
       )
 
-  fill-decoded-as : (schedule : List ℕ) → Breaking case schedule → DecodedAs bytes (fill case schedule) schedule
-  fill-decoded-as schedule run =
+  fill-decoded-as : (schedule : List ℕ) → Breaking case schedule → KeepsRule case schedule → DecodedAs bytes (fill case schedule) schedule
+  fill-decoded-as schedule run keeps =
       subst (DecodedAs bytes (fill case schedule)) (decode-of-fill case wf schedule (run .has-size) (run .finished))
-      (decoded-as (fill case schedule) (yes-of-run schedule run))
+      (decoded-as (fill case schedule) (yes-of-run schedule run keeps))
+
+  -- ---- Five: the schedule with invisible lines moved.
+  record KeptOf (schedule : List ℕ) : Type 0 where
+    kept : List ℕ
+    run : Breaking case kept
+    keeps : KeepsRule case kept
+    same-inputs : inputValues case kept ≡ inputValues case schedule
+    same-lines : (asked : Line → Bool) → brokenIn asked (eventsOf case kept) ≡ brokenIn asked (eventsOf case schedule)
+
+  kept-of : (schedule : List ℕ) → Breaking case schedule → KeptOf schedule
+  kept-of schedule run =
+      let α = assigned (fill case schedule) in
+      let found = meets-of-run case wf schedule (run .has-size) (run .finished) in
+      let β = movedAssignment case wf α (found .0) in
+      let meets = moved-meets case wf α (found .0) in
+      let some : 0 < meaning.breakCount case α everyLine = rw (found .2 everyLine) (run .some-broken) in
+      record {
+        kept = decode case β;
+        run = breaking-of-meets β (values-below case wf (fill case schedule) (filled-small schedule run)) meets (rw (moved-breaks case wf α (found .0) everyLine) some);
+        keeps = keeps-of-stays case wf β meets (moved-stays case wf α (found .0));
+        same-inputs = values-of-decode case wf β ∙ moved-values case wf α (found .0) ∙ sym (values-of-decode case wf α)
+            ∙ ap (inputValues case) (decode-of-fill case wf schedule (run .has-size) (run .finished));
+        same-lines = λ asked. sym (run-of-meets case wf β meets .3 asked) ∙ moved-breaks case wf α (found .0) asked ∙ found .2 asked;
+      }
+
+  -- A line violates in the run just where its event does.
+  broken-at-of-events : (schedule : List ℕ) → Breaking case schedule → (k : ℕ) → 0 < brokenIn (isRecord k) (eventsOf case schedule) → BrokenAt case schedule k
+  broken-at-of-events schedule run k some =
+      let lens = blockLengths case schedule in
+      let given = givenIn case schedule in
+      let legal = legal-of-finished case given 0 lens (start case) (run .finished) in
+      rw (up-to-none (ends case given) (courseOf case schedule) (legal .1))
+      (first-of-some case given (isRecord k) (courseOf case schedule) (rw (← (broken-of-steps case given (isRecord k) 0 lens (start case))) some))
+
+  events-of-broken-at : (schedule : List ℕ) → Breaking case schedule → (k : ℕ) → BrokenAt case schedule k → 0 < brokenIn (isRecord k) (eventsOf case schedule)
+  events-of-broken-at schedule run k at =
+      let lens = blockLengths case schedule in
+      let given = givenIn case schedule in
+      let legal = legal-of-finished case given 0 lens (start case) (run .finished) in
+      let first = rw (up-to-none (ends case given) (courseOf case schedule) (legal .1)) at (at .1) in
+      rw (broken-of-steps case given (isRecord k) 0 lens (start case)) (some-of-first case given (isRecord k) (courseOf case schedule) (at .0) first)
+
+  yes-of-breaking : (schedule : List ℕ) → Breaking case schedule → (xs : List ℕ) × Yes bytes xs
+  yes-of-breaking schedule run = let moved = kept-of schedule run in (fill case (moved .kept), yes-of-run (moved .kept) (moved .run) (moved .keeps))
+
+  without-of-yes : (slice xs : List ℕ) → tableRoom bytes ≤ length slice → Yes bytes xs → MeetsWithoutEights bytes slice xs
+  without-of-yes slice xs h told =
+      (told .0, passes-of-meets bytes xs (told .1) .has-size, rw (read-back slice h) (all-hold-without case (assigned xs) (table case) (rows-of-yes xs (told .1))))
+
+  breaking-of-without : (slice xs : List ℕ) → tableRoom bytes ≤ length slice → MeetsWithoutEights bytes slice xs → Breaking case (decode case (assigned xs))
+  breaking-of-without slice xs h told =
+      let found = meets-of-table case wf (assigned xs) (rw (read-back slice h) at (told .2)) in
+      breaking-of-meets (assigned xs) (values-below case wf xs (told .0)) (found .0) (found .1)
 
   -- ---- The machine under "Runs".
   run-of-answered : (schedule : List ℕ) → AnsweredViolated bytes schedule → ViolatingRun bytes schedule
@@ -194,8 +274,8 @@ module _ (bytes : List ℕ) (small : AllBelow 256 bytes) (accepted : verdict byt
   violated-of-yes : (xs : List ℕ) → Yes bytes xs → AnsweredViolated bytes (counted bytes xs)
   violated-of-yes xs told = violated-of-breaking _ (run-of-yes xs told)
 
-  yes-of-violated : (schedule : List ℕ) → AnsweredViolated bytes schedule → Yes bytes (fill case schedule)
-  yes-of-violated schedule answered = yes-of-run schedule (breaking-of-violated schedule answered)
+  yes-of-violated : (schedule : List ℕ) → AnsweredViolated bytes schedule → (xs : List ℕ) × Yes bytes xs
+  yes-of-violated schedule answered = yes-of-breaking schedule (breaking-of-violated schedule answered)
 
   corresponds : Demand3 bytes
   corresponds = record {
@@ -209,16 +289,33 @@ module _ (bytes : List ℕ) (small : AllBelow 256 bytes) (accepted : verdict byt
     );
     some-yes-is-some-violating-run = (
       (λ some. (counted bytes (some .0), run-of-answered _ (violated-of-yes (some .0) (some .1)))),
-      (λ some. (fill case (some .0), yes-of-violated (some .0) (answered-of-run (some .0) (some .1)))),
+      (λ some. yes-of-violated (some .0) (answered-of-run (some .0) (some .1))),
     );
     some-yes-is-some-violated = (
       (λ some. (counted bytes (some .0), violated-of-yes (some .0) (some .1))),
-      (λ some. (fill case (some .0), yes-of-violated (some .0) (some .1))),
+      (λ some. yes-of-violated (some .0) (some .1)),
     );
     violated-is-violating-run = λ schedule. (run-of-answered schedule, answered-of-run schedule);
-    decodes-to-violated = λ xs told. (decoded-as xs told, violated-of-yes xs told);
+    decodes-to-violated = λ xs told. (decoded-as xs told, violated-of-yes xs told, keeps-of-yes xs told);
     one-to-one = λ xs zs schedule yes-x yes-z x-written z-written. sym (filling-is xs schedule yes-x x-written) ∙ filling-is zs schedule yes-z z-written;
-    onto = λ schedule answered. (yes-of-violated schedule answered, fill-decoded-as schedule (breaking-of-violated schedule answered));
+    onto = λ schedule answered keeps.
+        let run = breaking-of-violated schedule answered in (yes-of-run schedule run keeps, fill-decoded-as schedule run keeps);
+    same-without-8s = λ slice h. (
+      (λ some. (some .0, without-of-yes slice (some .0) h (some .1))),
+      (λ some. yes-of-breaking _ (breaking-of-without slice (some .0) h (some .1))),
+    );
+    some-run-keeps-the-rule = λ schedule run.
+        let own = breaking-of-violated schedule (answered-of-run schedule run) in
+        let moved = kept-of schedule own in (
+          moved .kept,
+          run-of-answered (moved .kept) (violated-of-breaking (moved .kept) (moved .run)),
+          moved .keeps,
+          moved .same-inputs,
+          λ k. (
+            (λ at. broken-at-of-events schedule own k (rw (← (moved .same-lines (isRecord k))) (events-of-broken-at (moved .kept) (moved .run) k at))),
+            (λ at. broken-at-of-events (moved .kept) (moved .run) k (rw (moved .same-lines (isRecord k)) (events-of-broken-at schedule own k at))),
+          ),
+        );
     takes-is-no-refusal = λ schedule room h. (answered-of-takes bytes accepted wf schedule room h, takes-of-answered bytes accepted wf schedule room h);
     violated-names-the-first = λ schedule room h k. (
       run-of-violated bytes accepted wf schedule room h k,

@@ -3,7 +3,7 @@
 -- Assumes nothing. Met again in Claims, RunEnds and Demand3.
 use mathlib.Core.Path.{_≡_, refl, ap, _∙_}
 use Prim.Native.Nat.{ℕ, zero, suc, _+_, _%_, _≤_, _<_}
-use mathlib.Core.Bool.{Bool, true, false, cond}
+use mathlib.Core.Bool.{Bool, true, false, cond, _&&_}
 use mathlib.Core.List.{List, [], _∷_, _++_, map, map-append}
 use native.Mathlib.Omega.{arith}
 use native.Mathlib.Nat.{zero-add}
@@ -165,32 +165,37 @@ module _ (case : Case) (given : ℕ → ℕ) where
 
   -- ---- The steps that violate, and the broken events.
   -- What is left breaks nothing: the broken events are those of the steps.
-  pub broken-of-steps : (i : ℕ) (lens : List ℕ) (s : State) → brokenIn (events case given i lens s) ≡ brokenIn (map (eventOf case given) (course case given i lens s))
-  broken-of-steps i [] s = all-left-breaks-nothing i (s .rests)
-  broken-of-steps i (len ∷ lens) s =
-      let here = blockSteps case given i len (restIn case i s) (memoryIn case i s) in
-      let later = course case given (suc i) lens (nextState case given i len s) in
-      omega (
-        arith,
-        brokenIn-append (blockEvents case given i len (restIn case i s) (memoryIn case i s)) (events case given (suc i) lens (nextState case given i len s)),
-        broken-of-steps (suc i) lens (nextState case given i len s),
-        ap brokenIn (map-append (eventOf case given) here later),
-        brokenIn-append (map (eventOf case given) here) (map (eventOf case given) later),
-      )
+  module _ (asked : Line → Bool) where
+    -- A step of a line that is asked about violates.
+    abbrev pub brokenAsked : Step → Bool
+    brokenAsked s = asked (s .line) && broken case given s
 
-  pub first-of-some : (steps : List Step) → 0 < brokenIn (map (eventOf case given) steps) → (s : Step) × First (broken case given) steps s
-  first-of-some [] h = absurd (omega arith)
-  first-of-some (s ∷ steps) h = go (broken case given s) refl (first-of-some steps)
-    where
-      go : (q : Bool) → broken case given s ≡ q
-          → (0 < brokenIn (map (eventOf case given) steps) → (s' : Step) × First (broken case given) steps s')
-          → (s' : Step) × First (broken case given) (s ∷ steps) s'
-      go true e rest = (s, first-here (broken case given) s steps e)
-      go false e rest = let found = rest (omega (arith, rw e at h)) in (found .0, first-later (broken case given) s (found .0) steps e (found .1))
+    pub broken-of-steps : (i : ℕ) (lens : List ℕ) (s : State) → brokenIn asked (events case given i lens s) ≡ brokenIn asked (map (eventOf case given) (course case given i lens s))
+    broken-of-steps i [] s = all-left-breaks-nothing asked i (s .rests)
+    broken-of-steps i (len ∷ lens) s =
+        let here = blockSteps case given i len (restIn case i s) (memoryIn case i s) in
+        let later = course case given (suc i) lens (nextState case given i len s) in
+        omega (
+          arith,
+          brokenIn-append asked (blockEvents case given i len (restIn case i s) (memoryIn case i s)) (events case given (suc i) lens (nextState case given i len s)),
+          broken-of-steps (suc i) lens (nextState case given i len s),
+          ap (brokenIn asked) (map-append (eventOf case given) here later),
+          brokenIn-append asked (map (eventOf case given) here) (map (eventOf case given) later),
+        )
 
-  some-after : (before after : List Step) (s : Step) → broken case given s ≡ true → 0 < brokenIn (map (eventOf case given) (before ++ (s ∷ after)))
-  some-after [] after s e = rw e (omega arith)
-  some-after (b ∷ before) after s e = omega (arith, some-after before after s e)
+    pub first-of-some : (steps : List Step) → 0 < brokenIn asked (map (eventOf case given) steps) → (s : Step) × First brokenAsked steps s
+    first-of-some [] h = absurd (omega arith)
+    first-of-some (s ∷ steps) h = go (brokenAsked s) refl (first-of-some steps)
+      where
+        go : (q : Bool) → brokenAsked s ≡ q
+            → (0 < brokenIn asked (map (eventOf case given) steps) → (s' : Step) × First brokenAsked steps s')
+            → (s' : Step) × First brokenAsked (s ∷ steps) s'
+        go true e rest = (s, first-here brokenAsked s steps e)
+        go false e rest = let found = rest (omega (arith, rw e at h)) in (found .0, first-later brokenAsked s (found .0) steps e (found .1))
 
-  pub some-of-first : (steps : List Step) (s : Step) → First (broken case given) steps s → 0 < brokenIn (map (eventOf case given) steps)
-  some-of-first steps s first = rw (first .split) (some-after (first .before) (first .after) s (first .here))
+    some-after : (before after : List Step) (s : Step) → brokenAsked s ≡ true → 0 < brokenIn asked (map (eventOf case given) (before ++ (s ∷ after)))
+    some-after [] after s e = rw e (omega arith)
+    some-after (b ∷ before) after s e = omega (arith, some-after before after s e)
+
+    pub some-of-first : (steps : List Step) (s : Step) → First brokenAsked steps s → 0 < brokenIn asked (map (eventOf case given) steps)
+    some-of-first steps s first = rw (first .split) (some-after (first .before) (first .after) s (first .here))

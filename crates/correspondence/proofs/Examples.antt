@@ -25,13 +25,13 @@ guarded-store-carries : checked guardedStore (0 ∷ 5 ∷ 0 ∷ 5 ∷ 0 ∷ 5 �
 unfolding computing guardedStore
 guarded-store-carries = refl
 
--- After eight rows of order, row 10 is the 4 of record 2.
-guarded-store-must-carry : checked guardedStore (0 ∷ 5 ∷ 0 ∷ 7 ∷ 0 ∷ 7 ∷ 0 ∷ 0 ∷ []) ≡ checkeds.Fails 10
+-- After nine rows of order, row 11 is the 4 of record 2.
+guarded-store-must-carry : checked guardedStore (0 ∷ 5 ∷ 0 ∷ 7 ∷ 0 ∷ 7 ∷ 0 ∷ 0 ∷ []) ≡ checkeds.Fails 11
 unfolding computing guardedStore
 guarded-store-must-carry = refl
 
--- Record 2 is the copy that record 3 reads: row 11 is its 4.
-guarded-store-is-a-copy : take 6 (drop 60 (encodedInto guardedStore (replicate 78 9))) ≡ 4 ∷ 3 ∷ 0 ∷ 2 ∷ 0 ∷ 0 ∷ []
+-- Record 2 is the copy that record 3 reads: row 12 is its 4.
+guarded-store-is-a-copy : take 6 (drop 66 (encodedInto guardedStore (replicate 84 9))) ≡ 4 ∷ 3 ∷ 0 ∷ 2 ∷ 0 ∷ 0 ∷ []
 unfolding computing guardedStore
 guarded-store-is-a-copy = refl
 
@@ -40,18 +40,19 @@ unfolding computing guardedStore
 guarded-store-runs = refl
 
 -- "Reading a copy from an earlier block because it is the latest in the thread." In case A, record 3 in block 2 must read the
--- 5 of thread 1 and not the 1 of record 2 in block 0: row 13 is its 4.
-earlier-block-not-read : checked (caseA 2) (0 ∷ 0 ∷ 0 ∷ 1 ∷ 2 ∷ 1 ∷ 2 ∷ 1 ∷ 1 ∷ 5 ∷ 1 ∷ 5 ∷ []) ≡ checkeds.Fails 13
+-- 5 of thread 1 and not the 1 of record 2 in block 0: row 14 is its 4.
+earlier-block-not-read : checked (caseA 2) (0 ∷ 0 ∷ 0 ∷ 1 ∷ 2 ∷ 1 ∷ 2 ∷ 1 ∷ 1 ∷ 5 ∷ 1 ∷ 5 ∷ []) ≡ checkeds.Fails 14
 unfolding computing caseA
 earlier-block-not-read = refl
 
--- "2, last line, n: the block number is at most n"; Two: "allows n + 1". Record 4 in block n + 2, which is thread 0's too: row 8.
-too-late : checked (caseA 2) (0 ∷ 0 ∷ 0 ∷ 1 ∷ 2 ∷ 5 ∷ 4 ∷ 0 ∷ 1 ∷ 5 ∷ 1 ∷ 5 ∷ []) ≡ checkeds.Fails 8
+-- "2, last line, n: the block number is at most n"; Two: "allows n + 1". Records 3 and 4 in block n + 2, which is thread 0's too:
+-- row 9.
+too-late : checked (caseA 2) (0 ∷ 0 ∷ 0 ∷ 1 ∷ 4 ∷ 5 ∷ 4 ∷ 0 ∷ 1 ∷ 5 ∷ 1 ∷ 5 ∷ []) ≡ checkeds.Fails 9
 unfolding computing caseA
 too-late = refl
 
--- "6 .. the block value is that of the first with block number i". Row 16 is block 0's.
-wrong-block-value : checked (caseA 2) (0 ∷ 0 ∷ 0 ∷ 1 ∷ 2 ∷ 5 ∷ 2 ∷ 0 ∷ 1 ∷ 5 ∷ 2 ∷ 5 ∷ []) ≡ checkeds.Fails 16
+-- "6 .. the block value is that of the first with block number i". Row 17 is block 0's.
+wrong-block-value : checked (caseA 2) (0 ∷ 0 ∷ 0 ∷ 1 ∷ 2 ∷ 5 ∷ 2 ∷ 0 ∷ 1 ∷ 5 ∷ 2 ∷ 5 ∷ []) ≡ checkeds.Fails 17
 unfolding computing caseA
 wrong-block-value = refl
 
@@ -65,12 +66,12 @@ guarded-out-values : checked guardedOut (0 ∷ 0 ∷ 0 ∷ 1 ∷ 0 ∷ 0 ∷ [])
 unfolding computing guardedOut
 guarded-out-values = refl
 
--- After six rows of order, rows 7 and 8 are the 4s of records 1 and 2.
-guarded-out-local : checked guardedOut (0 ∷ 9 ∷ 0 ∷ 1 ∷ 0 ∷ 1 ∷ []) ≡ checkeds.Fails 7
+-- After eight rows of order, rows 9 and 10 are the 4s of records 1 and 2.
+guarded-out-local : checked guardedOut (0 ∷ 9 ∷ 0 ∷ 1 ∷ 0 ∷ 1 ∷ []) ≡ checkeds.Fails 9
 unfolding computing guardedOut
 guarded-out-local = refl
 
-guarded-out-assume : checked guardedOut (0 ∷ 0 ∷ 0 ∷ 0 ∷ 0 ∷ 0 ∷ []) ≡ checkeds.Fails 8
+guarded-out-assume : checked guardedOut (0 ∷ 0 ∷ 0 ∷ 0 ∷ 0 ∷ 0 ∷ []) ≡ checkeds.Fails 10
 unfolding computing guardedOut
 guarded-out-assume = refl
 
@@ -105,9 +106,9 @@ unusedFields : List ℕ
 unfolding file
 unusedFields = file (header 2 0 1 1 1 0 0 0) (rec 2 1 0 0 0 16 0 7 (rec 3 2 0 0 0 16 0 8 (rec 4 4 0 1 0 0 0 0 (rec 5 7 0 0 0 0 0 0 (rec 0 8 0 0 0 0 0 0 [])))))
 
--- "unused ones are 0": after ten rows of order and two 4s, the rows of an input, a lock and an unlock. Their operands name nothing,
+-- "unused ones are 0": after eleven rows of order and two 4s, the rows of an input, a lock and an unlock. Their operands name nothing,
 -- though both local 0 and global 0 have a copy.
-unused-fields-listed : take 24 (drop 72 (encodedInto unusedFields (replicate 102 9)))
+unused-fields-listed : take 24 (drop 78 (encodedInto unusedFields (replicate 108 9)))
     ≡ 4 ∷ 3 ∷ 0 ∷ 0 ∷ 0 ∷ 0 ∷ 4 ∷ 4 ∷ 0 ∷ 0 ∷ 0 ∷ 0 ∷ 5 ∷ 4 ∷ 0 ∷ 0 ∷ 0 ∷ 0 ∷ 4 ∷ 5 ∷ 0 ∷ 0 ∷ 0 ∷ 4 ∷ []
 unfolding computing unusedFields
 unused-fields-listed = refl
@@ -163,12 +164,12 @@ lateAssume : List ℕ
 unfolding file
 lateAssume = file (header 2 0 0 0 1 0 0 0) (rec 2 5 0 0 0 16 0 0 (rec 0 6 0 0 0 16 0 0 []))
 
--- "a failed assume after that assert, even in the last line, means no violation"; row 7 is the assume's 5.
+-- "a failed assume after that assert, even in the last line, means no violation"; row 8 is the assume's 5.
 assume-after-assert : replayed lateAssume (2 ∷ []) 0 ≡ CutOff 2
 unfolding computing lateAssume
 assume-after-assert = refl
 
-assume-must-hold : checked lateAssume (0 ∷ 0 ∷ 0 ∷ 0 ∷ []) ≡ checkeds.Fails 7
+assume-must-hold : checked lateAssume (0 ∷ 0 ∷ 0 ∷ 0 ∷ []) ≡ checkeds.Fails 8
 unfolding computing lateAssume
 assume-must-hold = refl
 

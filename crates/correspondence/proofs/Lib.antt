@@ -26,6 +26,8 @@ pub mod WellFormed
 pub mod Replies
 pub mod Claims
 pub mod RunEnds
+pub mod Keeping
+pub mod Moved
 pub mod RunReplies
 pub mod Demand3
 -- The definitions held beside document 01
@@ -38,5 +40,6 @@ pub mod CaseBytes
 pub mod Examples
 pub mod StopExamples
 pub mod HolderExamples
+pub mod StayExamples
 pub mod Refusals
 pub mod Conventions

@@ -204,7 +204,7 @@ order-6-9 = refl
 
 -- ---- Refusals 10 to 15; none alters a slice
 
-refused-10 : encoded (caseA 2) 107 ≡ encodeds.Refused 10 0
+refused-10 : encoded (caseA 2) 113 ≡ encodeds.Refused 10 0
 unfolding computing caseA
 refused-10 = refl
 
@@ -212,7 +212,7 @@ refused-10-slice : encodedInto (caseA 2) (1 ∷ 2 ∷ 3 ∷ []) ≡ 1 ∷ 2 ∷ 
 unfolding computing caseA
 refused-10-slice = refl
 
-refused-10-listing : listed (caseA 2) 221 ≡ listeds.Refused 10 0
+refused-10-listing : listed (caseA 2) 233 ≡ listeds.Refused 10 0
 unfolding computing caseA
 refused-10-listing = refl
 
@@ -243,7 +243,7 @@ unfolding computing caseA
 order-10-12 = refl
 
 -- "the place is the first failed constraint, from 1"
-refused-15 : decoded (caseA 2) (0 ∷ 0 ∷ 0 ∷ 1 ∷ 2 ∷ 1 ∷ 2 ∷ 1 ∷ 1 ∷ 5 ∷ 1 ∷ 5 ∷ []) 3 ≡ decodeds.Refused 15 13
+refused-15 : decoded (caseA 2) (0 ∷ 0 ∷ 0 ∷ 1 ∷ 2 ∷ 1 ∷ 2 ∷ 1 ∷ 1 ∷ 5 ∷ 1 ∷ 5 ∷ []) 3 ≡ decodeds.Refused 15 14
 unfolding computing caseA
 refused-15 = refl
 

@@ -1,11 +1,12 @@
--- The rows of the table hold just when the assignment meets constraints 1 to 6 as `Meets` says them and some line
--- violates. Rows 1 to 5 are in OrderRows.antt and ValueRows.antt, rows 6 and 7 here.
+-- The rows of the table but for the 8s hold just when the assignment meets constraints 1 to 6 as `Meets` says them and some line
+-- violates; the 8s hold just when invisible lines stay with the lines before them. Rows 1 to 5 and 8 are in OrderRows.antt and
+-- ValueRows.antt, rows 6 and 7 here.
 -- Assumes nothing. Met again in Demand3.
 use mathlib.Core.Path.{_≡_, refl, sym, _∙_, subst}
 use mathlib.Core.Logic.{_≢_}
 use Prim.Native.Nat.{ℕ, zero, suc, _+_, _%_, _≤_, _<_}
 use mathlib.Core.Bool.{Bool, true, false, cond, _||_, true≢false}
-use mathlib.Core.List.{List, [], _∷_, reverse}
+use mathlib.Core.List.{List, [], _∷_, _++_, reverse}
 use native.Mathlib.Omega.{arith}
 use native.Mathlib.Nat.{zero-add}
 use lib.Dec.{eqb}
@@ -17,16 +18,17 @@ use Rattle.model.specs.CaseFile.{Line, Case, linesOf, itemCount}
 use Rattle.model.specs.Line.{itemName, targetName}
 use Rattle.model.specs.Assignment.{Assignment}
 use Rattle.model.specs.Copies.{latest, readsAfter, walkBack}
-use Rattle.model.specs.Table.{row, itemRows, blockRows, allOrderRows, allValueRows, runRows, goalRow, table}
+use Rattle.model.specs.Table.{row, itemRows, blockRows, allOrderRows, allValueRows, runRows, goalRow, table, withoutEights}
 use Rattle.model.specs.Holds.{fromRecord, breaksAfter, someBreaks, someThreadBreaks, holds7, holds}
-use Rattle.correspondence.specs.Meaning.{WellFormed, BlockMet, Meets, breaksIn, breakCount}
+use Rattle.correspondence.specs.Meaning.{WellFormed, BlockMet, Meets, AllStay, everyLine, breaksIn, breakCount}
 use Rattle.laws.specs.AllHold.{AllHold}
 use Rattle.correspondence.proofs.Sums.{SomeBelow, some-of-sum, sum-of-some}
 use Rattle.laws.proofs.Copies.{latest-target, latest-other}
 use Rattle.laws.proofs.Walk.{walkBack-past-other-target}
 use Rattle.laws.proofs.AllHold.{all-hold-append, all-hold-split}
 use Rattle.laws.proofs.LineFound.{line-found}
-use Rattle.laws.proofs.OrderRows.{order-of-all-rows, all-rows-of-order}
+use Rattle.laws.proofs.WithoutEights.{without-append, all-values-without, blocks-without}
+use Rattle.laws.proofs.OrderRows.{order-of-all-rows, stays-of-all-rows, all-rows-of-order}
 use Rattle.correspondence.proofs.ValueRows.{lines-of-all-rows, all-rows-of-lines}
 
 count-of-or : (q p : Bool) (x : ℕ) → (p ≡ true → 0 < x) → (q || p) ≡ true → 0 < bit q + x
@@ -104,31 +106,31 @@ module _ (case : Case) (α : Assignment) where
       (rows-of-blocks (suc first) many (λ i h. m i (omega arith)))
 
   -- Row 7.
-  count-of-breaks : (earlier ls : List Line) → someBreaks case α earlier ls ≡ true → 0 < breaksIn case α earlier ls
+  count-of-breaks : (earlier ls : List Line) → someBreaks case α earlier ls ≡ true → 0 < breaksIn case α everyLine earlier ls
   unfolding someBreaks
   count-of-breaks earlier [] h = absurd (true≢false (sym h))
   count-of-breaks earlier (l ∷ ls) h = count-of-or (breaksAfter case α earlier l)
-      (someBreaks case α (l ∷ earlier) ls) (breaksIn case α (l ∷ earlier) ls) (count-of-breaks (l ∷ earlier) ls) h
+      (someBreaks case α (l ∷ earlier) ls) (breaksIn case α everyLine (l ∷ earlier) ls) (count-of-breaks (l ∷ earlier) ls) h
 
-  breaks-of-count : (earlier ls : List Line) → 0 < breaksIn case α earlier ls → someBreaks case α earlier ls ≡ true
+  breaks-of-count : (earlier ls : List Line) → 0 < breaksIn case α everyLine earlier ls → someBreaks case α earlier ls ≡ true
   unfolding someBreaks
   breaks-of-count earlier [] h = absurd (omega arith)
   breaks-of-count earlier (l ∷ ls) h = or-of-count (breaksAfter case α earlier l)
-      (someBreaks case α (l ∷ earlier) ls) (breaksIn case α (l ∷ earlier) ls) (breaks-of-count (l ∷ earlier) ls) h
+      (someBreaks case α (l ∷ earlier) ls) (breaksIn case α everyLine (l ∷ earlier) ls) (breaks-of-count (l ∷ earlier) ls) h
 
   count-of-thread-breaks : (threads : List (List Line)) → someThreadBreaks case α threads ≡ true
-      → SomeBelow (λ t. breaksIn case α [] (getD threads t [])) (length threads)
+      → SomeBelow (λ t. breaksIn case α everyLine [] (getD threads t [])) (length threads)
   unfolding someThreadBreaks
   count-of-thread-breaks [] h = absurd (true≢false (sym h))
   count-of-thread-breaks (ls ∷ threads) h = go (someBreaks case α [] ls) refl h (count-of-thread-breaks threads)
     where
       go : (q : Bool) → someBreaks case α [] ls ≡ q → (q || someThreadBreaks case α threads) ≡ true
-          → (someThreadBreaks case α threads ≡ true → SomeBelow (λ t. breaksIn case α [] (getD threads t [])) (length threads))
-          → SomeBelow (λ t. breaksIn case α [] (getD (ls ∷ threads) t [])) (suc (length threads))
+          → (someThreadBreaks case α threads ≡ true → SomeBelow (λ t. breaksIn case α everyLine [] (getD threads t [])) (length threads))
+          → SomeBelow (λ t. breaksIn case α everyLine [] (getD (ls ∷ threads) t [])) (suc (length threads))
       go true e h' ih = (0, omega arith, count-of-breaks [] ls e)
       go false e h' ih = let one = ih h' in (suc (one .0), omega (arith, one .1), one .2)
 
-  thread-breaks-of-count : (threads : List (List Line)) (t : ℕ) → 0 < breaksIn case α [] (getD threads t []) → someThreadBreaks case α threads ≡ true
+  thread-breaks-of-count : (threads : List (List Line)) (t : ℕ) → 0 < breaksIn case α everyLine [] (getD threads t []) → someThreadBreaks case α threads ≡ true
   unfolding someThreadBreaks
   thread-breaks-of-count [] t h = absurd (omega arith)
   thread-breaks-of-count (ls ∷ threads) zero h = rw (breaks-of-count [] ls h)
@@ -139,40 +141,57 @@ module _ (case : Case) (α : Assignment) where
       go false e = e
 
 module _ (case : Case) (wf : WellFormed case) (α : Assignment) where
-  pub count-of-goal : holds7 case α ≡ true → 0 < breakCount case α
+  pub count-of-goal : holds7 case α ≡ true → 0 < breakCount case α everyLine
   count-of-goal h =
       let one = count-of-thread-breaks case α (case .threads) h in
-      sum-of-some (λ t. breaksIn case α [] (linesOf case t)) (case .T) (one .0) (rw (wf .thread-count) at (one .1)) (one .2)
+      sum-of-some (λ t. breaksIn case α everyLine [] (linesOf case t)) (case .T) (one .0) (rw (wf .thread-count) at (one .1)) (one .2)
 
-  pub goal-of-count : 0 < breakCount case α → holds7 case α ≡ true
+  pub goal-of-count : 0 < breakCount case α everyLine → holds7 case α ≡ true
   goal-of-count h =
-      let one = some-of-sum (λ t. breaksIn case α [] (linesOf case t)) (case .T) h in
+      let one = some-of-sum (λ t. breaksIn case α everyLine [] (linesOf case t)) (case .T) h in
       thread-breaks-of-count case α (case .threads) (one .0) (one .2)
 
-  pub meets-of-rows : AllHold case α (runRows case) → Meets case α
+  -- Constraints 1 to 6 are the rows but for the 8s and the goal,
+  meets-of-rows : AllHold case α (withoutEights (runRows case)) → Meets case α
   unfolding runRows
   meets-of-rows h =
-      let after = all-hold-split case α (allOrderRows case 0 (case .threads)) _ h in
-      let later = all-hold-split case α (allValueRows case (case .threads)) (blockRows case 0 (case .n)) (after .back) in
+      let orders = allOrderRows case 0 (case .threads) in
+      let values = allValueRows case (case .threads) in
+      let blocks = blockRows case 0 (case .n) in
+      let rows = rw (without-append orders (values ++ blocks), without-append values blocks, all-values-without case (case .threads), blocks-without case 0 (case .n)) at h in
+      let after = all-hold-split case α (withoutEights orders) (values ++ blocks) rows in
+      let later = all-hold-split case α values blocks (after .back) in
       record {
         order = λ t few. rw (zero-add t) at (order-of-all-rows case α 0 (case .threads) (after .front) t (omega (arith, wf .thread-count)));
         lines = λ t few. lines-of-all-rows case (wf .few-items) α (case .threads) (line-found case (wf .once)) (later .front) t;
         blocks = λ i few g some. blocks-of-rows case α 0 (case .n) (later .back) i (omega arith) (omega arith) g some;
       }
 
-  pub rows-of-meets : Meets case α → AllHold case α (runRows case)
+  -- and the 8s are what is left.
+  rows-of-meets : Meets case α → AllStay case α → AllHold case α (runRows case)
   unfolding runRows
-  rows-of-meets m =
+  rows-of-meets m stays =
       all-hold-append case α (allOrderRows case 0 (case .threads)) _
-      (all-rows-of-order case α 0 (case .threads) (λ t few. rw (zero-add t) (m .order t (omega (arith, wf .thread-count)))))
+      (all-rows-of-order case α 0 (case .threads)
+      (λ t few. rw (zero-add t) (record { ordered = m .order t (omega (arith, wf .thread-count)); stays = stays t (omega (arith, wf .thread-count)) })))
       (all-hold-append case α (allValueRows case (case .threads)) (blockRows case 0 (case .n))
       (all-rows-of-lines case (wf .few-items) α (case .threads) (line-found case (wf .once)) (λ t few. m .lines t (omega (arith, wf .thread-count))))
       (rows-of-blocks case α 0 (case .n) (λ i few g some. m .blocks i (omega arith) g some)))
 
-  pub meets-of-table : AllHold case α (table case) → Meets case α × (0 < breakCount case α)
-  unfolding table holds
-  meets-of-table h = let parts = all-hold-split case α (runRows case) (goalRow ∷ []) h in (meets-of-rows (parts .front), count-of-goal (parts .back .0))
+  pub meets-of-table : AllHold case α (withoutEights (table case)) → Meets case α × (0 < breakCount case α everyLine)
+  unfolding table withoutEights holds
+  meets-of-table h =
+      let rows = rw (without-append (runRows case) (goalRow ∷ [])) at h in
+      let parts = all-hold-split case α (withoutEights (runRows case)) (goalRow ∷ []) rows in
+      (meets-of-rows (parts .front), count-of-goal (parts .back .0))
 
-  pub table-of-meets : Meets case α → 0 < breakCount case α → AllHold case α (table case)
+  pub stays-of-table : AllHold case α (table case) → AllStay case α
+  unfolding table runRows
+  stays-of-table h t few =
+      let parts = all-hold-split case α (runRows case) (goalRow ∷ []) h in
+      let rows = all-hold-split case α (allOrderRows case 0 (case .threads)) _ (parts .front) in
+      stays-of-all-rows case α 0 (case .threads) (rows .front) t
+
+  pub table-of-meets : Meets case α → AllStay case α → 0 < breakCount case α everyLine → AllHold case α (table case)
   unfolding table holds
-  table-of-meets m h = all-hold-append case α (runRows case) (goalRow ∷ []) (rows-of-meets m) (goal-of-count h, tt)
+  table-of-meets m stays h = all-hold-append case α (runRows case) (goalRow ∷ []) (rows-of-meets m stays) (goal-of-count h, tt)

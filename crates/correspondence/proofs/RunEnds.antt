@@ -3,18 +3,18 @@
 -- Assumes nothing. Met again in Demand3.
 use mathlib.Core.Path.{_≡_, refl, sym, ap, _∙_}
 use Prim.Native.Nat.{ℕ, zero, suc, _+_, _%_}
-use mathlib.Core.Bool.{false, cond}
-use mathlib.Core.List.{List, [], _∷_, _++_}
+use mathlib.Core.Bool.{Bool, true, false, cond}
+use mathlib.Core.List.{List, [], _∷_, _++_, map, append-assoc}
 use native.Mathlib.Omega.{arith}
 use native.Mathlib.Nat.{zero-add}
 use lib.Dec.{eqb}
-use lib.ListN.{getD, length, take}
+use lib.ListN.{getD, length, take, take-append-drop}
 use lib.Seq.{take-add}
 use borrow.Author.Tests.{ne-eqb, eq-eqb}
 use Rattle.model.specs.CaseFile.{Line, Case, linesOf}
 use Rattle.model.specs.Machine.{Memory, State, Outcome, refused14, cutOff, violated, clean, stepped, start, restIn, memoryIn, ending, run}
 use Rattle.model.specs.Schedule.{blockLengths, givenIn, stepsOf, runOf}
-use Rattle.model.specs.Runs.{Step, blockSteps, nextState, course, lastState, ends, strays, broken, First, courseOf, runSteps, linesRun, Legal, Takes, FirstEnding, NoneStrays, NoneBroken, unrunInput, Meets14, on-the-way, after-the-last-step}
+use Rattle.model.specs.Runs.{Step, blockSteps, nextState, course, lastState, ends, strays, broken, First, courseOf, runSteps, threadSteps, linesRun, Legal, Takes, FirstEnding, NoneStrays, NoneBroken, unrunInput, Meets14, on-the-way, after-the-last-step}
 use Rattle.laws.proofs.Views.{EqView, same, diff, eq-view}
 use Rattle.laws.specs.Order.{AllLines, Positive}
 use Rattle.correspondence.specs.Meaning.{WellFormed}
@@ -26,12 +26,16 @@ use Rattle.correspondence.proofs.Claims.{FinishesRun}
 
 lines-run-append : (case : Case) (t : ℕ) (xs ys : List Step) → linesRun case t (xs ++ ys) ≡ linesRun case t xs ++ linesRun case t ys
 lines-run-append case t [] ys = refl
-lines-run-append case t (s ∷ xs) ys = go (eq-view t (s .block % case .T)) (lines-run-append case t xs ys)
+lines-run-append case t (s ∷ xs) ys = go (eqb t (s .block % case .T)) (lines-run-append case t xs ys)
   where
-    go : EqView t (s .block % case .T) → linesRun case t (xs ++ ys) ≡ linesRun case t xs ++ linesRun case t ys
-        → linesRun case t (s ∷ (xs ++ ys)) ≡ linesRun case t (s ∷ xs) ++ linesRun case t ys
-    go (same p q) ih = rw q (ap (λ (ls : List Line). s .line ∷ ls) ih)
-    go (diff p q) ih = rw q ih
+    lines : List Step → List Line
+    lines steps = map (λ s'. s' .line) steps
+
+    go : (q : Bool) → lines (threadSteps case t (xs ++ ys)) ≡ lines (threadSteps case t xs) ++ lines (threadSteps case t ys)
+        → lines (cond q (s ∷ threadSteps case t (xs ++ ys)) (threadSteps case t (xs ++ ys)))
+        ≡ lines (cond q (s ∷ threadSteps case t xs) (threadSteps case t xs)) ++ lines (threadSteps case t ys)
+    go true ih = ap (λ (ls : List Line). s .line ∷ ls) ih
+    go false ih = ih
 
 module _ (case : Case) (given : ℕ → ℕ) where
   -- ---- The steps of a block, and of the blocks from i on.
@@ -105,6 +109,25 @@ module _ (case : Case) (given : ℕ → ℕ) (wf : WellFormed case) where
       go (diff p q) =
           rw (q, other-lines-run case given i t len (restIn case i s) (memoryIn case i s) q, other-rest-after case wf i len (s .rests) count t p)
           (ap (λ (steps : ℕ). take steps (getD (s .rests) t [])) (sym (zero-add (stepsOf case t (suc i) lens))))
+
+  -- What it runs and what is left of it are its lines.
+  pub run-and-left : (i : ℕ) (lens : List ℕ) (s : State) → length (s .rests) ≡ case .T → (t : ℕ)
+      → linesRun case t (course case given i lens s) ++ getD (lastState case given i lens s .rests) t [] ≡ getD (s .rests) t []
+  run-and-left i [] s count t = refl
+  run-and-left i (len ∷ lens) s count t =
+      let left = getD (lastState case given i (len ∷ lens) s .rests) t [] in
+      ap (λ (ls : List Line). ls ++ left) (lines-run-append case t (here case given i len s) (later case given i len lens s))
+      ∙ append-assoc (linesRun case t (here case given i len s)) (linesRun case t (later case given i len lens s)) left
+      ∙ ap (λ (ls : List Line). linesRun case t (here case given i len s) ++ ls)
+      (run-and-left (suc i) lens (nextState case given i len s) (rests-kept case wf i len (s .rests) count) t)
+      ∙ go (eq-view t (i % case .T))
+    where
+      go : EqView t (i % case .T) → linesRun case t (here case given i len s) ++ getD (nextState case given i len s .rests) t [] ≡ getD (s .rests) t []
+      go (same p q) =
+          rw (own-lines-run case given i t len (restIn case i s) (memoryIn case i s) p, p, own-rest-after case wf i len (s .rests) count)
+          (take-append-drop len (restIn case i s))
+      go (diff p q) =
+          rw (other-lines-run case given i t len (restIn case i s) (memoryIn case i s) q, other-rest-after case wf i len (s .rests) count t p)
 
 module _ (case : Case) (schedule : List ℕ) where
   -- Refusal 14 does not meet the schedule; where it does, it is at one record.

@@ -3,6 +3,7 @@
 -- Assumes nothing. Met again in Claims, for assignments and schedules as lists.
 use mathlib.Core.Path.{_≡_, refl, sym, ap, _∙_}
 use Prim.Native.Nat.{ℕ, suc, _+_, _<_}
+use mathlib.Core.Bool.{Bool}
 use mathlib.Core.List.{List, []}
 use native.Mathlib.Omega.{arith}
 use native.Mathlib.Nat.{zero-add}
@@ -69,9 +70,9 @@ module _ (case : Case) (wf : WellFormed case) where
       )
 
   breakCount-of-run : (α : Assignment) (lens : List ℕ) (given : ℕ → ℕ) → length lens ≡ suc (case .n) → RunsAs α lens given
-      → breakCount case α ≡ brokenIn (events case given 0 lens (start case))
-  breakCount-of-run α lens given all-blocks runs =
-      run-breaks-alike case wf given α 0 lens (start case) noneRun (zero-add (length lens) ∙ all-blocks) (invariant-at-start α) (runs .0)
+      → (asked : Line → Bool) → breakCount case α asked ≡ brokenIn asked (events case given 0 lens (start case))
+  breakCount-of-run α lens given all-blocks runs asked =
+      run-breaks-alike case wf given α asked 0 lens (start case) noneRun (zero-add (length lens) ∙ all-blocks) (invariant-at-start α) (runs .0)
       (runs .1)
 
   -- An assignment that meets the constraints decodes to a run that finishes and has the assignment's numbers.
@@ -79,7 +80,7 @@ module _ (case : Case) (wf : WellFormed case) where
       → Finishes case given 0 lens (start case)
       × Agrees α (events case given 0 lens (start case))
       × AgreesItems case α 0 (snapshots case given 0 lens (start case))
-      × (breakCount case α ≡ brokenIn (events case given 0 lens (start case)))
+      × ((asked : Line → Bool) → breakCount case α asked ≡ brokenIn asked (events case given 0 lens (start case)))
   sound α lens given meets decodes =
       let runs = run-of-assignment α lens given meets decodes in (
         run-finishes case given α 0 lens (start case) (runs .1),
@@ -91,7 +92,7 @@ module _ (case : Case) (wf : WellFormed case) where
   -- An assignment that has the numbers of a run that finishes meets the constraints and decodes to it.
   pub complete : (β : Assignment) (lens : List ℕ) (given : ℕ → ℕ) → length lens ≡ suc (case .n) → Finishes case given 0 lens (start case)
       → Agrees β (events case given 0 lens (start case)) → AgreesItems case β 0 (snapshots case given 0 lens (start case))
-      → Meets case β × DecodesTo case β lens given × (breakCount case β ≡ brokenIn (events case given 0 lens (start case)))
+      → Meets case β × DecodesTo case β lens given × ((asked : Line → Bool) → breakCount case β asked ≡ brokenIn asked (events case given 0 lens (start case)))
   complete β lens given all-blocks legal agrees items =
       let runs = agreed-run case given β 0 lens (start case) legal agrees items in
       let both = assignment-of-run β lens given all-blocks runs in

@@ -106,26 +106,26 @@ unrun-lines-accepted : checked stopsAfterTwo (leaving 1 0 0 1) ≡ Meets
 unfolding computing stopsAfterTwo leaving
 unrun-lines-accepted = refl
 
--- After twelve rows of order and the first lock's two, rows 15 to 18 are the 4s of records 2 to 5, 19 is the lock's 5, and 20 and 21
+-- After sixteen rows of order and the first lock's two, rows 19 to 22 are the 4s of records 2 to 5, 23 is the lock's 5, and 24 and 25
 -- are the 4 and the 5 of record 6.
-unrun-assert-is-1 : checked stopsAfterTwo (leaving 0 0 0 1) ≡ Fails 16
+unrun-assert-is-1 : checked stopsAfterTwo (leaving 0 0 0 1) ≡ Fails 20
 unfolding computing stopsAfterTwo leaving
 unrun-assert-is-1 = refl
 
-unrun-compute-is-0 : checked stopsAfterTwo (leaving 1 7 0 1) ≡ Fails 17
+unrun-compute-is-0 : checked stopsAfterTwo (leaving 1 7 0 1) ≡ Fails 21
 unfolding computing stopsAfterTwo leaving
 unrun-compute-is-0 = refl
 
-unrun-lock-is-0 : checked stopsAfterTwo (leaving 1 0 1 1) ≡ Fails 18
+unrun-lock-is-0 : checked stopsAfterTwo (leaving 1 0 1 1) ≡ Fails 22
 unfolding computing stopsAfterTwo leaving
 unrun-lock-is-0 = refl
 
-unrun-assume-is-1 : checked stopsAfterTwo (leaving 1 0 0 0) ≡ Fails 20
+unrun-assume-is-1 : checked stopsAfterTwo (leaving 1 0 0 0) ≡ Fails 24
 unfolding computing stopsAfterTwo leaving
 unrun-assume-is-1 = refl
 
 -- The same lines run: the second lock finds its mutex at 1.
-run-lock-must-read-0 : checked stopsAfterTwo (0 ∷ 1 ∷ 0 ∷ 0 ∷ 0 ∷ 0 ∷ 0 ∷ 7 ∷ 0 ∷ 1 ∷ 1 ∷ 1 ∷ []) ≡ Fails 19
+run-lock-must-read-0 : checked stopsAfterTwo (0 ∷ 1 ∷ 0 ∷ 0 ∷ 0 ∷ 0 ∷ 0 ∷ 7 ∷ 0 ∷ 1 ∷ 1 ∷ 1 ∷ []) ≡ Fails 23
 unfolding computing stopsAfterTwo
 run-lock-must-read-0 = refl
 

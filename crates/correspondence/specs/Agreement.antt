@@ -2,7 +2,7 @@
 -- Assumes nothing. The statement does not rest on it.
 use mathlib.Core.Path.{_≡_}
 use Prim.Native.Nat.{ℕ, zero, suc, _+_, _<_}
-use mathlib.Core.Bool.{false}
+use mathlib.Core.Bool.{Bool, false, _&&_}
 use mathlib.Core.List.{List, [], _∷_}
 use lib.ListN.{getD}
 use Rattle.model.specs.Word.{bit}
@@ -14,10 +14,10 @@ use Rattle.model.specs.Runs.{nextState}
 use Rattle.laws.specs.Order.{AllThreads}
 use Rattle.correspondence.specs.Trace.{Event}
 
--- How many events violate; a weight of each line added up over the events.
-abbrev pub brokenIn : List Event → ℕ
-brokenIn [] = 0
-brokenIn (e ∷ es) = bit (e .broken) + brokenIn es
+-- How many events of lines that are asked about violate; a weight of each line added up over the events.
+abbrev pub brokenIn : (Line → Bool) → List Event → ℕ
+brokenIn asked [] = 0
+brokenIn asked (e ∷ es) = bit (asked (e .line) && e .broken) + brokenIn asked es
 
 abbrev pub sumOfEvents : (Line → ℕ) → List Event → ℕ
 sumOfEvents weight [] = 0

@@ -13,9 +13,9 @@ use Rattle.model.specs.Lists.{writtenOver}
 use Rattle.model.specs.CaseFile.{caseOf, linesOf, itemCount}
 use Rattle.model.specs.Accept.{verdict}
 use Rattle.model.specs.Assignment.{variables, assignmentOf}
-use Rattle.model.specs.Table.{Row, table, numbersOf}
-use Rattle.model.specs.Schedule.{scheduleSize, blockLengths, stepsOf, lengthsFit, decode}
-use Rattle.model.specs.Runs.{Step, runSteps, linesRun, Legal, Violates, InBlocks, Takes, FirstBroken, NoneBroken, FirstEnding, Meets14, lastItems}
+use Rattle.model.specs.Table.{Row, table, withoutEights, numbersOf}
+use Rattle.model.specs.Schedule.{scheduleSize, blockLengths, inputValues, stepsOf, lengthsFit, decode}
+use Rattle.model.specs.Runs.{Step, runSteps, linesRun, KeepsRule, Legal, Violates, InBlocks, Takes, FirstBroken, BrokenAt, NoneBroken, FirstEnding, Meets14, lastItems}
 use Rattle.model.specs.Answers.{encoded, encodedInto, checked, decoded, decodedInto, replayed, replayedInto}
 use Rattle.model.specs.declared.Verdict.the-variants.{Accepted}
 use Rattle.model.specs.declared.Encoded.the-variants as encodeds
@@ -77,6 +77,12 @@ AnsweredViolated bytes schedule =
 abbrev pub ViolatingRun : List ℕ → List ℕ → Type 0
 ViolatingRun bytes schedule = InBlocks (caseOf bytes) schedule × Violates (caseOf bytes) schedule
 
+-- An assignment that meets the table that the encoder writes, but perhaps not its 8s.
+abbrev pub MeetsWithoutEights : List ℕ → List ℕ → List ℕ → Type 0
+MeetsWithoutEights bytes slice xs =
+    AllBelow wordSize xs × (length xs ≡ variables (caseOf bytes))
+    × AllHold (caseOf bytes) (assignmentOf (caseOf bytes) xs) (withoutEights (writtenRows bytes slice))
+
 pub record Demand3 (bytes : List ℕ) : Type 0 where
   -- ---- The encoder's table and the checker.
   -- The checker says yes exactly where the assignment has its length and every row holds of the table that the encoder writes;
@@ -93,13 +99,22 @@ pub record Demand3 (bytes : List ℕ) : Type 0 where
   -- that is, where some schedule is answered with violated: the run of a schedule violates exactly where the answer is that.
   pub some-yes-is-some-violated : ((xs : List ℕ) × Yes bytes xs) ↔ ((schedule : List ℕ) × AnsweredViolated bytes schedule)
   pub violated-is-violating-run : (schedule : List ℕ) → AnsweredViolated bytes schedule ↔ ViolatingRun bytes schedule
-  -- Every assignment with yes decodes to the schedule that the counting gives, which is answered with violated;
-  pub decodes-to-violated : (xs : List ℕ) → Yes bytes xs → DecodedAs bytes xs (counted bytes xs) × AnsweredViolated bytes (counted bytes xs)
+  -- Every assignment with yes decodes to the schedule that the counting gives, which is answered with violated and keeps the rule;
+  pub decodes-to-violated : (xs : List ℕ) → Yes bytes xs
+      → DecodedAs bytes xs (counted bytes xs) × AnsweredViolated bytes (counted bytes xs) × KeepsRule (caseOf bytes) (counted bytes xs)
   -- two with the same schedule are one;
   pub one-to-one : (xs zs schedule : List ℕ) → Yes bytes xs → Yes bytes zs → DecodedAs bytes xs schedule → DecodedAs bytes zs schedule → xs ≡ zs
-  -- and every schedule that is answered with violated is the decoding of one, the filled one.
-  pub onto : (schedule : List ℕ) → AnsweredViolated bytes schedule
+  -- and every schedule that is answered with violated and keeps the rule is the decoding of one, the filled one.
+  pub onto : (schedule : List ℕ) → AnsweredViolated bytes schedule → KeepsRule (caseOf bytes) schedule
       → Yes bytes (fill (caseOf bytes) schedule) × DecodedAs bytes (fill (caseOf bytes) schedule) schedule
+  -- ---- Five: "the solver's yes or no is unchanged by the new constraint".
+  -- Some assignment gets yes exactly where some assignment meets the table that the encoder writes without its 8s,
+  pub same-without-8s : (slice : List ℕ) → tableRoom bytes ≤ length slice
+      → ((xs : List ℕ) × Yes bytes xs) ↔ ((xs : List ℕ) × MeetsWithoutEights bytes slice xs)
+  -- for every violating run has one that keeps the rule, with the same input values, in which the same lines violate.
+  pub some-run-keeps-the-rule : (schedule : List ℕ) → ViolatingRun bytes schedule
+      → (kept : List ℕ) × ViolatingRun bytes kept × KeepsRule (caseOf bytes) kept × (inputValues (caseOf bytes) kept ≡ inputValues (caseOf bytes) schedule)
+      × ((k : ℕ) → BrokenAt (caseOf bytes) kept k ↔ BrokenAt (caseOf bytes) schedule k)
   -- ---- "replies and final values are those of the machine under Runs".
   -- With room for the items, the replayer takes a schedule exactly where it gives no refusal.
   pub takes-is-no-refusal : (schedule : List ℕ) (room : ℕ) → itemRoom bytes ≤ room →

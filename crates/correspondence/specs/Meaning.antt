@@ -15,7 +15,7 @@ use Rattle.model.specs.Copies.{readsAfter, walkBack}
 use Rattle.model.specs.Holds.{breaksAfter}
 use Rattle.model.specs.Schedule.{linesInBlock}
 use Rattle.laws.specs.RecordNumber.{RecordNumber}
-use Rattle.laws.specs.Order.{AllLines, Positive, Ordered}
+use Rattle.laws.specs.Order.{AllLines, Positive, Ordered, Stays}
 use Rattle.laws.specs.RowValue.{valueAfter}
 
 -- The numbers that a line brings with it, its constant and its thread as holder, have 16 bits.
@@ -67,17 +67,24 @@ pub record Meets (case : Case) (α : Assignment) : Type 0 where
   pub lines : (t : ℕ) → t < case .T → LinesMet case α [] (linesOf case t)
   pub blocks : (i : ℕ) → i < case .n → (g : ℕ) → g < itemCount case → BlockMet case α i g
 
--- Constraint 7 counts: how many lines of a thread violate, after these earlier lines; and of all threads.
-abbrev pub breaksIn : Case → Assignment → List Line → List Line → ℕ
-breaksIn case α earlier [] = 0
-breaksIn case α earlier (l ∷ ls) = bit (breaksAfter case α earlier l) + breaksIn case α (l ∷ earlier) ls
+-- The 8s, which Five has put beside them.
+abbrev pub AllStay : Case → Assignment → Type 0
+AllStay case α = (t : ℕ) → t < case .T → Stays case (α .block) [] (linesOf case t)
+
+-- Constraint 7 counts: how many of the lines that are asked about violate, of a thread after these earlier lines, and of all threads.
+abbrev pub everyLine : Line → Bool
+everyLine l = true
+
+abbrev pub breaksIn : Case → Assignment → (Line → Bool) → List Line → List Line → ℕ
+breaksIn case α asked earlier [] = 0
+breaksIn case α asked earlier (l ∷ ls) = bit (asked l && breaksAfter case α earlier l) + breaksIn case α asked (l ∷ earlier) ls
 
 abbrev pub sumBelow : (ℕ → ℕ) → ℕ → ℕ
 sumBelow f zero = 0
 sumBelow f (suc m) = f m + sumBelow f m
 
-abbrev pub breakCount : Case → Assignment → ℕ
-breakCount case α = sumBelow (λ t. breaksIn case α [] (linesOf case t)) (case .T)
+abbrev pub breakCount : Case → Assignment → (Line → Bool) → ℕ
+breakCount case α asked = sumBelow (λ t. breaksIn case α asked [] (linesOf case t)) (case .T)
 
 -- The value that decoding gives to an input line: its own where it was run and its guard is true, else 0.
 abbrev pub InputGiven : Kind → Bool → ℕ → ℕ → Type 0

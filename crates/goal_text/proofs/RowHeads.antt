@@ -1,11 +1,12 @@
 -- The rows of the table that put something are the 4s, and each puts the part of its line. Assumes nothing. Met again in GoalText.
 use mathlib.Core.Path.{_≡_, refl, sym, ap, _∙_}
 use Prim.Native.Nat.{ℕ, zero, suc, _%_}
+use mathlib.Core.Bool.{Bool, true, false, cond}
 use mathlib.Core.List.{List, [], _∷_, _++_, reverse, append-assoc, append-nil}
 use Rattle.model.specs.CaseFile.{Kind, compute, store, load, input, assert, assume, lock, unlock, Line, Case, linesOf, itemCount, lineAt}
-use Rattle.model.specs.Line.{guardName, targetName}
+use Rattle.model.specs.Line.{guardName, targetName, visible}
 use Rattle.model.specs.Copies.{copyOf}
-use Rattle.model.specs.Table.{Row, followRow, lineOrderRows, orderRows, demandRows, valueRows, allOrderRows, allValueRows, itemRows, blockRows, runRows, goalRow, table}
+use Rattle.model.specs.Table.{Row, row, followRow, stayRows, lineOrderRows, orderRows, demandRows, valueRows, allOrderRows, allValueRows, itemRows, blockRows, runRows, goalRow, table}
 use Rattle.goal_text.specs.Goal.{partHead, rowHead, rowHeads}
 
 module _ (case : Case) (sources : List ℕ) where
@@ -22,15 +23,29 @@ module _ (case : Case) (sources : List ℕ) where
   none-first : (ws us : List Row) → heads ws ≡ [] → heads (ws ++ us) ≡ heads us
   none-first ws us none = heads-append ws us ∙ ap (λ (bytes : List ℕ). bytes ++ heads us) none
 
-  follow-none : (l : Line) (ls : List Line) (ws : List Row) → heads (followRow case l ls ∷ ws) ≡ heads ws
+  follow-none : (l : Line) (ls : List Line) → heads (followRow case l ls ∷ []) ≡ []
   unfolding rowHeads rowHead followRow
-  follow-none l [] ws = refl
-  follow-none l (next ∷ ls) ws = refl
+  follow-none l [] = refl
+  follow-none l (next ∷ ls) = refl
+
+  stay-none : (earlier : List Line) (l : Line) → heads (stayRows earlier l) ≡ []
+  unfolding rowHeads rowHead stayRows
+  stay-none [] l = refl
+  stay-none (before ∷ earlier) l = go (visible (l .kind))
+    where
+      go : (q : Bool) → heads (cond q [] (row 8 (l .number) (before .number) 0 0 0 ∷ [])) ≡ []
+      go true = refl
+      go false = refl
+
+  line-order-none : (t : ℕ) (earlier : List Line) (l : Line) (ls : List Line) → heads (lineOrderRows case t earlier l ls) ≡ []
+  unfolding rowHeads rowHead lineOrderRows
+  line-order-none t earlier l ls = none-first (stayRows earlier l) (followRow case l ls ∷ []) (stay-none earlier l) ∙ follow-none l ls
 
   order-none : (t : ℕ) (earlier ls : List Line) → heads (orderRows case t earlier ls) ≡ []
-  unfolding rowHeads rowHead orderRows lineOrderRows
+  unfolding rowHeads orderRows
   order-none t earlier [] = refl
-  order-none t earlier (l ∷ ls) = follow-none l ls (orderRows case t (l ∷ earlier) ls) ∙ order-none t (l ∷ earlier) ls
+  order-none t earlier (l ∷ ls) =
+      none-first (lineOrderRows case t earlier l ls) (orderRows case t (l ∷ earlier) ls) (line-order-none t earlier l ls) ∙ order-none t (l ∷ earlier) ls
 
   orders-none : (t : ℕ) (threads : List (List Line)) → heads (allOrderRows case t threads) ≡ []
   unfolding rowHeads allOrderRows

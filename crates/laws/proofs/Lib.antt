@@ -30,5 +30,6 @@ pub mod HandedOn
 pub mod Memory
 pub mod Walk
 pub mod AllHold
+pub mod WithoutEights
 pub mod OrderRows
 pub mod RowReads

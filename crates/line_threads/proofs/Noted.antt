@@ -14,7 +14,7 @@ use Rattle.laws.specs.Accepted.{Accepted}
 use Rattle.laws.specs.Order.{AllLines}
 use Rattle.laws.proofs.Views.{EqView, same, diff, eq-view}
 use Rattle.walk_text.specs.Previous.{HasTable, noted, notedFrom}
-use Rattle.walk_text.proofs.NotedRows.{notedRows, rows-append, table-numbers, follow-none, demand-none, table-lines}
+use Rattle.walk_text.proofs.NotedRows.{notedRows, rows-append, table-numbers, behind-none, demand-none, table-lines}
 use Rattle.line_threads.specs.Threads.{HasThreads}
 use Rattle.line_threads.proofs.RecordLines.{found-threads}
 
@@ -60,7 +60,7 @@ module _ (case : Case) (thread : ℕ → ℕ) (k : ℕ) (inside : k < recordPlac
   thread-noted t toCome earlier [] threads own v = let z : 0 + toCome ≡ toCome = omega arith in rw z at v
   thread-noted t toCome earlier (l ∷ ls) threads own v =
       let z : hasNumber k l + sumOfLines (hasNumber k) ls + toCome ≡ hasNumber k l + (sumOfLines (hasNumber k) ls + toCome) = omega arith in
-      rw (follow-none 3 3 case refl refl l ls (orderRows case t (l ∷ earlier) ls) (set threads (l .number) t))
+      rw (behind-none 3 3 case refl refl refl earlier l ls (orderRows case t (l ∷ earlier) ls) (set threads (l .number) t))
       (thread-noted t toCome (l ∷ earlier) ls _ (own .1) (line-noted t (sumOfLines (hasNumber k) ls + toCome) l threads (own .0) (rw z at v)))
 
   threads-noted : (t : ℕ) (lines : List (List Line)) (threads : List ℕ) → ((u : ℕ) → AllLines (λ l. thread (l .number) ≡ t + u) (getD lines u []))

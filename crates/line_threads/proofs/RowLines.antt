@@ -3,10 +3,12 @@
 use mathlib.Core.Path.{refl}
 use mathlib.Core.Logic.{_≢_}
 use Prim.Native.Nat.{ℕ, zero, suc, _%_, _<_}
+use mathlib.Core.Bool.{Bool, true, false, cond}
 use mathlib.Core.List.{List, [], _∷_, _++_, reverse}
 use native.Mathlib.Omega.{arith}
 use Rattle.model.specs.CaseFile.{Kind, compute, store, load, input, assert, assume, lock, unlock, Line, Case, caseOf, linesOf, itemCount}
-use Rattle.model.specs.Table.{Row, followRow, lineOrderRows, orderRows, demandRows, valueRows, allOrderRows, allValueRows, itemRows, blockRows, runRows, goalRow, table}
+use Rattle.model.specs.Line.{visible}
+use Rattle.model.specs.Table.{Row, row, followRow, stayRows, lineOrderRows, orderRows, demandRows, valueRows, allOrderRows, allValueRows, itemRows, blockRows, runRows, goalRow, table}
 use Rattle.laws.specs.Accepted.{Accepted}
 use Rattle.laws.specs.Order.{AllLines, AllThreads}
 use Rattle.laws.specs.RecordNumber.{RecordNumber}
@@ -25,20 +27,39 @@ module _ (case : Case) where
   of-line : {w : Row} → w .kind ≢ 2 → RecordNumber (case .R) (w .one) → RowOf case w
   of-line n is = record { line = λ few. is; last = λ e. absurd (n e) }
 
+  -- A row that is none of them: of an 8 nothing is asked, a 6 is about an item, and the 7 about none.
+  of-none : {w : Row} → 5 < w .kind → RowOf case w
+  of-none h = record { line = λ few. absurd (omega (arith, h, few)); last = λ e. absurd (omega (arith, h, e)) }
+
   append : (ws us : List Row) → Numbered ws → Numbered us → Numbered (ws ++ us)
   append [] us h g = g
   append (w ∷ ws) us h g = (h .0, append ws us (h .1) g)
 
-  follow-numbered : (l : Line) (ls : List Line) (ws : List Row) → IsRecord l → Numbered ws → Numbered (followRow case l ls ∷ ws)
+  follow-numbered : (l : Line) (ls : List Line) → IsRecord l → Numbered (followRow case l ls ∷ [])
   unfolding followRow
-  follow-numbered l [] ws is h = (record { line = λ few. is; last = λ e. refl }, h)
-  follow-numbered l (next ∷ ls) ws is h = (of-line (λ e. omega (arith, e)) is, h)
+  follow-numbered l [] is = (record { line = λ few. is; last = λ e. refl }, tt)
+  follow-numbered l (next ∷ ls) is = (of-line (λ e. omega (arith, e)) is, tt)
+
+  stay-numbered : (earlier : List Line) (l : Line) → Numbered (stayRows earlier l)
+  unfolding stayRows
+  stay-numbered [] l = tt
+  stay-numbered (before ∷ earlier) l = go (visible (l .kind))
+    where
+      go : (q : Bool) → Numbered (cond q [] (row 8 (l .number) (before .number) 0 0 0 ∷ []))
+      go true = tt
+      go false = (of-none (omega arith), tt)
+
+  line-order-numbered : (t : ℕ) (earlier : List Line) (l : Line) (ls : List Line) → IsRecord l → Numbered (lineOrderRows case t earlier l ls)
+  unfolding lineOrderRows
+  line-order-numbered t earlier l ls is =
+      (of-line (λ e. omega (arith, e)) is, append (stayRows earlier l) (followRow case l ls ∷ []) (stay-numbered earlier l) (follow-numbered l ls is))
 
   order-numbered : (t : ℕ) (earlier ls : List Line) → AllLines IsRecord ls → Numbered (orderRows case t earlier ls)
-  unfolding orderRows lineOrderRows
+  unfolding orderRows
   order-numbered t earlier [] are = tt
   order-numbered t earlier (l ∷ ls) are =
-      (of-line (λ e. omega (arith, e)) (are .0), follow-numbered l ls (orderRows case t (l ∷ earlier) ls) (are .0) (order-numbered t (l ∷ earlier) ls (are .1)))
+      append (lineOrderRows case t earlier l ls) (orderRows case t (l ∷ earlier) ls) (line-order-numbered t earlier l ls (are .0))
+      (order-numbered t (l ∷ earlier) ls (are .1))
 
   orders-numbered : (t : ℕ) (threads : List (List Line)) → AllThreads IsRecord threads → Numbered (allOrderRows case t threads)
   unfolding allOrderRows
@@ -71,10 +92,6 @@ module _ (case : Case) where
   values-numbered [] are = tt
   values-numbered (ls ∷ threads) are =
       append (valueRows case [] ls) (allValueRows case threads) (value-numbered [] ls (are .0)) (values-numbered threads (are .1))
-
-  -- A 6 is about an item, and the 7 about none.
-  of-none : {w : Row} → 5 < w .kind → RowOf case w
-  of-none h = record { line = λ few. absurd (omega (arith, h, few)); last = λ e. absurd (omega (arith, h, e)) }
 
   items-numbered : (lines : List Line) (i g many : ℕ) → Numbered (itemRows case lines i g many)
   unfolding itemRows

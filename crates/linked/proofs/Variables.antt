@@ -1,5 +1,5 @@
 -- The variables of a case by number, the value of an item where a block begins, and a line that was not run. Assumes nothing. Met again
--- in `block_value`, `value_before` and `put_not_run`, and where 3s and 5s are put.
+-- in `block_value`, `value_before` and `put_not_run`, and where 3s, 8s and 5s are put.
 use mathlib.Core.Path.{_≡_, refl, sym, ap, _∙_}
 use Prim.Native.Nat.{ℕ, zero, suc, _+_, _-_, _*_, _<_, _≤_}
 use native.Mathlib.Omega.{arith}
@@ -41,7 +41,7 @@ module _ (case : Case) (shape : Shape) (s : HasShape case shape) where
       → Spelt (formulaText (equal (variable block) (constant (shape .unrun)))) d start a r → Spelt (formulaText (notRun case k)) d start a r
   not-run-spelt k is put = rw (is, s .unrun) at put
 
--- A 3 or a 5, which a line meets that was not run.
+-- A 3, an 8 or a 5, which a line meets that was not run.
 pub or-not-run-spelt : (case : Case) (k : ℕ) (f : Formula) {d a b e x y : List ℕ} {start p q r s t : ℕ} → Spelt (ascii "(or ") d start a p
     → Spelt (formulaText (notRun case k)) a p b q → Spelt (ascii " ") b q e r → Spelt (formulaText f) e r x s → Spelt (ascii ")") x s y t
     → Spelt (formulaText (join disjunction (notRun case k) f)) d start y t

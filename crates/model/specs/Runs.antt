@@ -122,10 +122,14 @@ KeepsRule case schedule = (t : ℕ) → t < case .T → NoneLate (threadSteps ca
 abbrev pub Legal : Case → List ℕ → Type 0
 Legal case schedule = None (ends case (givenIn case schedule)) (courseOf case schedule)
 
--- The run's first line that violates is that of record k ("the first of either sort"); it has none; and this is the first step whose
--- assume or lock fails.
+-- The run's first line that violates is that of record k ("the first of either sort"); the line of record k is one that violates; the run
+-- has none; and this is the first step whose assume or lock fails.
 abbrev pub FirstBroken : Case → List ℕ → ℕ → Type 0
 FirstBroken case schedule k = FirstAt (broken case (givenIn case schedule)) (runSteps case schedule) k
+
+abbrev pub BrokenAt : Case → List ℕ → ℕ → Type 0
+BrokenAt case schedule k =
+    (s : Step) × First (λ s'. eqb (s' .line .number) k && broken case (givenIn case schedule) s') (runSteps case schedule) s
 
 abbrev pub NoneBroken : Case → List ℕ → Type 0
 NoneBroken case schedule = None (broken case (givenIn case schedule)) (runSteps case schedule)

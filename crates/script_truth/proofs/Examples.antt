@@ -49,6 +49,7 @@ smtTextA = linesOfText (
     ∷ "(assert (or (= v4 #x0003) (= (bvurem v4 #x0002) #x0000)))"
     ∷ "(assert (bvule v4 v6))"
     ∷ "(assert (or (= v6 #x0003) (= (bvurem v6 #x0002) #x0000)))"
+    ∷ "(assert (or (= v6 #x0003) (= v6 v4)))"
     ∷ "(assert (bvule v6 #x0003))"
     ∷ "(assert (or (= v8 #x0003) (= (bvurem v8 #x0002) #x0001)))"
     ∷ "(assert (bvule v8 #x0003))"

@@ -5,8 +5,9 @@ use mathlib.Core.Path.{_≡_, refl, sym, ap, _∙_}
 use mathlib.Core.Logic.{_↔_}
 use Prim.Native.Nat.{ℕ, suc, _≤_, _<_}
 use mathlib.Core.List.{List, [], _∷_}
-use mathlib.Core.Option.{some}
+use mathlib.Core.Option.{Option, some}
 use native.Mathlib.Omega.{arith}
+use native.Mathlib.Nat.{le-refl}
 use lib.ListN.{length, drop}
 use lib.Seq.{take-append-seam}
 use borrow.Author.Tests.{le-leb, lt-leb}
@@ -15,7 +16,7 @@ use Rattle.model.specs.Lists.{writtenOver}
 use Rattle.model.specs.CaseFile.{Case, caseOf}
 use Rattle.model.specs.Accept.{verdict}
 use Rattle.model.specs.Assignment.{variables, assignmentOf}
-use Rattle.model.specs.Table.{Row, table}
+use Rattle.model.specs.Table.{Row, table, numbersOf}
 use Rattle.model.specs.declared.Verdict.the-variants.{Accepted}
 use Rattle.smt.specs.Script.{Script}
 use Rattle.smt.specs.Reader.{readScript}
@@ -24,18 +25,22 @@ use Rattle.script.specs.Text.{smtText, measured, spelled, spelledInto}
 use Rattle.script.specs.declared.Spelled.the-variants.{Text, Refused}
 use Rattle.laws.proofs.OnCase.{on-accepted}
 use Rattle.reading.proofs.Scripts.{read-back}
-use Rattle.correspondence.specs.Demand3.{Yes, Demand3}
+use Rattle.correspondence.specs.Demand3.{Yes, MeetsWithoutEights, Demand3}
 use Rattle.correspondence.proofs.Replies.{passes-of-meets}
 use Rattle.correspondence.proofs.FirstFailing.{first-fails, failing-of-first, checker-names-the-first, fails-of-first}
-use Rattle.correspondence.proofs.Demand3.{demand-3}
-use Rattle.script_truth.specs.Filed.{textRoom, writtenText, Found, Model, Filed, ForEveryText}
-use Rattle.script_truth.proofs.SpelledTable.{script-spelled}
-use Rattle.script_truth.proofs.Truth.{each-assertion-agrees, first-false-is-first-row, true-is-every-row, true-is-yes}
+use Rattle.correspondence.proofs.Demand3 as demand
+use Rattle.script_truth.specs.Filed.{textRoom, writtenText, Found, Model, scriptWithoutEights, textWithoutEights, Filed, ForEveryText}
+use Rattle.script_truth.proofs.SpelledTable.{script-spelled, without-spelled}
+use Rattle.script_truth.proofs.Truth.{each-assertion-agrees, first-false-is-first-row, true-is-every-row, true-without-is-rows, true-is-yes}
 
 one-for-each : (case : Case) (sources : List ℕ) (ws : List Row) → length (assertionsOf case sources ws) ≡ length ws
 unfolding assertionsOf
 one-for-each case sources [] = refl
 one-for-each case sources (w ∷ ws) = ap suc (one-for-each case sources ws)
+
+-- What is so of what the reader finds is so of the script that it finds.
+found-in : {read : Option Script} {script : Script} → read ≡ some script → (Says : Script → Type 0) → Found read Says ↔ Says script
+found-in is Says = rw is ((λ told. told), (λ told. told))
 
 module _ (bytes : List ℕ) (small : AllBelow 256 bytes) (accepted : verdict bytes ≡ Accepted) where
   abbrev case : Case
@@ -64,7 +69,7 @@ module _ (bytes : List ℕ) (small : AllBelow 256 bytes) (accepted : verdict byt
   read = read-back (scriptOf case) (script-spelled bytes accepted small)
 
   found : (Says : Script → Type 0) → Found (readScript (smtText bytes)) Says ↔ Says (scriptOf case)
-  found Says = rw read ((λ told. told), (λ told. told))
+  found = found-in read
 
   its-variables : scriptOf case .variables ≡ variables case
   unfolding scriptOf
@@ -82,8 +87,18 @@ module _ (bytes : List ℕ) (small : AllBelow 256 bytes) (accepted : verdict byt
         found _ .1 (yes .0, sized, true-is-yes bytes accepted xs sized .1 (yes .1))),
   )
 
+  -- The same of the text without the assertions of the 8s, with the table's numbers for what the encoder writes.
+  models-without : (xs : List ℕ) → Model (textWithoutEights bytes) xs ↔ MeetsWithoutEights bytes (numbersOf (table case)) xs
+  models-without xs =
+      let told = found-in (read-back (scriptWithoutEights case) (without-spelled bytes accepted small)) _ in
+      let rows = true-without-is-rows bytes accepted xs in
+      let written = demand.read-back bytes small accepted (numbersOf (table case)) (le-refl _) in (
+        (λ model. let is = told .0 model in (is .0, is .1, rw written (rows .0 (is .2)))),
+        (λ met. told .1 (met .0, met .1, rows .1 (rw written at (met .2)))),
+      )
+
   corresponds : Demand3 bytes
-  corresponds = demand-3 bytes small accepted
+  corresponds = demand.demand-3 bytes small accepted
 
   filed : Filed bytes
   filed = record {
@@ -117,6 +132,10 @@ module _ (bytes : List ℕ) (small : AllBelow 256 bytes) (accepted : verdict byt
       (λ some. let yes = corresponds .some-yes-is-some-violating-run .1 some in (yes .0, models (yes .0) .1 (yes .1))),
     );
     model-decodes-to-violated = λ xs model. corresponds .decodes-to-violated xs (models xs .0 model);
+    same-without-8s = let same = corresponds .same-without-8s (numbersOf (table case)) (le-refl _) in (
+      (λ some. let met = same .0 (some .0, models (some .0) .0 (some .1)) in (met .0, models-without (met .0) .1 (met .1))),
+      (λ some. let yes = same .1 (some .0, models-without (some .0) .0 (some .1)) in (yes .0, models (yes .0) .1 (yes .1))),
+    );
   }
 
 pub every-text : ForEveryText

@@ -11,10 +11,10 @@ use lib.Dec.{eqb}
 use borrow.Author.Tests.{eq-eqb, ne-eqb}
 use Rattle.model.specs.Limits.{localCount}
 use Rattle.model.specs.CaseFile.{Kind, compute, store, load, input, assert, assume, lock, unlock, Line, Case, linesOf, itemCount, lineAt}
-use Rattle.model.specs.Line.{noName, itemName, guardName, targetName, Reads, guardTrue, holder, breaks}
+use Rattle.model.specs.Line.{noName, itemName, guardName, targetName, Reads, guardTrue, holder, breaks, visible}
 use Rattle.model.specs.Assignment.{Assignment, assignmentOf, wasRun}
 use Rattle.model.specs.Copies.{copyOf, readsAfter, walkBack}
-use Rattle.model.specs.Table.{Row, row, followRow, lineOrderRows, orderRows, valueRow, demandRows, valueRows, allOrderRows, allValueRows, itemRows, blockRows, goalRow}
+use Rattle.model.specs.Table.{Row, row, followRow, stayRows, lineOrderRows, orderRows, valueRow, demandRows, valueRows, allOrderRows, allValueRows, itemRows, blockRows, goalRow, withoutEights}
 use Rattle.model.specs.Holds.{readsWith, breaksAfter, someBreaks, someThreadBreaks, holds}
 use Rattle.smt.specs.Term.{constant, Formula, value, meets, tested, joined, resultOf}
 use Rattle.smt.specs.Script.{environment}
@@ -82,17 +82,44 @@ module _ (case : Case) (xs sources : List ℕ) where
   all-agree-append [] us h g = g
   all-agree-append (w ∷ ws) us h g = (h .0, all-agree-append ws us (h .1) g)
 
-  -- ---- Constraints 1, 2 and 3.
+  pub all-agree-without : (ws : List Row) → AllAgree ws → AllAgree (withoutEights ws)
+  unfolding withoutEights
+  all-agree-without [] h = tt
+  all-agree-without (w ∷ ws) h = go (eqb (w .kind) 8) (all-agree-without ws (h .1))
+    where
+      go : (q : Bool) → AllAgree (withoutEights ws) → AllAgree (cond q (withoutEights ws) (w ∷ withoutEights ws))
+      go true rest = rest
+      go false rest = (h .0, rest)
+
+  -- ---- Constraints 1, 2, 3 and 8.
   module _ (some : 0 < case .T) where
     thread-agrees : (t : ℕ) (l : Line) → Agrees (row 3 (l .number) (case .T) t 0 0)
     unfolding assertionOf holds meets value tested joined resultOf assignmentOf
     thread-agrees t l = or-where-run case (α .block (l .number)) _ _ (λ run. rw (ne-eqb (case .T) 0 (λ e. omega arith)))
 
+    stay-agrees : (earlier : List Line) (l : Line) → AllAgree (stayRows earlier l)
+    unfolding stayRows assertionOf holds meets value tested joined assignmentOf
+    stay-agrees [] l = tt
+    stay-agrees (before ∷ earlier) l = go (visible (l .kind))
+      where
+        go : (q : Bool) → AllAgree (cond q [] (row 8 (l .number) (before .number) 0 0 0 ∷ []))
+        go true = tt
+        go false = (or-where-run case (α .block (l .number)) _ _ (λ run. refl), tt)
+
+    follow-agrees : (l : Line) (ls : List Line) → Agrees (followRow case l ls)
+    unfolding followRow assertionOf holds meets value tested assignmentOf
+    follow-agrees l [] = refl
+    follow-agrees l (next ∷ ls) = refl
+
+    line-order-agrees : (t : ℕ) (earlier : List Line) (l : Line) (ls : List Line) → AllAgree (lineOrderRows case t earlier l ls)
+    unfolding lineOrderRows
+    line-order-agrees t earlier l ls = (thread-agrees t l, all-agree-append (stayRows earlier l) _ (stay-agrees earlier l) (follow-agrees l ls, tt))
+
     order-agrees : (t : ℕ) (earlier ls : List Line) → AllAgree (orderRows case t earlier ls)
-    unfolding orderRows lineOrderRows followRow assertionOf holds meets value tested assignmentOf
+    unfolding orderRows
     order-agrees t earlier [] = tt
-    order-agrees t earlier (l ∷ []) = (thread-agrees t l, (refl, tt))
-    order-agrees t earlier (l ∷ (l' ∷ ls)) = (thread-agrees t l, (refl, order-agrees t (l ∷ earlier) (l' ∷ ls)))
+    order-agrees t earlier (l ∷ ls) =
+        all-agree-append (lineOrderRows case t earlier l ls) _ (line-order-agrees t earlier l ls) (order-agrees t (l ∷ earlier) ls)
 
     pub all-order-agrees : (t : ℕ) (threads : List (List Line)) → AllAgree (allOrderRows case t threads)
     unfolding allOrderRows

@@ -2,18 +2,18 @@
 -- Assumes nothing. Met again in Filed.
 use mathlib.Core.Path.{_≡_}
 use Prim.Native.Nat.{ℕ, zero, suc, _+_, _*_, _%_, _≤_, _<_}
-use mathlib.Core.Bool.{Bool, true, false}
+use mathlib.Core.Bool.{Bool, true, false, cond}
 use mathlib.Core.List.{List, [], _∷_, _++_, reverse, reverseAux}
 use native.Mathlib.Omega.{arith}
 use lib.Dec.{eqb, ltb}
 use lib.ListN.{getD, length}
 use Rattle.model.specs.Word.{wordSize, AllBelow}
 use Rattle.model.specs.CaseFile.{Kind, compute, store, load, input, assert, assume, lock, unlock, Line, Case, caseOf, linesOf, itemCount, lineAt}
-use Rattle.model.specs.Line.{guardName, operandA, operandB, targetName, isInput}
+use Rattle.model.specs.Line.{guardName, operandA, operandB, targetName, visible, isInput}
 use Rattle.model.specs.Accept.{verdict}
 use Rattle.model.specs.Assignment.{variables}
 use Rattle.model.specs.Holds.{fromRecord}
-use Rattle.model.specs.Table.{Row, followRow, lineOrderRows, orderRows, demandRows, valueRows, allOrderRows, allValueRows, itemRows, blockRows, runRows, goalRow, table}
+use Rattle.model.specs.Table.{Row, row, followRow, stayRows, lineOrderRows, orderRows, demandRows, valueRows, allOrderRows, allValueRows, itemRows, blockRows, runRows, goalRow, table, withoutEights}
 use Rattle.model.specs.declared.Verdict.the-variants as verdicts
 use Rattle.script.specs.Assertions.{mostSources, source, sourcesFrom, sourcesOf, assertionOf, assertionsOf, scriptOf}
 use Rattle.laws.specs.Accepted.{Accepted}
@@ -28,6 +28,7 @@ use Rattle.laws.proofs.Sizes.{assignment-numbers}
 use Rattle.correspondence.specs.Meaning.{SmallLine}
 use Rattle.correspondence.proofs.WellFormed.{all-lines-by, well-formed}
 use Rattle.reading.specs.Spellable.{AllSpellable, ScriptSpellable}
+use Rattle.script_truth.specs.Filed.{scriptWithoutEights}
 use Rattle.script_truth.proofs.Spelled.{taken, AllRecords, Spells, copy-low, block-spelled, value-assertion-spelled, demand-assertion-spelled, walk-spelled, goal-spelled}
 
 -- ---- The sources are records.
@@ -71,24 +72,41 @@ module _ (case : Case) (few : suc (case .n) < wordSize) (initials : (g : ℕ) �
   rows-append [] us h g = g
   rows-append (w ∷ ws) us h g = (h .0, rows-append ws us (h .1) g)
 
-  order-spelled : (t : ℕ) (earlier ls : List Line) → t < wordSize → case .T < wordSize → AllLines (Spells case) ls
+  stay-spelled : (earlier : List Line) (l : Line) → AllLines (Spells case) earlier → Spells case l → Rows (stayRows earlier l)
+  unfolding stayRows assertionsOf assertionOf
+  stay-spelled [] l before line = tt
+  stay-spelled (l' ∷ earlier) l before line = go (visible (l .kind))
+    where
+      go : (q : Bool) → Rows (cond q [] (row 8 (l .number) (l' .number) 0 0 0 ∷ []))
+      go true = tt
+      go false =
+          let own = block-spelled case few initials (l .number) (line .number) in
+          (((own, few), (own, block-spelled case few initials (l' .number) (before .0 .number))), tt)
+
+  follow-spelled : (l : Line) (ls : List Line) → Spells case l → AllLines (Spells case) ls → Rows (followRow case l ls ∷ [])
+  unfolding followRow assertionsOf assertionOf
+  follow-spelled l [] line all = ((block-spelled case few initials (l .number) (line .number), few), tt)
+  follow-spelled l (next ∷ ls) line all =
+      ((block-spelled case few initials (l .number) (line .number), block-spelled case few initials (next .number) (all .0 .number)), tt)
+
+  order-spelled : (t : ℕ) (earlier ls : List Line) → t < wordSize → case .T < wordSize → AllLines (Spells case) earlier → AllLines (Spells case) ls
       → Rows (orderRows case t earlier ls)
-  unfolding orderRows lineOrderRows followRow assertionsOf assertionOf
-  order-spelled t earlier [] small low all = tt
-  order-spelled t earlier (l ∷ []) small low all =
-      let own = block-spelled case few initials (l .number) (all .0 .number) in
-      (((own, few), ((own, low), small)), ((own, few), tt))
-  order-spelled t earlier (l ∷ (l' ∷ ls)) small low all =
-      let own = block-spelled case few initials (l .number) (all .0 .number) in
-      let next = block-spelled case few initials (l' .number) (all .1 .0 .number) in
-      (((own, few), ((own, low), small)), ((own, next), order-spelled t (l ∷ earlier) (l' ∷ ls) small low (all .1)))
+  unfolding orderRows lineOrderRows assertionsOf assertionOf
+  order-spelled t earlier [] small low before all = tt
+  order-spelled t earlier (l ∷ ls) small low before all =
+      let own = block-spelled case few initials (l .number) (all .0 .number) in (
+        ((own, few), ((own, low), small)),
+        rows-append (stayRows earlier l ++ (followRow case l ls ∷ [])) _
+            (rows-append (stayRows earlier l) _ (stay-spelled earlier l before (all .0)) (follow-spelled l ls (all .0) (all .1)))
+            (order-spelled t (l ∷ earlier) ls small low (all .0, before) (all .1)),
+      )
 
   orders-spelled : (t : ℕ) (threads : List (List Line)) → t + length threads < wordSize → case .T < wordSize → AllThreads (Spells case) threads
       → Rows (allOrderRows case t threads)
   unfolding allOrderRows assertionsOf
   orders-spelled t [] small low all = tt
   orders-spelled t (ls ∷ threads) small low all =
-      rows-append (orderRows case t [] ls) _ (order-spelled t [] ls (omega arith) low (all .0))
+      rows-append (orderRows case t [] ls) _ (order-spelled t [] ls (omega arith) low tt (all .0))
       (orders-spelled (suc t) threads (omega arith) low (all .1))
 
   demand-row-spelled : (kind : Kind) (earlier : List Line) (l : Line) → Spells case l → AllLines (Spells case) earlier
@@ -153,6 +171,14 @@ module _ (case : Case) (few : suc (case .n) < wordSize) (initials : (g : ℕ) �
         (rows-append (allValueRows case (case .threads)) _ (all-values-spelled (case .threads) all) (blocks-spelled 0 (case .n) (omega arith))))
         (goal-spelled case few initials sources known (case .threads) all, tt)
 
+rows-without : (case : Case) (sources : List ℕ) (ws : List Row) → AllSpellable (variables case) (assertionsOf case sources ws)
+    → AllSpellable (variables case) (assertionsOf case sources (withoutEights ws))
+unfolding assertionsOf withoutEights
+rows-without case sources [] h = tt
+rows-without case sources (w ∷ ws) h =
+    let rest = rows-without case sources ws (h .1) in
+    taken (λ us. AllSpellable (variables case) (assertionsOf case sources us)) (eqb (w .kind) 8) (withoutEights ws) (w ∷ withoutEights ws) (λ e. rest) (λ e. (h .0, rest))
+
 -- ---- An accepted case.
 all-spell : (case : Case) (ls : List Line) → AllLines (λ l. lineAt case (l .number) ≡ l) ls → AllLines (λ l. RecordNumber (case .R) (l .number)) ls
     → AllLines SmallLine ls → AllLines (Spells case) ls
@@ -178,3 +204,9 @@ module _ (bytes : List ℕ) (accepted : verdict bytes ≡ verdicts.Accepted) whe
             (all-lines-by bytes ok (λ l. RecordNumber (case .R) (l .number)) t (λ k thread low high. record { some = low; low = high })) (wf .small-lines t)))
             (omega (arith, thread-count bytes, ok .few-threads)) (omega (arith, ok .few-threads));
       }
+
+  pub without-spelled : AllBelow 256 bytes → ScriptSpellable (scriptWithoutEights (caseOf bytes))
+  unfolding scriptOf
+  without-spelled small =
+      let whole = script-spelled small in
+      record { declared = whole .declared; assertions = rows-without (caseOf bytes) (sourcesOf (caseOf bytes)) (table (caseOf bytes)) (whole .assertions) }

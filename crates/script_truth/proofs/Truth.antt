@@ -1,5 +1,6 @@
 -- The assertions of an accepted case's script are true of an assignment exactly where the rows of its table hold: row by row where the
--- rows before hold, the first that is false is the first row that fails, and all are true exactly if the checker says yes.
+-- rows before hold, the first that is false is the first row that fails, and all are true exactly if the checker says yes. So it is
+-- without the 8s.
 -- Assumes nothing. Met again in Filed.
 use mathlib.Core.Path.{_≡_, refl, sym, _∙_}
 use mathlib.Core.Logic.{_↔_}
@@ -12,13 +13,13 @@ use lib.ListN.{length}
 use Rattle.model.specs.CaseFile.{Line, Case, caseOf, linesOf, lineAt}
 use Rattle.model.specs.Accept.{verdict}
 use Rattle.model.specs.Assignment.{Assignment, variables, assignmentOf}
-use Rattle.model.specs.Table.{Row, allOrderRows, allValueRows, blockRows, runRows, goalRow, table}
+use Rattle.model.specs.Table.{Row, allOrderRows, allValueRows, blockRows, runRows, goalRow, table, withoutEights}
 use Rattle.model.specs.Holds.{holds, firstFailing}
 use Rattle.model.specs.Answers.{checked}
 use Rattle.model.specs.declared.Verdict.the-variants as verdicts
 use Rattle.model.specs.declared.Checked.the-variants.{Meets}
 use Rattle.smt.specs.Term.{Formula, meets}
-use Rattle.smt.specs.Script.{environment, allMeet, firstFalse, scriptTrue}
+use Rattle.smt.specs.Script.{Script, environment, allMeet, firstFalse, scriptTrue}
 use Rattle.script.specs.Assertions.{assertionsOf, sourcesOf, scriptOf}
 use Rattle.laws.specs.Accepted.{Accepted}
 use Rattle.laws.specs.AllHold.{AllHold}
@@ -30,11 +31,13 @@ use Rattle.laws.proofs.LineFound.{line-found}
 use Rattle.laws.proofs.Lines.{numbers-once}
 use Rattle.laws.proofs.OrderRows.{order-of-all-rows}
 use Rattle.laws.proofs.Views.{and-true, true-and}
+use Rattle.laws.proofs.WithoutEights.{without-append, all-hold-without, all-values-without, blocks-without}
 use Rattle.correspondence.proofs.Replies.{passes-of-meets, meets-of-passes}
 use Rattle.correspondence.proofs.WellFormed.{all-lines-by}
 use Rattle.script_truth.specs.Agreement.{EachAgrees}
+use Rattle.script_truth.specs.Filed.{scriptWithoutEights}
 use Rattle.script_truth.proofs.Fields.{Fields, record-fields}
-use Rattle.script_truth.proofs.Rows.{Placed, AllAgree, all-order-agrees, all-values-agree, blocks-agree, goal-agrees}
+use Rattle.script_truth.proofs.Rows.{Placed, AllAgree, all-agree-without, all-order-agrees, all-values-agree, blocks-agree, goal-agrees}
 
 -- ---- Rows and assertions, side by side.
 module _ (case : Case) (α : Assignment) (env : ℕ → ℕ) where
@@ -107,35 +110,66 @@ module _ (bytes : List ℕ) (accepted : verdict bytes ≡ verdicts.Accepted) (xs
   ok : Accepted bytes
   ok = accepted-of bytes accepted
 
-  placed-of-rows : AllHold case α (allOrderRows case 0 (case .threads)) → AllThreads (Placed case α) (case .threads)
+  abbrev orders : List Row
+  orders = allOrderRows case 0 (case .threads)
+
+  abbrev values : List Row
+  values = allValueRows case (case .threads)
+
+  abbrev blocks : List Row
+  blocks = blockRows case 0 (case .n)
+
+  placed-of-rows : AllHold case α (withoutEights orders) → AllThreads (Placed case α) (case .threads)
   placed-of-rows hold = all-threads (Placed case α) (case .threads) (λ t few.
       all-placed case α t 0 (linesOf case t) (line-found case (numbers-once bytes ok) t)
       (all-lines-by bytes ok (OfThread t) t (λ k thread low high. record { thread = refl; fields = record-fields bytes ok t k low high }))
       (rw (zero-add t) at (order-of-all-rows case α 0 (case .threads) hold t few)))
 
-  pub each-assertion-agrees : EachAgrees case α (environment xs) (table case) (scriptOf case .assertions)
-  unfolding scriptOf table runRows assertionsOf
-  each-assertion-agrees =
+  orders-agree : AllAgree case xs (sourcesOf case) orders
+  orders-agree = all-order-agrees case xs (sourcesOf case) (omega (arith, ok .some-threads)) 0 (case .threads)
+
+  -- The rows behind those of the order, which place the lines.
+  each-behind : (first : List Row) → AllAgree case xs (sourcesOf case) first → (AllHold case α first → AllThreads (Placed case α) (case .threads))
+      → Each case xs (sourcesOf case) ((first ++ (values ++ blocks)) ++ (goalRow ∷ []))
+  unfolding assertionsOf
+  each-behind first agree placed =
       let sources = sourcesOf case in
-      let orders = allOrderRows case 0 (case .threads) in
-      let values = allValueRows case (case .threads) in
-      let blocks = blockRows case 0 (case .n) in
-      rw (append-assoc orders (values ++ blocks) (goalRow ∷ []), append-assoc values blocks (goalRow ∷ []))
-      (each-then case xs sources orders (values ++ (blocks ++ (goalRow ∷ [])))
-      (all-order-agrees case xs sources (omega (arith, ok .some-threads)) 0 (case .threads))
-      (λ hold. each-then case xs sources values (blocks ++ (goalRow ∷ [])) (all-values-agree case xs sources (case .threads) (placed-of-rows hold))
+      rw (append-assoc first (values ++ blocks) (goalRow ∷ []), append-assoc values blocks (goalRow ∷ []))
+      (each-then case xs sources first (values ++ (blocks ++ (goalRow ∷ []))) agree
+      (λ hold. each-then case xs sources values (blocks ++ (goalRow ∷ [])) (all-values-agree case xs sources (case .threads) (placed hold))
       (λ hold'. each-then case xs sources blocks (goalRow ∷ []) (blocks-agree case xs sources 0 (case .n))
-      (λ hold''. (goal-agrees case xs sources (omega (arith, ok .few-globals, ok .few-mutexes)) (placed-of-rows hold), λ e. tt)))))
+      (λ hold''. (goal-agrees case xs sources (omega (arith, ok .few-globals, ok .few-mutexes)) (placed hold), λ e. tt)))))
+
+  pub each-assertion-agrees : EachAgrees case α (environment xs) (table case) (scriptOf case .assertions)
+  unfolding scriptOf table runRows
+  each-assertion-agrees = each-behind orders orders-agree (λ hold. placed-of-rows (all-hold-without case α orders hold))
+
+  each-without-agrees : Each case xs (sourcesOf case) (withoutEights (table case))
+  unfolding table runRows withoutEights
+  each-without-agrees =
+      rw (
+        without-append (orders ++ (values ++ blocks)) (goalRow ∷ []),
+        without-append orders (values ++ blocks),
+        without-append values blocks,
+        all-values-without case (case .threads),
+        blocks-without case 0 (case .n),
+      )
+      (each-behind (withoutEights orders) (all-agree-without case xs (sourcesOf case) orders orders-agree) placed-of-rows)
 
   pub first-false-is-first-row : firstFalse (environment xs) 1 (scriptOf case .assertions) ≡ firstFailing case α 1 (table case)
   first-false-is-first-row = first-false-is-first-failing case α (environment xs) 1 (table case) (scriptOf case .assertions) each-assertion-agrees
 
-  pub true-is-every-row : (scriptTrue (scriptOf case) xs ≡ true) ↔ AllHold case α (table case)
+  true-is-rows : (ws : List Row) (script : Script) → EachAgrees case α (environment xs) ws (script .assertions)
+      → (scriptTrue script xs ≡ true) ↔ AllHold case α ws
   unfolding scriptTrue
-  true-is-every-row = (
-    all-hold-of-all-meet case α (environment xs) (table case) (scriptOf case .assertions) each-assertion-agrees,
-    all-meet-of-all-hold case α (environment xs) (table case) (scriptOf case .assertions) each-assertion-agrees,
-  )
+  true-is-rows ws script agree =
+      (all-hold-of-all-meet case α (environment xs) ws (script .assertions) agree, all-meet-of-all-hold case α (environment xs) ws (script .assertions) agree)
+
+  pub true-is-every-row : (scriptTrue (scriptOf case) xs ≡ true) ↔ AllHold case α (table case)
+  true-is-every-row = true-is-rows (table case) (scriptOf case) each-assertion-agrees
+
+  pub true-without-is-rows : (scriptTrue (scriptWithoutEights case) xs ≡ true) ↔ AllHold case α (withoutEights (table case))
+  true-without-is-rows = true-is-rows (withoutEights (table case)) (scriptWithoutEights case) each-without-agrees
 
   pub true-is-yes : length xs ≡ variables case → (scriptTrue (scriptOf case) xs ≡ true) ↔ (checked bytes xs ≡ Meets)
   true-is-yes sized = (

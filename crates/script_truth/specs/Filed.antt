@@ -9,17 +9,19 @@ use mathlib.Core.List.{List}
 use mathlib.Core.Option.{Option, none, some}
 use lib.ListN.{length, take}
 use Rattle.model.specs.Word.{AllBelow}
-use Rattle.model.specs.CaseFile.{caseOf}
+use Rattle.model.specs.CaseFile.{Case, caseOf}
 use Rattle.model.specs.Accept.{verdict}
 use Rattle.model.specs.Assignment.{variables, assignmentOf}
-use Rattle.model.specs.Table.{table}
+use Rattle.model.specs.Table.{table, withoutEights}
+use Rattle.model.specs.Runs.{KeepsRule}
 use Rattle.model.specs.Answers.{checked}
 use Rattle.model.specs.declared.Verdict.the-variants.{Accepted}
 use Rattle.model.specs.declared.Checked.the-variants.{Meets, Fails}
 use Rattle.smt.specs.Term.{bitVectors}
 use Rattle.smt.specs.Script.{Script, environment, firstFalse, scriptTrue}
+use Rattle.smt.specs.Spelling.{scriptText}
 use Rattle.smt.specs.Reader.{readScript}
-use Rattle.script.specs.Assertions.{scriptOf}
+use Rattle.script.specs.Assertions.{sourcesOf, assertionsOf, scriptOf}
 use Rattle.script.specs.Text.{smtText, measured, spelled, spelledInto}
 use Rattle.script.specs.declared.Spelled.the-variants.{Text, Refused}
 use Rattle.laws.specs.AllHold.{AllHold}
@@ -46,6 +48,13 @@ TextTrue text xs = Found (readScript text) (λ script. scriptTrue script xs ≡ 
 -- every assertion is true.
 abbrev pub Model : List ℕ → List ℕ → Type 0
 Model text xs = Found (readScript text) (λ script. AllBelow bitVectors xs × (length xs ≡ script .variables) × (scriptTrue script xs ≡ true))
+
+-- Five: the script and the text of a case without the assertions of the 8s.
+abbrev pub scriptWithoutEights : Case → Script
+scriptWithoutEights case = record { variables = variables case; assertions = assertionsOf case (sourcesOf case) (withoutEights (table case)) }
+
+abbrev pub textWithoutEights : List ℕ → List ℕ
+textWithoutEights bytes = scriptText (scriptWithoutEights (caseOf bytes))
 
 pub record Filed (bytes : List ℕ) : Type 0 where
   -- ---- The text and its script.
@@ -74,7 +83,10 @@ pub record Filed (bytes : List ℕ) : Type 0 where
   pub model-is-yes : (xs : List ℕ) → Model (smtText bytes) xs ↔ Yes bytes xs
   pub some-model-is-some-violating-run : ((xs : List ℕ) × Model (smtText bytes) xs) ↔ ((schedule : List ℕ) × ViolatingRun bytes schedule)
   pub model-decodes-to-violated : (xs : List ℕ) → Model (smtText bytes) xs
-      → DecodedAs bytes xs (counted bytes xs) × AnsweredViolated bytes (counted bytes xs)
+      → DecodedAs bytes xs (counted bytes xs) × AnsweredViolated bytes (counted bytes xs) × KeepsRule (caseOf bytes) (counted bytes xs)
+  -- ---- Five: "the solver's yes or no is unchanged by the new constraint": the text has a model exactly if it has one without the
+  -- assertions of the 8s.
+  pub same-without-8s : ((xs : List ℕ) × Model (smtText bytes) xs) ↔ ((xs : List ℕ) × Model (textWithoutEights bytes) xs)
 
 -- For every list of bytes that no refusal from 1 to 9 meets.
 abbrev pub ForEveryText : Type 0

@@ -24,6 +24,7 @@ use linked::put_not_run;
 use spell::Atom;
 use spell::put;
 use spell::put_constant;
+use spell::put_equal;
 use spell::put_two;
 use spell::put_variable;
 
@@ -128,6 +129,19 @@ pub fn put_three(text: &mut [u8], start: usize, shape: Shape, k: u16, threads: u
     at = put_not_run(text, at, shape, k);
     at = put(text, at, b" ");
     at = put_own(text, at, k, threads, t);
+    put(text, at, b")")
+}
+
+// An 8: record k was not run, or its block is that of record j, the line before it.
+pub fn put_eight(text: &mut [u8], start: usize, shape: Shape, k: u16, j: u16) -> usize
+    ensures { λ r. ⌜ ((case : Case) → HasShape case shape → Spelt (formulaText (join disjunction (notRun case k) (equal (blockOf k) (blockOf j)))) (now (text .entry)) start (now (text .exit)) r) ⌝ }
+{
+    let block = Atom::Variable(block_variable(k));
+    let before = Atom::Variable(block_variable(j));
+    let mut at = put(text, start, b"(or ");
+    at = put_not_run(text, at, shape, k);
+    at = put(text, at, b" ");
+    at = put_equal(text, at, block, before);
     put(text, at, b")")
 }
 

@@ -63,17 +63,23 @@ module _ (bytes : List ℕ) (w : Row) {d a : List ℕ} {start r : ℕ} where
   unfolding assertionOf
   goal-spelt e put = rw e put
 
+  pub stay-spelt : w .kind ≡ 8
+      → Spelt (formulaText (join disjunction (notRun (caseOf bytes) (w .one)) (equal (blockOf (w .one)) (blockOf (w .two))))) d start a r → RowSpelt bytes w d start a r
+  unfolding assertionOf
+  stay-spelt e put = rw e put
+
   -- the test of a kind leaves what it is not
-  pub other-spelt : ((((((Unit {0} × w .kind ≢ 1) × w .kind ≢ 2) × w .kind ≢ 3) × w .kind ≢ 4) × w .kind ≢ 5) × w .kind ≢ 6) × w .kind ≢ 7
+  pub other-spelt : (((((((Unit {0} × w .kind ≢ 1) × w .kind ≢ 2) × w .kind ≢ 3) × w .kind ≢ 4) × w .kind ≢ 5) × w .kind ≢ 6) × w .kind ≢ 7) × w .kind ≢ 8
       → Spelt (ascii "false") d start a r → RowSpelt bytes w d start a r
   unfolding assertionOf formulaText
   other-spelt n put =
       rw (
-        ne-eqb (w .kind) 3 (n .0 .0 .0 .0 .1),
-        ne-eqb (w .kind) 1 (n .0 .0 .0 .0 .0 .0 .1),
-        ne-eqb (w .kind) 2 (n .0 .0 .0 .0 .0 .1),
-        ne-eqb (w .kind) 4 (n .0 .0 .0 .1),
-        ne-eqb (w .kind) 5 (n .0 .0 .1),
-        ne-eqb (w .kind) 6 (n .0 .1),
-        ne-eqb (w .kind) 7 (n .1),
+        ne-eqb (w .kind) 3 (n .0 .0 .0 .0 .0 .1),
+        ne-eqb (w .kind) 8 (n .1),
+        ne-eqb (w .kind) 1 (n .0 .0 .0 .0 .0 .0 .0 .1),
+        ne-eqb (w .kind) 2 (n .0 .0 .0 .0 .0 .0 .1),
+        ne-eqb (w .kind) 4 (n .0 .0 .0 .0 .1),
+        ne-eqb (w .kind) 5 (n .0 .0 .0 .1),
+        ne-eqb (w .kind) 6 (n .0 .0 .1),
+        ne-eqb (w .kind) 7 (n .0 .1),
       ) put

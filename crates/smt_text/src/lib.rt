@@ -24,6 +24,7 @@ use model::Encoded;
 use rows::Constraint;
 use script::Spelled;
 use smt_parts::put_declarations;
+use smt_parts::put_eight;
 use smt_parts::put_last;
 use smt_parts::put_one;
 use smt_parts::put_three;
@@ -192,7 +193,7 @@ fn put_assertion(
     put(text, place, b")\n")
 }
 
-// The assertion of a row, by its kind, which is one of seven.
+// The assertion of a row, by its kind, which is one of eight.
 fn put_row(
     text: &mut [u8],
     start: usize,
@@ -229,6 +230,7 @@ fn put_row(
         }
         6 => put_walk(text, start, shape, sources, previous, w.two, w.one, w.three),
         7 => put_goal(text, start, shape, sources, case, table, count, threads),
+        8 => put_eight(text, start, shape, w.one, w.two),
         _ => put(text, start, b"false"),
     }
 }

@@ -10,10 +10,10 @@ use lib.Dec.{eqb}
 use lib.ListN.{length, length-append, length-reverse}
 use Rattle.model.specs.Limits.{mostLines, mostItems}
 use Rattle.model.specs.CaseFile.{Kind, compute, store, load, input, assert, assume, lock, unlock, Line, Case, linesOf, itemCount, lineAt, sumOfLines}
-use Rattle.model.specs.Line.{itemName, targetName, guardName, operandA, operandB}
+use Rattle.model.specs.Line.{itemName, targetName, guardName, operandA, operandB, visible}
 use Rattle.model.specs.Copies.{latest, copyOf}
 use Rattle.model.specs.Holds.{fromRecord}
-use Rattle.model.specs.Table.{Row, row, followRow, lineOrderRows, orderRows, valueRow, demandRows, valueRows, allOrderRows, allValueRows, itemRows, blockRows}
+use Rattle.model.specs.Table.{Row, row, followRow, stayRows, lineOrderRows, orderRows, valueRow, demandRows, valueRows, allOrderRows, allValueRows, itemRows, blockRows}
 use Rattle.laws.specs.Order.{AllLines, AllThreads}
 use Rattle.laws.proofs.Counting.{sumFrom}
 use Rattle.smt.specs.Term.{constant, Formula, select}
@@ -48,7 +48,7 @@ module _ (case : Case) (sources : List ℕ) where
         lines-text ws,
       )
 
-  -- ---- The 3s, 1s and 2s.
+  -- ---- The 3s, 8s, 1s and 2s.
   follow-size : (l : Line) (ls : List Line) → size (assertionOf case sources (followRow case l ls)) ≤ 21
   unfolding followRow assertionOf size
   follow-size l [] = omega arith
@@ -58,17 +58,27 @@ module _ (case : Case) (sources : List ℕ) where
   unfolding assertionOf size
   thread-size t l = omega arith
 
-  line-order-size : (t : ℕ) (earlier : List Line) (l : Line) (ls : List Line) → rowsSize (lineOrderRows case t earlier l ls) ≤ 97
-  unfolding lineOrderRows rowsSize
-  line-order-size t earlier l ls = omega (arith, thread-size t l, follow-size l ls)
+  stay-size : (earlier : List Line) (l : Line) → rowsSize (stayRows earlier l) ≤ 50
+  unfolding stayRows rowsSize assertionOf size
+  stay-size [] l = omega arith
+  stay-size (before ∷ earlier) l = go (visible (l .kind))
+    where
+      go : (q : Bool) → rowsSize (cond q [] (row 8 (l .number) (before .number) 0 0 0 ∷ [])) ≤ 50
+      go true = omega arith
+      go false = omega arith
 
-  order-size : (t : ℕ) (earlier ls : List Line) → rowsSize (orderRows case t earlier ls) ≤ 97 * length ls
+  line-order-size : (t : ℕ) (earlier : List Line) (l : Line) (ls : List Line) → rowsSize (lineOrderRows case t earlier l ls) ≤ 147
+  unfolding lineOrderRows rowsSize
+  line-order-size t earlier l ls =
+      omega (arith, rows-append (stayRows earlier l) (followRow case l ls ∷ []), thread-size t l, stay-size earlier l, follow-size l ls)
+
+  order-size : (t : ℕ) (earlier ls : List Line) → rowsSize (orderRows case t earlier ls) ≤ 147 * length ls
   unfolding orderRows rowsSize
   order-size t earlier [] = omega arith
   order-size t earlier (l ∷ ls) =
       omega (arith, rows-append (lineOrderRows case t earlier l ls) (orderRows case t (l ∷ earlier) ls), line-order-size t earlier l ls, order-size t (l ∷ earlier) ls)
 
-  pub all-order-size : (t : ℕ) (threads : List (List Line)) → rowsSize (allOrderRows case t threads) ≤ 97 * lineCount threads
+  pub all-order-size : (t : ℕ) (threads : List (List Line)) → rowsSize (allOrderRows case t threads) ≤ 147 * lineCount threads
   unfolding allOrderRows rowsSize
   all-order-size t [] = omega arith
   all-order-size t (ls ∷ threads) =

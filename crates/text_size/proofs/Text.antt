@@ -58,7 +58,7 @@ module _ (bytes : List ℕ) (ok : Accepted bytes) where
 
   -- The assertions, where no read has more than so many bytes.
   module _ (reads : ℕ) (own : (t : ℕ) → 371 + 366 * length (ownBlocks case t) ≤ reads) (small : reads ≤ 3800) where
-    table-size : rowsSize case (sourcesOf case) (table case) ≤ 97 * lineCount (case .threads) + (4059 + reads) * lineCount (case .threads) + 414555
+    table-size : rowsSize case (sourcesOf case) (table case) ≤ 147 * lineCount (case .threads) + (4059 + reads) * lineCount (case .threads) + 414555
     unfolding table runRows
     table-size =
         let orders = allOrderRows case 0 (case .threads) in
@@ -77,7 +77,7 @@ module _ (bytes : List ℕ) (ok : Accepted bytes) where
           goal-row-size,
         )
 
-    text-size : length (smtText bytes) ≤ 97 * lineCount (case .threads) + (4059 + reads) * lineCount (case .threads) + 440881
+    text-size : length (smtText bytes) ≤ 147 * lineCount (case .threads) + (4059 + reads) * lineCount (case .threads) + 440881
     unfolding smtText scriptText scriptOf
     text-size =
         let declared = declarations 0 (variables case) in

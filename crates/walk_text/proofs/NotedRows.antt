@@ -2,14 +2,15 @@
 -- Assumes nothing. Met again in Previous, and where other numbers of the rows are noted.
 use mathlib.Core.Path.{_≡_, refl, ap, _∙_}
 use Prim.Native.Nat.{ℕ, zero, suc, _+_, _*_, _%_, _<_}
-use mathlib.Core.Bool.{false}
-use mathlib.Core.List.{List, [], _∷_, _++_, reverse}
+use mathlib.Core.Bool.{Bool, true, false, cond}
+use mathlib.Core.List.{List, [], _∷_, _++_, reverse, append-assoc}
 use native.Mathlib.Omega.{arith}
 use native.Mathlib.Nat.{zero-add}
 use lib.Dec.{eqb}
 use lib.ListN.{length, getD}
 use Rattle.model.specs.CaseFile.{Kind, compute, store, load, input, assert, assume, lock, unlock, Line, Case, linesOf, itemCount}
-use Rattle.model.specs.Table.{Row, followRow, demandRows, allOrderRows, allValueRows, itemRows, blockRows, runRows, goalRow, table, numbersOf}
+use Rattle.model.specs.Line.{visible}
+use Rattle.model.specs.Table.{Row, row, followRow, stayRows, demandRows, allOrderRows, allValueRows, itemRows, blockRows, runRows, goalRow, table, numbersOf}
 use Rattle.walk_text.specs.Previous.{HasTable, noted, notedRow, notedFrom}
 
 -- A row in front of other numbers.
@@ -86,11 +87,28 @@ module _ (which place : ℕ) (case : Case) where
   unfolding notedRows noted
   other-first w ws notes other = rw other
 
-  pub follow-none : eqb 1 which ≡ false → eqb 2 which ≡ false → (l : Line) (ls : List Line) (ws : List Row) (notes : List ℕ)
+  follow-none : eqb 1 which ≡ false → eqb 2 which ≡ false → (l : Line) (ls : List Line) (ws : List Row) (notes : List ℕ)
       → notedIn (followRow case l ls ∷ ws) notes ≡ notedIn ws notes
   unfolding followRow
   follow-none one two l [] ws notes = other-first _ ws notes two
   follow-none one two l (next ∷ ls) ws notes = other-first _ ws notes one
+
+  stay-none : eqb 8 which ≡ false → (earlier : List Line) (l : Line) (ws : List Row) (notes : List ℕ)
+      → notedIn (stayRows earlier l ++ ws) notes ≡ notedIn ws notes
+  unfolding stayRows
+  stay-none eight [] l ws notes = refl
+  stay-none eight (before ∷ earlier) l ws notes = go (visible (l .kind))
+    where
+      go : (q : Bool) → notedIn (cond q [] (row 8 (l .number) (before .number) 0 0 0 ∷ []) ++ ws) notes ≡ notedIn ws notes
+      go true = refl
+      go false = other-first _ ws notes eight
+
+  -- The order rows of a line behind its 3.
+  pub behind-none : eqb 8 which ≡ false → eqb 1 which ≡ false → eqb 2 which ≡ false → (earlier : List Line) (l : Line) (ls : List Line) (ws : List Row)
+      (notes : List ℕ) → notedIn ((stayRows earlier l ++ (followRow case l ls ∷ [])) ++ ws) notes ≡ notedIn ws notes
+  behind-none eight one two earlier l ls ws notes =
+      ap (λ (us : List Row). notedIn us notes) (append-assoc (stayRows earlier l) (followRow case l ls ∷ []) ws)
+      ∙ stay-none eight earlier l (followRow case l ls ∷ ws) notes ∙ follow-none one two l ls ws notes
 
   pub demand-none : eqb 5 which ≡ false → (kind : Kind) (earlier : List Line) (l : Line) (ws : List Row) (notes : List ℕ)
       → notedIn (demandRows kind case earlier l ++ ws) notes ≡ notedIn ws notes

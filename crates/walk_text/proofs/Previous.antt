@@ -14,7 +14,7 @@ use Rattle.copies.specs.CopyChains.{Noted}
 use Rattle.copies.proofs.CopyChains.{noted-start, noted-next, noted-more}
 use Rattle.walk_text.specs.Walk.{PreviousCopies}
 use Rattle.walk_text.specs.Previous.{HasTable, noted, notedFrom}
-use Rattle.walk_text.proofs.NotedRows.{notedRows, rows-append, table-numbers, follow-none, demand-none, table-lines}
+use Rattle.walk_text.proofs.NotedRows.{notedRows, rows-append, table-numbers, behind-none, demand-none, table-lines}
 
 -- "4, line, guard copy, a copy, b copy, target copy"
 abbrev notedFours : List Row → List ℕ → List ℕ
@@ -27,7 +27,7 @@ module _ (case : Case) where
   unfolding notedRows noted orderRows lineOrderRows
   order-none t earlier [] previous = refl
   order-none t earlier (l ∷ ls) previous =
-      follow-none 4 5 case refl refl l ls (orderRows case t (l ∷ earlier) ls) previous ∙ order-none t (l ∷ earlier) ls previous
+      behind-none 4 5 case refl refl refl earlier l ls (orderRows case t (l ∷ earlier) ls) previous ∙ order-none t (l ∷ earlier) ls previous
 
   all-order-none : (t : ℕ) (threads : List (List Line)) (previous : List ℕ) → notedFours (allOrderRows case t threads) previous ≡ previous
   unfolding notedRows allOrderRows

@@ -1,10 +1,12 @@
 -- Each 6 of an accepted case's table has the walk over its copies as its assertion.
 -- Assumes nothing. Met again where the assertions of all rows are written.
 use Prim.Native.Nat.{ℕ, zero, suc, _+_, _≤_}
+use mathlib.Core.Bool.{Bool, true, false, cond}
 use mathlib.Core.List.{List, [], _∷_, _++_}
 use native.Mathlib.Omega.{arith}
 use Rattle.model.specs.CaseFile.{Kind, compute, store, load, input, assert, assume, lock, unlock, Line, Case, caseOf, itemCount}
-use Rattle.model.specs.Table.{Row, followRow, lineOrderRows, orderRows, demandRows, valueRows, allOrderRows, allValueRows, itemRows, blockRows, runRows, goalRow, table}
+use Rattle.model.specs.Line.{visible}
+use Rattle.model.specs.Table.{Row, row, followRow, stayRows, lineOrderRows, orderRows, demandRows, valueRows, allOrderRows, allValueRows, itemRows, blockRows, runRows, goalRow, table}
 use Rattle.laws.specs.Accepted.{Accepted}
 use Rattle.walk_text.specs.Walk.{PreviousCopies, linesBack, SixesWalk}
 use Rattle.walk_text.proofs.WalkBack.{six-walked}
@@ -18,15 +20,30 @@ module _ (case : Case) (sources previous : List ℕ) where
   walks-append (w ∷ ws) us h g = (h .0, walks-append ws us (h .1) g)
 
   -- Other rows are no 6s.
-  follow-walks : (l : Line) (ls : List Line) (ws : List Row) → Walks ws → Walks (followRow case l ls ∷ ws)
+  follow-walks : (l : Line) (ls : List Line) → Walks (followRow case l ls ∷ [])
   unfolding followRow
-  follow-walks l [] ws h = ((λ e. absurd (omega (arith, e))), h)
-  follow-walks l (next ∷ ls) ws h = ((λ e. absurd (omega (arith, e))), h)
+  follow-walks l [] = ((λ e. absurd (omega (arith, e))), tt)
+  follow-walks l (next ∷ ls) = ((λ e. absurd (omega (arith, e))), tt)
+
+  stay-walks : (earlier : List Line) (l : Line) → Walks (stayRows earlier l)
+  unfolding stayRows
+  stay-walks [] l = tt
+  stay-walks (before ∷ earlier) l = go (visible (l .kind))
+    where
+      go : (q : Bool) → Walks (cond q [] (row 8 (l .number) (before .number) 0 0 0 ∷ []))
+      go true = tt
+      go false = ((λ e. absurd (omega (arith, e))), tt)
+
+  line-order-walks : (t : ℕ) (earlier : List Line) (l : Line) (ls : List Line) → Walks (lineOrderRows case t earlier l ls)
+  unfolding lineOrderRows
+  line-order-walks t earlier l ls =
+      ((λ e. absurd (omega (arith, e))), walks-append (stayRows earlier l) (followRow case l ls ∷ []) (stay-walks earlier l) (follow-walks l ls))
 
   order-walks : (t : ℕ) (earlier ls : List Line) → Walks (orderRows case t earlier ls)
-  unfolding orderRows lineOrderRows
+  unfolding orderRows
   order-walks t earlier [] = tt
-  order-walks t earlier (l ∷ ls) = ((λ e. absurd (omega (arith, e))), follow-walks l ls (orderRows case t (l ∷ earlier) ls) (order-walks t (l ∷ earlier) ls))
+  order-walks t earlier (l ∷ ls) =
+      walks-append (lineOrderRows case t earlier l ls) (orderRows case t (l ∷ earlier) ls) (line-order-walks t earlier l ls) (order-walks t (l ∷ earlier) ls)
 
   orders-walk : (t : ℕ) (threads : List (List Line)) → Walks (allOrderRows case t threads)
   unfolding allOrderRows

@@ -1,7 +1,7 @@
 -- `put_row` is by the kind of the row. Assumes nothing.
 use borrow.Author.Needs.{needs}
 use Rattle.line_threads.proofs.RecordLines.{thread-low}
-use Rattle.smt_text.proofs.Rows.{line-handed, follows-spelt, last-spelt, thread-spelt, value-spelt, demand-spelt, walk-spelt, goal-spelt, other-spelt}
+use Rattle.smt_text.proofs.Rows.{line-handed, follows-spelt, last-spelt, thread-spelt, value-spelt, demand-spelt, walk-spelt, goal-spelt, stay-spelt, other-spelt}
 use Rattle.smt_text.proofs.put_row.Statement.{statement}
 use Rattle.smt_text.proofs.put_row.Tie as tie
 
@@ -31,6 +31,9 @@ put-walk-requires c κs = search needs
 
 put-goal-requires : tie.Need-put-goal-requires
 put-goal-requires c κs = search needs
+
+put-eight-requires : tie.Need-put-eight-requires
+put-eight-requires c κs = search needs
 
 slice-aggregate-put : tie.Need-slice-aggregate-put
 slice-aggregate-put c = search needs
@@ -84,7 +87,13 @@ same-length-8 : tie.Need-same-length-8
 same-length-8 c = search needs
 
 returns-8 : tie.Need-returns-8
-returns-8 c = other-spelt _ _ (c .before .before .before .before .before .match .rest) (c .before .before .put .ensures)
+returns-8 c = stay-spelt _ _ (c .before .before .before .before .match .keys8) (c .before .before .put-eight .ensures _ (c .before .before .before .before .before .before .before .before .before .before .pre .handed .shaped))
+
+same-length-9 : tie.Need-same-length-9
+same-length-9 c = search needs
+
+returns-9 : tie.Need-returns-9
+returns-9 c = other-spelt _ _ (c .before .before .before .before .before .match .rest) (c .before .before .put .ensures)
 
 pub put-row-spec : {M : Type 1} → statement M
 put-row-spec =
@@ -99,6 +108,7 @@ put-row-spec =
     put-five-requires
     put-walk-requires
     put-goal-requires
+    put-eight-requires
     slice-aggregate-put
     put-requires
     same-length
@@ -116,4 +126,6 @@ put-row-spec =
     same-length-7
     returns-7
     same-length-8
-    returns-8)
+    returns-8
+    same-length-9
+    returns-9)
