@@ -12,12 +12,11 @@ use Rattle.model.specs.CaseFile.{Kind, kindOf, Line, Case, records, recordField
 use Rattle.model.specs.Line.{visible}
 use Rattle.model.specs.Table.{orderRows, allOrderRows, valueRows, allValueRows, blockRows, runRows, goalRow, table}
 use Rattle.laws.specs.Accepted.{Accepted, threadLines}
-use Rattle.laws.specs.RowCounts.{orderRowCount, valueRowCount}
+use Rattle.laws.specs.RowCounts.{hasEight, orderRowCount, valueRowCount}
 use Rattle.laws.proofs.Counting.{sumFrom}
 use Rattle.laws.proofs.RecordSums.{lines-add-up, recordsFrom, records-all, records-more, records-none}
 use Rattle.laws.proofs.Following.{lines-end, lines-more, chains-more, chains-end}
 use Rattle.laws.proofs.Sizes.{orderCount, order-length, order-count-at-most, value-length, value-count-at-most, blocks-length}
-use Rattle.line.specs.Eights.{hasEight}
 use Rattle.encoder.specs.Firsts.{invisibleFirst, invisibleFirsts, OfThread}
 
 -- The rows of record k: its order rows, as those of a line that is not its thread's first, and the others.
@@ -58,7 +57,7 @@ first-weight : (kind : Kind) → orderRowCount false kind ≡ orderRowCount true
 unfolding orderRowCount
 first-weight kind = go (visible kind)
   where
-    go : (q : Bool) → cond q 2 3 ≡ 2 + bit (not q)
+    go : (q : Bool) → cond (not q) 3 2 ≡ 2 + bit (not q)
     go true = refl
     go false = refl
 

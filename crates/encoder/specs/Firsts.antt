@@ -5,8 +5,8 @@ use mathlib.Core.Bool.{Bool, false}
 use mathlib.Core.List.{List, [], _∷_}
 use Rattle.model.specs.Word.{bit}
 use Rattle.model.specs.CaseFile.{Line, threadCount}
+use Rattle.laws.specs.RowCounts.{hasEight}
 use Rattle.laws.specs.Accepted.{Accepted}
-use Rattle.line.specs.Eights.{hasEight}
 
 -- Whether the first of a thread's lines would have an 8 after another, and how many threads have such a line.
 abbrev pub invisibleFirst : List Line → Bool

@@ -4,7 +4,7 @@
 use mathlib.Core.Path.{_≡_, refl}
 use mathlib.Core.Logic.{_≢_}
 use Prim.Native.Nat.{ℕ, zero, suc, _+_, _-_, _*_, _%_, _≤_, _<_}
-use mathlib.Core.Bool.{Bool, true, false, cond}
+use mathlib.Core.Bool.{Bool, true, false, cond, not}
 use mathlib.Core.List.{List, [], _∷_, _++_, reverse}
 use native.Mathlib.Omega.{arith}
 use native.Mathlib.Nat.{mul-le-mul, zero-mul, suc-mul, le-refl}
@@ -26,7 +26,7 @@ use Rattle.model.specs.declared.Verdict.the-variants as verdicts
 use Rattle.model.specs.declared.Decoded.the-variants as decodeds
 use Rattle.model.specs.declared.Replayed.the-variants as replayeds
 use Rattle.laws.specs.Accepted.{Accepted}
-use Rattle.laws.specs.RowCounts.{orderRowCount, isFirst, valueRowCount}
+use Rattle.laws.specs.RowCounts.{hasEight, orderRowCount, isFirst, valueRowCount}
 use Rattle.laws.specs.Sizes.{Sizes, LargestSizes, NeverTooShort}
 use Rattle.laws.proofs.Accepted.{accepted-of}
 use Rattle.laws.proofs.OnCase.{on-accepted, on-refused}
@@ -59,7 +59,7 @@ unfolding lineOrderRows stayRows orderRowCount
 line-order-length case t [] l ls = refl
 line-order-length case t (before ∷ earlier) l ls = go (visible (l .kind))
   where
-    go : (q : Bool) → suc (length (cond q [] (row 8 (l .number) (before .number) 0 0 0 ∷ []) ++ (followRow case l ls ∷ []))) ≡ cond q 2 3
+    go : (q : Bool) → suc (length (cond q [] (row 8 (l .number) (before .number) 0 0 0 ∷ []) ++ (followRow case l ls ∷ []))) ≡ cond (not q) 3 2
     go true = refl
     go false = refl
 
@@ -81,10 +81,9 @@ order-length case t earlier (l ∷ ls) =
 
 pub order-count-at-most : (first : Bool) (kind : Kind) → orderRowCount first kind ≤ 3
 unfolding orderRowCount
-order-count-at-most true kind = omega arith
-order-count-at-most false kind = go (visible kind)
+order-count-at-most first kind = go (hasEight first kind)
   where
-    go : (q : Bool) → cond q 2 3 ≤ 3
+    go : (q : Bool) → cond q 3 2 ≤ 3
     go true = omega arith
     go false = omega arith
 

@@ -1,15 +1,18 @@
 -- How many rows of the table a line has, each count in this one place.
 -- Assumes nothing.
 use Prim.Native.Nat.{ℕ}
-use mathlib.Core.Bool.{Bool, true, false, cond}
+use mathlib.Core.Bool.{Bool, true, false, cond, not, _||_}
 use mathlib.Core.List.{List, [], _∷_}
 use Rattle.model.specs.CaseFile.{Kind, compute, store, load, input, assert, assume, lock, unlock, Line}
 use Rattle.model.specs.Line.{visible}
 
--- The order rows of a line, which is its thread's first or not: a 3, an 8 for an invisible line that is not the first, and a 1 or a 2.
+-- Five: "An invisible line that is not its thread's first": whether a line, which is the first or not, has an 8.
+abbrev pub hasEight : Bool → Kind → Bool
+hasEight first kind = not (first || visible kind)
+
+-- Its order rows: a 3, its 8, and a 1 or a 2.
 unfoldable pub orderRowCount : Bool → Kind → ℕ
-orderRowCount true kind = 2
-orderRowCount false kind = cond (visible kind) 2 3
+orderRowCount first kind = cond (hasEight first kind) 3 2
 
 -- No line is earlier.
 abbrev pub isFirst : List Line → Bool

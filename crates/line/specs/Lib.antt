@@ -1,3 +1,2 @@
 pub mod CaseCounts
-pub mod Eights
 pub mod LineReads

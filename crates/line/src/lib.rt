@@ -12,9 +12,8 @@ ghost use Rattle.model.specs.Line.{localName, itemName, guardName, operandA, ha
 ghost use Rattle.model.specs.Line as model;
 ghost use Rattle.model.specs.Machine.{look, putLocal, putItem};
 ghost use Rattle.laws.specs.Accepted.{Accepted};
-ghost use Rattle.laws.specs.RowCounts.{orderRowCount, valueRowCount};
+ghost use Rattle.laws.specs.RowCounts.{hasEight, orderRowCount, valueRowCount};
 ghost use Rattle.case_file.specs.Records.{asLine};
-ghost use Rattle.line.specs.Eights.{hasEight};
 ghost use Rattle.line.specs.LineReads.{memory, readsFrom, Expressed, Breaks};
 ghost use Rattle.line.specs.CaseCounts.{HasCounts, OfCase};
 use case_file::Record;

@@ -11,10 +11,9 @@ use Rattle.model.specs.CaseFile.{Kind, kindOf, recordField, threadCount, lineOf
 use Rattle.model.specs.Assignment.{wasRun, assignmentOf}
 use Rattle.model.specs.Table.{row, followRow, stayRows, lineOrderRows}
 use Rattle.model.specs.Holds.{holds, firstFailing}
-use Rattle.laws.specs.RowCounts.{orderRowCount}
+use Rattle.laws.specs.RowCounts.{hasEight, orderRowCount}
 use Rattle.laws.proofs.Views.{EqView, same, diff, eq-view}
 use Rattle.assignment.specs.Numbers.{recordBlock}
-use Rattle.line.specs.Eights.{hasEight}
 use Rattle.line.proofs.Eights.{rows-by-eight, stay-after}
 use Rattle.search.specs.Search.{failingIn}
 use Rattle.order_check.specs.Rows.{neighbour, linkRows, ownBlock, stayedIn, mostBlock}

@@ -9,11 +9,11 @@ use Rattle.model.specs.Limits.{mostConstraints}
 use Rattle.model.specs.CaseFile.{kindOf, Line, recordField, threadCount, switchCount, lineOf, caseOf}
 use Rattle.model.specs.Assignment.{wasRun}
 use Rattle.model.specs.Table.{Row, lineOrderRows, orderRows, allOrderRows}
+use Rattle.laws.specs.RowCounts.{hasEight}
 use Rattle.laws.specs.Accepted.{Accepted, threadLines}
 use Rattle.assignment.specs.Numbers.{recordBlock}
 use Rattle.search.specs.Search.{Room}
 use Rattle.case_file.specs.declared.Link.{Link}
-use Rattle.line.specs.Eights.{hasEight}
 
 -- Record k as the one line that is seen of its chain on one side; 0 is none.
 abbrev pub neighbour : List ℕ → ℕ → ℕ → List Line

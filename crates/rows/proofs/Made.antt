@@ -12,14 +12,13 @@ use lib.Dec.{eqb}
 use lib.ListN.{length, set}
 use Rattle.model.specs.CaseFile.{Kind, kindOf, Line, lineOf, Case, caseOf}
 use Rattle.model.specs.Table.{Row, row, followRow, stayRows, lineOrderRows, valueRow, demandRows, numbersOf}
-use Rattle.laws.specs.RowCounts.{orderRowCount, valueRowCount}
+use Rattle.laws.specs.RowCounts.{hasEight, orderRowCount, valueRowCount}
 use Rattle.laws.specs.Written.{numbersAt, Put}
 use Rattle.laws.proofs.Views.{EqView, same, diff, eq-view}
 use Rattle.laws.proofs.Writing.{numbers-none, put-then}
 use Rattle.laws.proofs.RowNumbers.{numbers-of-append, rows-then}
 use Rattle.laws.proofs.Sizes.{six-a-row, line-value-length}
 use Rattle.case_file.specs.declared.Link.{Link}
-use Rattle.line.specs.Eights.{hasEight}
 use Rattle.line.proofs.Eights.{rows-by-eight, stay-after}
 use Rattle.rows.specs.Rows.{Nearest, Stands, eightOf}
 

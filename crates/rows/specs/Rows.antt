@@ -9,11 +9,11 @@ use mathlib.Core.List.{List, [], _∷_}
 use lib.Dec.{eqb}
 use Rattle.model.specs.CaseFile.{Kind, kindOf, Line, Case}
 use Rattle.model.specs.Table.{Row, row, followRow, lineOrderRows, valueRow, demandRows, numbersOf}
+use Rattle.laws.specs.RowCounts.{hasEight}
 use Rattle.laws.specs.Written.{numbersAt, Put}
 use Rattle.rows.specs.declared.Constraint.{Constraint}
 use Rattle.case_file.specs.declared.Link.{Link}
 use Rattle.line.specs.declared.Copies.{Copies}
-use Rattle.line.specs.Eights.{hasEight}
 
 -- A constraint as the code holds it.
 abbrev pub asRow : Constraint → Row
