@@ -39,11 +39,11 @@ extern "C" {
  * (crates/laws/specs/Sizes.antt, crates/delivered/specs/Delivered.antt; the limits are in crates/model/specs/Limits.antt).
  */
 #define MENDUVO_MOST_CASE_BYTES 4128u       /* 32 bytes, and 16 for each of 256 records */
-#define MENDUVO_MOST_TABLE_NUMBERS 7230u    /* six for each of 1,205 constraints */
+#define MENDUVO_MOST_TABLE_NUMBERS 8742u    /* six for each of 1,457 constraints */
 #define MENDUVO_MOST_VARIABLES 692u         /* the numbers of an assignment: 512 of records, 180 block values */
 #define MENDUVO_MOST_SCHEDULE_NUMBERS 272u  /* 16 block lengths, 256 input values */
 #define MENDUVO_MOST_ITEMS 12u              /* 8 globals, then 4 mutexes */
-#define MENDUVO_MOST_LISTING_BYTES 43392u   /* six for each number of the largest table, and for the two counts */
+#define MENDUVO_MOST_LISTING_BYTES 52464u   /* six for each number of the largest table, and for the two counts */
 #define MENDUVO_MOST_SMT_BYTES 2000000u     /* no text for solvers is longer */
 
 /* How many numbers are held for a thread, one for each name: 16 locals, 8 globals, 4 mutexes. See menduvo_take_line. */
@@ -142,6 +142,8 @@ MenduvoNumbers menduvo_check(const uint8_t *case_, size_t case_len, const uint16
 /*
  * Writes the schedule that the assignment stands for: n + 1 block lengths, then a value for each input line, by thread and
  * then by chain. A line with block number n + 1 was not run, and counts in no block. The assignment must meet every constraint.
+ * Such assignments and the violating schedules that keep the rule stand for each other, one for one. A schedule keeps the rule when
+ * no invisible line (compute, input, assert, assume) is run in a later block than the line before it in its thread.
  *   1  the schedule is written; first: how many numbers it has
  * Refusals 1 to 11 and 15.
  */
@@ -151,7 +153,8 @@ MenduvoNumbers menduvo_decode(const uint8_t *case_, size_t case_len, const uint1
 /*
  * Runs the schedule, and writes the items' values at the end of the run, or where it is cut off, with the failed line not run:
  * G + M numbers, globals first, then mutexes. A mutex has 0 where it is free, and t + 1 where thread t holds it. A thread whose block
- * lengths add up to less than its lines stops there; an input line that is not run has value 0.
+ * lengths add up to less than its lines stops there; an input line that is not run has value 0. Every schedule is taken, whether it
+ * keeps the rule of menduvo_decode or not.
  *   1  violated: the run is legal and violates; first: the record of the first line that does, in running order. It is a zero assert,
  *      or an unlock by a stranger, a thread that does not hold the mutex; it frees it all the same. The record's kind tells which.
  *   2  clean: the run is legal and does not violate

@@ -91,6 +91,7 @@ lies items 'disagrees with the proved library' step cases/case-a.case -o "$scrat
 result 'no schedule is left' eval '[ ! -e "$scratch/none.schedule" ] && [[ $out != *schedule:* ]]'
 lies fails 'display of a constraint disagrees with the proved library' check cases/case-a.case cases/case-a.assignment
 lies fails 'display of a constraint disagrees with the proved library' decode cases/case-a.case cases/case-a.assignment
+lies stays 'display of a constraint disagrees with the proved library' check cases/case-a.case cases/case-a.assignment
 lies row 'display of a constraint disagrees with the proved library' check cases/case-a.case cases/case-a.assignment
 lies answer 'numbers that stand for no answer' replay cases/case-a.case cases/case-a.schedule
 lies 'fails 0' 'numbers that stand for no answer' check cases/case-a.case cases/case-a.assignment

@@ -77,9 +77,9 @@ switches() {
         says "a file of $n bytes" 2 'refusal 1, place 0' "$menduvo" list "$scratch/stub.case" --switches 2
     done
     run bash -c "'$menduvo' list - --switches 2 <$broken"
-    shows 'a case on standard input' '[ "$status" = 0 ] && [[ $out = "63 42"* ]]'
+    shows 'a case on standard input' '[ "$status" = 0 ] && [[ $out = "67 42"* ]]'
     says 'several to list' 0 '== cases/case-a.case with n = 2' "$menduvo" list "$broken" cases/case-a.case --switches 2
-    says 'check' 0 'meets all 66 constraints with n = 3' "$menduvo" check "$broken" cases/interlock-broken.assignment --switches 3
+    says 'check' 0 'meets all 70 constraints with n = 3' "$menduvo" check "$broken" cases/interlock-broken.assignment --switches 3
     says 'check at another n' 2 'refusal 11' "$menduvo" check "$broken" cases/interlock-broken.assignment --switches 2
     run "$menduvo" decode cases/case-a.case cases/case-a.assignment --switches 2
     shows 'decode' '[ "$status" = 0 ] && [ "$out" = "2 1 2" ]'
@@ -90,9 +90,9 @@ switches() {
     says 'picture' 0 'interlock-broken-n2' "$menduvo" picture "$broken" "$scratch/short.schedule" --switches 2 -o -
     local solver
     for solver in z3 cvc5; do
-        says "$solver, n = 1" 0 'cases/interlock-broken.case with n = 1: 60 constraints over 39 variables' \
+        says "$solver, n = 1" 0 'cases/interlock-broken.case with n = 1: 64 constraints over 39 variables' \
             "$menduvo" solve "$broken" --switches 1 --solver "$solver"
-        says "$solver, n = 4" 1 'with n = 4: 69 constraints' "$menduvo" solve "$broken" --switches 4 --solver "$solver"
+        says "$solver, n = 4" 1 'with n = 4: 73 constraints' "$menduvo" solve "$broken" --switches 4 --solver "$solver"
     done
     says 'several' 1 $'every case with n = 2\ncase ' "$menduvo" solve "$broken" cases/case-a.case --switches 2
     says 'a folder' 1 '8 cases: 1 violated, 6 unsat, 1 vacuous' "$menduvo" solve cases --switches 1
@@ -143,7 +143,7 @@ CASES
     says 'a bound over the largest' 3 '--least looks up to n = 15, the largest of a case, and not to 16' \
         "$menduvo" solve "$broken" --least --switches 16
     says 'a folder' 1 '8 cases: 5 violated, 3 unsat, 0 vacuous' "$menduvo" solve cases --least --switches 4 --jobs 2
-    shows 'a line of it' '[[ $out = *"lost-update.source       violated    42 over 28"*"first at n = 2; unsat at 0, 1 (0, 1: nothing was checked); record 9"* ]]'
+    shows 'a line of it' '[[ $out = *"lost-update.source       violated    46 over 28"*"first at n = 2; unsat at 0, 1 (0, 1: nothing was checked); record 9"* ]]'
     damaged 0 5
     says 'a refused case' 2 'refusal 2' "$menduvo" solve "$scratch/damaged.case" --least
     # L0 = 1; G1 = L0: no assert.
@@ -253,7 +253,7 @@ asserts() {
         shows 'the run is that of the case' '[[ $out = *"record   1  assert 0"*"BROKEN"*"record   2  assert 0"*"violated: record 1 "* ]]'
         says "$solver, one alone that is unsat" 0 'no legal run violates at record 17 within n = 2' \
             "$menduvo" solve "$broken" --assert 17 --switches 2 --solver "$solver"
-        shows 'what nothing meets' '[[ $out = *"nothing meets the part of record 17 in the last constraint and the 62 constraints before it."* ]]'
+        shows 'what nothing meets' '[[ $out = *"nothing meets the part of record 17 in the last constraint and the 66 constraints before it."* ]]'
         says "$solver, one alone with more switches" 1 'violated: record 17' "$menduvo" solve "$broken" --assert 17 --solver "$solver"
         says "$solver, one alone by its first n" 1 'first at n = 3; unsat at 0, 1, 2' "$menduvo" solve "$broken" --assert 17 --least --solver "$solver"
     done
@@ -304,7 +304,7 @@ unlocks() {
         shows 'what was asked' '[[ $out = *"asked about record 11 (thread 1, line 5: unlock interlock) alone"* && $out != *"which was asked about"* ]]'
         says "$solver, an assert behind it" 1 'record 4, which was asked about, is broken too, after record 11' \
             "$menduvo" solve $release --assert 4 --solver "$solver"
-        shows 'its assignment meets all, and its run shows both' '[[ $out = *"checked: it meets all 55 constraints"*"STRANGER: thread 0 held interlock"*"BROKEN: 1 == 0"*"violated: record 11 "* ]]'
+        shows 'its assignment meets all, and its run shows both' '[[ $out = *"checked: it meets all 56 constraints"*"STRANGER: thread 0 held interlock"*"BROKEN: 1 == 0"*"violated: record 11 "* ]]'
         says "$solver, an unlock behind it" 1 'record 6, which was asked about, is an unlock by a stranger too (' \
             "$menduvo" solve $release --assert 6 --solver "$solver"
         shows 'whose the mutex was' '[[ $out = *"stranger too (interlock was free), after record 11"* || $out = *"stranger too (thread 1 held interlock), after record 11"* ]]'
@@ -352,7 +352,7 @@ short() {
         says "$solver, n = 15" 1 'short: 2 of 15 switches used, 3 blocks with lines, 12 of 18 lines run' \
             "$menduvo" solve "$broken" --switches 15 --short --solver "$solver" --keep "$folder"
         shows 'whose word it is' '[[ $out = *"that none is shorter is the word of $solver"* ]]'
-        says 'its assignment meets the constraints' 0 'meets all 102 constraints with n = 15' \
+        says 'its assignment meets the constraints' 0 'meets all 106 constraints with n = 15' \
             "$menduvo" check "$broken" "$folder/interlock-broken-n15.assignment" --switches 15
         says 'its schedule violates' 1 'violated' "$menduvo" replay "$broken" "$folder/interlock-broken-n15.schedule" --switches 15
         run "$menduvo" smt "$broken" --switches 15

@@ -97,13 +97,20 @@ reading() {
     same replay-in-vain 0 "$menduvo" replay "$scratch/vain.case" <(echo 2)
     same replay-stops 1 "$menduvo" replay "$scratch/vain.case" <(echo 1)
     echo 0 0 1 1 >"$scratch/stops"
-    says 'a line that was not run meets its constraints' 0 'meets all 8 constraints' "$menduvo" check "$scratch/vain.case" "$scratch/stops"
+    says 'a line that was not run meets its constraints' 0 'meets all 9 constraints' "$menduvo" check "$scratch/vain.case" "$scratch/stops"
     run "$menduvo" decode "$scratch/vain.case" "$scratch/stops"
     result 'it counts in no block' test "$status, $out" = '0, 1'
     # So is an unlock by a stranger: unlock M0, which is free, then assume 0.
     fields 2 0 0 1 1 0 0 0 0 0 0 0 0 0 0 0 2 8 0 0 0 0 0 0 0 6 0 0 0 16 0 0 >"$scratch/vain.case"
     same replay-stranger-in-vain 0 "$menduvo" replay "$scratch/vain.case" <(echo 2)
     same replay-stranger-stops 1 "$menduvo" replay "$scratch/vain.case" <(echo 1)
+    # A violating schedule that breaks the rule, at one line and at two; and one that does not violate.
+    same replay-late 1 "$menduvo" replay cases/handshake.source <(echo 1 3 1 0 1)
+    same replay-late-twice 1 "$menduvo" replay cases/handshake.source <(echo 1 1 0 2 1 0 1) --switches 6
+    run "$menduvo" replay cases/handshake.source <(echo 1 3 2 0 0)
+    result 'the schedule that is named' eval '[ "$status" = 1 ] && [[ $out != *"no assignment"* ]]'
+    run "$menduvo" replay cases/case-a.case <(echo 3 0 1)
+    result 'nothing is said of a clean one' eval '[ "$status" = 0 ] && [[ $out != *"no assignment"* ]]'
     # A run of no line at all.
     same replay-nothing 0 "$menduvo" replay cases/case-a.case <(echo 0 0 0)
     # No record, no switch: one constraint, over no variable.
@@ -205,7 +212,7 @@ texts() {
     smt_is 'of its source, too' "$scratch/page" cases/case-a.source
     run bash -c "$menduvo smt - <cases/case-a.case"
     result 'of a case on standard input' cmp -s "$scratch/out" "$scratch/page"
-    says 'a text to a file' 0 'a.smt2: 18 constraints over 12 variables, in 1486 bytes' "$menduvo" smt cases/case-a.case -o "$file"
+    says 'a text to a file' 0 'a.smt2: 19 constraints over 12 variables, in 1524 bytes' "$menduvo" smt cases/case-a.case -o "$file"
     result 'the file has the text, and nothing else' cmp -s "$file" "$scratch/page"
     says 'a text replaces no file' 3 'a.smt2 is there already; --force replaces it' "$menduvo" smt cases/lock-order.case -o "$file"
     result 'the text is still there' cmp -s "$file" "$scratch/page"

@@ -14,7 +14,7 @@ text() {
 }
 
 texts() {
-    local mark='\xef\xbb\xbf' meets='meets: the assignment meets all 18 constraints'
+    local mark='\xef\xbb\xbf' meets='meets: the assignment meets all 19 constraints'
     local six='0 0 0 1 2 5' rest='2 0 1 5 1 5'
     text 'a byte-order mark before numbers' 0 "$meets" "$mark$six $rest"
     text 'a byte-order mark before a model' 0 "$meets" "$mark$model"
@@ -93,7 +93,7 @@ needs() {
     result "$1" test "$status, ${out##*$'\n'  }" = "1, $4"
 }
 
-# Case A: the first row that fails is each of 1, 2, 3, 4, 6, 7.
+# Case A: the first row that fails is each of 1, 2, 3, 4, 6, 7, 8.
 rows_of_case_a() {
     local case=cases/case-a.case
     needs 'a 3' $case '1 0 0 1 2 5 2 0 1 5 1 5' \
@@ -102,10 +102,16 @@ rows_of_case_a() {
         'needed: a block number that is 1 modulo 2, or 3 for a line that was not run; found: block number 65534, which is 0 modulo 2'
     needs 'a 1' $case '2 0 0 1 2 5 2 0 1 5 1 5' \
         'needed: record 2 in block 2 or later, as record 1 is in block 2; found: block number 0'
-    needs 'a 2' $case '0 0 0 1 2 5 65534 0 1 5 1 5' \
-        'needed: block number 0 to 2, or 3 for a line that was not run; found: block number 65534'
-    needs 'a 2, past what says not run' $case '0 0 0 1 2 5 4 1 1 5 1 5' \
+    needs 'a 2' $case '0 0 0 1 2 5 2 0 65535 5 1 5' \
+        'needed: block number 0 to 2, or 3 for a line that was not run; found: block number 65535'
+    needs 'a 2, past what says not run' $case '0 0 0 1 4 5 4 1 1 5 1 5' \
         'needed: block number 0 to 2, or 3 for a line that was not run; found: block number 4'
+    needs 'an 8' $case '0 0 0 1 0 1 2 1 1 5 1 5' \
+        'needed: block number 0, that of record 3, as record 4 touches no shared item, or 3 for a line that was not run; found: block number 2'
+    needs 'an 8 after a line that was not run' $case '0 0 0 1 3 0 4 1 1 5 1 5' \
+        'needed: record 4 not run, as record 3 was not (block number 3); found: block number 4'
+    says 'an 8 of decode' 1 'the block number of record 4 (thread 0, line 4: assert L1 == 1) is that of record 3, the line before it,' \
+        "$menduvo" decode $case <(echo 0 0 0 1 0 1 2 1 1 5 1 5)
     needs 'a 1 after a line that was not run' $case '3 0 0 1 2 5 2 0 1 5 1 5' \
         'needed: record 2 not run, as record 1 was not (block number 3); found: block number 0'
     needs 'a 4, a load that was not run' $case '0 0 0 1 3 5 3 1 1 5 1 5' \
@@ -120,7 +126,7 @@ rows_of_case_a() {
         'needed: an assert with value 0; found: value 1 of record 4'
     needs 'a 4, a load at the start' $case '0 7 0 1 2 5 2 0 1 5 1 5' 'needed: value 0 (G0 = 0 at the start); found: 7'
     needs 'a 4, a store' $case '0 0 0 2 2 5 2 0 1 5 1 5' 'needed: value 1 (L0 + 1 with L0 = 0 by record 1); found: 2'
-    needs 'a 4, a load in the same block' $case '0 0 0 1 0 5 2 0 1 5 1 5' \
+    needs 'a 4, a load in the same block' $case '0 0 0 1 0 5 0 0 1 5 1 5' \
         'needed: value 1 (G0 = 1 by record 2 in the same block); found: 5'
     needs 'a 4, a load in a later block' $case '0 0 0 1 2 1 2 0 1 5 1 5' \
         'needed: value 5 (G0 = 5 at the end of block 1); found: 1'
@@ -332,7 +338,7 @@ singulars() {
     fake z3 'cat >/dev/null; echo unsat'
     says 'one constraint' 0 'nothing meets this one constraint.' "$menduvo" solve "$scratch/empty.case"
     result 'one switch' eval '[[ $out = *"within n = 1 switch, in"* ]]'
-    says 'more constraints' 0 'nothing meets these 18 constraints.' "$menduvo" solve cases/case-a.case
+    says 'more constraints' 0 'nothing meets these 19 constraints.' "$menduvo" solve cases/case-a.case
     result 'more switches' eval '[[ $out = *"within n = 2 switches, in"* ]]'
     # One mutex and one switch: a single variable.
     fields 2 1 0 1 0 0 0 0 0 0 0 0 0 0 0 0 >"$scratch/mutex.case"

@@ -62,7 +62,7 @@ checks() {
     object 'check, meets' 0 meets check cases/case-a.case cases/case-a.assignment
     is 'check, meets' cases/case-a.case case
     is 'check, meets' cases/case-a.assignment assignment
-    is 'check, meets' 18 constraints
+    is 'check, meets' 19 constraints
     result 'no message' test ! -s "$scratch/errors"
     echo 0 0 0 2 2 5 2 0 1 5 1 5 >"$scratch/fails"
     object 'check, fails' 1 fails check cases/case-a.case "$scratch/fails"
@@ -98,6 +98,11 @@ replays() {
     is 'replay, with values' 5 steps
     is 'replay, with values' 1 steps 1 items 0 value
     is 'replay, with values' 5 steps 2 items 0 value
+    is 'replay, violated' 0 late
+    echo 1 1 0 2 1 0 1 >"$scratch/late"
+    object 'replay, late' 1 violated replay cases/handshake.case "$scratch/late" --switches 6
+    is 'replay, late' 2 late
+    result 'the late lines' test "$(get late 0), $(get late 1)" = '3, 13'
     object 'replay, clean' 0 clean replay cases/interlock.case cases/interlock.schedule
     is 'replay, clean' null record
     object 'replay, cut off' 0 'cut off' replay cases/lock-order.case cases/lock-order.schedule

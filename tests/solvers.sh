@@ -337,7 +337,7 @@ both() {
     says 'they disagree' 3 'the solvers disagree: z3 says sat, and its assignment is checked and replayed; cvc5 says unsat, and is wrong' \
         "$menduvo" solve cases/case-a.case --solver both --keep "$scratch/disagree"
     fake z3 "cat >/dev/null; mkdir -p '$scratch/split/case-a.schedule'; echo sat; echo '$model'"
-    says 'they disagree, and it cannot be kept' 3 'case-a.case      disagree    18 over 12' \
+    says 'they disagree, and it cannot be kept' 3 'case-a.case      disagree    19 over 12' \
         "$menduvo" solve cases/case-a.case cases/lock-order.case --solver both --keep "$scratch/split"
     result 'that is told' eval '[[ $out = *"cvc5 says unsat, and is wrong; NOT KEPT: split/case-a.schedule"* ]]'
     fake z3 "cat >/dev/null; echo sat; echo '$model'"
@@ -449,7 +449,7 @@ as_known() {
     result 'and the solvers are gone' within 5 gone "$scratch/dying"
     result 'and what was kept' test -s "$scratch/partly/case-a.answer" -a ! -e "$scratch/partly/interlock.answer"
     fake z3 'cat >/dev/null; echo asked >>"${0%/*}/../resumed"; echo unsat'
-    says 'it is resumed' 1 'violated    18 over 12' "$menduvo" solve "$scratch/busy" --resume "$scratch/partly"
+    says 'it is resumed' 1 'violated    19 over 12' "$menduvo" solve "$scratch/busy" --resume "$scratch/partly"
     result 'only the rest is asked' eval '[ "$(wc -l <"$scratch/resumed")" = 1 ] && [[ $out = *"filed already, by z3; record 4"*"1 violated, 1 unsat"* ]]'
     says 'all is filed' 1 '1 violated, 1 unsat' "$menduvo" solve "$scratch/busy" --resume "$scratch/partly"
     result 'nothing is asked' test "$(wc -l <"$scratch/resumed")" = 1
@@ -509,7 +509,7 @@ own_files() {
     # Nobody reads on after the first line, which is there before the answer.
     fake z3 "cat >/dev/null; sleep 0.5; echo sat; echo '$model'"
     run bash -c "set -o pipefail; '$menduvo' solve cases/case-a.case --keep '$scratch/unheard' | head -n 1"
-    result 'an answer that nobody reads' eval '[ "$status" = 3 ] && [[ $out = "cases/case-a.case: 18 constraints"* ]]'
+    result 'an answer that nobody reads' eval '[ "$status" = 3 ] && [[ $out = "cases/case-a.case: 19 constraints"* ]]'
     result 'it is kept all the same' test -s "$scratch/unheard/case-a.schedule" -a -s "$scratch/unheard/case-a.answer"
     fake z3 "cat >/dev/null; mkdir -p '$scratch/blocked/case-a.assignment'; echo sat; echo '$model'"
     rm -r "$scratch/blocked"

@@ -79,6 +79,10 @@ picking() {
     steps stranger 1 cases/release-broken.source 0 0 'rest 1' undo 1 1 1 1 values 1 schedule 1 1 'rest 0'
     replays stranger cases/release-broken.source
     result 'a run that stops there violates' grep -qx 'record 11 is an unlock by a stranger: a run that stops here violates' "$scratch/out.steps"
+    # A switch before a line that touches no shared item: the schedule is given all the same.
+    steps late 1 cases/handshake.source 0 1 1 1 0 switch switch 0
+    replays late cases/handshake.source
+    result 'the schedule is the one that was made' grep -qx '1 3 1 0 1' "$scratch/printed.schedule"
     steps no-lines 0 "$scratch/empty.case"
     replays 'no lines' "$scratch/empty.case"
     steps twelve 0 "$scratch/items.case" 0 0

@@ -20,16 +20,16 @@ MenduvoNumbers menduvo_accept(const uint8_t *case_, size_t case_len) {
 
 MenduvoNumbers menduvo_encode(const uint8_t *case_, size_t case_len, uint16_t *table, size_t table_len) {
     (void)case_, (void)case_len, (void)table_len;
-    if (!lie_is("fails") && !lie_is("row")) return answer(1, 0, 12);
-    /* The block number of record 1 modulo 2 is 0; or a row that no table has. */
-    const uint16_t row[6] = {lie_is("row") ? 8 : 3, 1, 2, 0, 0, 0};
-    memcpy(table, row, sizeof row);
+    if (!lie_is("fails") && !lie_is("stays") && !lie_is("row")) return answer(1, 0, 12);
+    /* The block number of record 1 modulo 2 is 0; that of record 2 is that of record 1; or a row that no table has. */
+    const uint16_t rows[3][6] = {{3, 1, 2, 0, 0, 0}, {8, 2, 1, 0, 0, 0}, {9, 1, 2, 0, 0, 0}};
+    memcpy(table, rows[lie_is("fails") ? 0 : lie_is("stays") ? 1 : 2], sizeof rows[0]);
     return answer(1, 1, 12);
 }
 
 MenduvoNumbers menduvo_check(const uint8_t *case_, size_t case_len, const uint16_t *assignment, size_t assignment_len) {
     (void)case_, (void)case_len, (void)assignment, (void)assignment_len;
-    if (lie_is("fails") || lie_is("row")) return answer(2, 1, 0);
+    if (lie_is("fails") || lie_is("stays") || lie_is("row")) return answer(2, 1, 0);
     return lie_is("fails 0") ? answer(2, 0, 0) : answer(1, 0, 0);
 }
 

@@ -10,7 +10,8 @@ use crate::calls::{Calls, Checked, Decoded, Encoded, Listed, Replayed, Verdict};
 use crate::damage::{damaged, random_bytes, scratched};
 use crate::draft::Draft;
 use crate::generate::{
-    accepted, Shape, ANY, BUSY, FULL, HOLDERS, HOLDERS_WITH_INPUTS, LONG, MANY_HOLDERS, SMALL, SMALL_WITH_INPUTS,
+    accepted, Shape, ANY, BUSY, FULL, HOLDERS, HOLDERS_WITH_INPUTS, LONG, LONG_STRETCHES, MANY_HOLDERS, SMALL,
+    SMALL_WITH_INPUTS, STRETCHES_WITH_INPUTS,
 };
 use crate::line::ASSERT;
 use crate::random::Random;
@@ -23,7 +24,19 @@ use crate::vary::{assignments, damage_schedule, filled, schedule, some_room};
 pub type Comparison = fn(&dyn Calls, u64, &mut Tally) -> Outcome;
 
 /// The shapes of random cases, taken in turn.
-pub const SHAPES: [Shape; 9] = [SMALL, SMALL_WITH_INPUTS, ANY, LONG, BUSY, FULL, HOLDERS, HOLDERS_WITH_INPUTS, MANY_HOLDERS];
+pub const SHAPES: [Shape; 11] = [
+    SMALL,
+    SMALL_WITH_INPUTS,
+    ANY,
+    LONG,
+    BUSY,
+    FULL,
+    HOLDERS,
+    HOLDERS_WITH_INPUTS,
+    MANY_HOLDERS,
+    STRETCHES_WITH_INPUTS,
+    LONG_STRETCHES,
+];
 
 /// Verdicts on accepted, damaged and random files.
 pub fn verdicts(calls: &dyn Calls, count: u64, tally: &mut Tally) -> Outcome {
@@ -155,7 +168,7 @@ fn same_check(calls: &dyn Calls, case: &[u8], assignment: &[u16], tally: &mut Ta
     match wanted {
         Checked::Meets => tally.saw("met"),
         Checked::Fails(constraint) => {
-            tally.saw(format!("a {} failed first", kind_of(case, constraint)));
+            tally.saw(format!("constraint {} failed first", kind_of(case, constraint)));
         }
         Checked::Refused { number, .. } => tally.saw(format!("refused {number}")),
     }

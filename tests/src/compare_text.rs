@@ -6,7 +6,8 @@ use crate::calls::{Calls, Checked, Spelled, Verdict};
 use crate::compare::{files, rounds_of};
 use crate::draft::Draft;
 use crate::generate::{
-    Shape, ANY, BUSY, FULL, HOLDERS, HOLDERS_WITH_INPUTS, LONG, MANY_HOLDERS, MANY_INPUTS, SMALL, SMALL_WITH_INPUTS,
+    Shape, ANY, BUSY, FULL, HOLDERS, HOLDERS_WITH_INPUTS, LONG, LONG_STRETCHES, MANY_HOLDERS, MANY_INPUTS, SMALL,
+    SMALL_WITH_INPUTS, STRETCHES_WITH_INPUTS,
 };
 use crate::random::Random;
 use crate::report::{Outcome, Tally};
@@ -14,8 +15,20 @@ use crate::script::Script;
 use crate::second;
 use crate::vary::assignments;
 
-const SHAPES: [Shape; 10] =
-    [SMALL, SMALL_WITH_INPUTS, MANY_INPUTS, ANY, BUSY, LONG, FULL, HOLDERS, HOLDERS_WITH_INPUTS, MANY_HOLDERS];
+const SHAPES: [Shape; 12] = [
+    SMALL,
+    SMALL_WITH_INPUTS,
+    MANY_INPUTS,
+    ANY,
+    BUSY,
+    LONG,
+    FULL,
+    HOLDERS,
+    HOLDERS_WITH_INPUTS,
+    MANY_HOLDERS,
+    STRETCHES_WITH_INPUTS,
+    LONG_STRETCHES,
+];
 
 /// The beginnings of a link, of a fact, of a fact about op 6, of what a guarded
 /// lock or unlock asks, of an unlock's part in the 7, of two expressions, and the

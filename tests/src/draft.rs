@@ -127,10 +127,13 @@ impl Draft {
     }
 
     /// How many constraints there are: a 3, a 1 or 2 and a 4 for each line, a
-    /// 5 for each assume and lock, the 6s, and the 7.
+    /// 5 for each assume and lock, an 8 for each invisible line but a thread's
+    /// first, the 6s, and the 7.
     pub fn constraints(&self) -> usize {
         let demands = self.records.iter().filter(|line| matches!(line.kind, 6 | 7)).count();
-        3 * self.records.len() + demands + usize::from(self.switches) * self.items() + 1
+        let later_lines = self.chains().into_iter().flat_map(|chain| chain.into_iter().skip(1));
+        let staying = later_lines.filter(|&number| !self.line(number).is_visible()).count();
+        3 * self.records.len() + demands + staying + usize::from(self.switches) * self.items() + 1
     }
 
     /// The values of all items when a run begins.

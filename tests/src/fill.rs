@@ -53,7 +53,8 @@ pub fn fill(draft: &Draft, schedule: &[u16]) -> Vec<u16> {
 /// A run that would be cut off is taken to its end here, as though nothing
 /// were demanded of assumes and locks. So the filled assignment meets all 1s,
 /// 2s, 3s, 4s and 6s; it fails a 5 exactly when the run is cut off, and else
-/// the 7 exactly when the run is clean.
+/// the 7 exactly when the run is clean. The 8s it meets exactly when the schedule
+/// keeps their rule.
 pub fn watch<'a>(draft: &'a Draft, schedule: &'a [u16]) -> Watched<'a> {
     let mut left = draft.chains();
     left.iter_mut().for_each(|chain| chain.reverse());

@@ -23,6 +23,8 @@ pub struct Shape {
     pub together: usize,
     /// How often, in a hundred, such lines are about a mutex instead.
     pub holding: usize,
+    /// How often, in a hundred, any other line is a compute or an assert.
+    pub computing: usize,
 }
 
 /// Everything that is allowed.
@@ -37,6 +39,7 @@ pub const ANY: Shape = Shape {
     cutting: 12,
     together: 10,
     holding: 0,
+    computing: 0,
 };
 
 /// Long threads whose runs are seldom cut off, so that violations are met.
@@ -57,6 +60,7 @@ pub const SMALL: Shape = Shape {
     cutting: 15,
     together: 45,
     holding: 0,
+    computing: 0,
 };
 
 /// As small, with inputs.
@@ -75,6 +79,7 @@ pub const BUSY: Shape = Shape {
     cutting: 25,
     together: 75,
     holding: 0,
+    computing: 0,
 };
 
 /// As busy, with inputs.
@@ -85,6 +90,16 @@ pub const TINY: Shape = Shape { threads: (2, 2), switches: (1, 3), lines: (1, 3)
 
 /// As few, with inputs, so that each can have every value.
 pub const TINY_WITH_INPUTS: Shape = Shape { inputs: 40, switches: (1, 2), ..TINY };
+
+/// Stretches of lines that are not visible, between some that are.
+pub const STRETCHES: Shape =
+    Shape { threads: (2, 2), switches: (2, 4), lines: (3, 5), cutting: 15, together: 25, computing: 60, ..BUSY };
+
+/// The same, with inputs.
+pub const STRETCHES_WITH_INPUTS: Shape = Shape { inputs: 25, switches: (2, 3), lines: (2, 5), ..STRETCHES };
+
+/// Long stretches, in long threads.
+pub const LONG_STRETCHES: Shape = Shape { together: 20, computing: 70, ..LONG };
 
 /// More inputs than a text has sources, and comparisons of them.
 pub const MANY_INPUTS: Shape = Shape { inputs: 30, globals: (1, 3), mutexes: (0, 2), lines: (3, 12), locals: 3, ..BUSY };
@@ -257,6 +272,9 @@ fn unguarded_line(random: &mut Random, shape: Shape, draft: &Draft) -> Line {
     if random.chance(shape.inputs) {
         return input(some_local(random, shape));
     }
+    if shape.computing > 0 && random.chance(shape.computing) {
+        return computing_line(random, shape);
+    }
     if random.chance(shape.cutting) {
         return cutting_line(random, shape, draft);
     }
@@ -265,6 +283,13 @@ fn unguarded_line(random: &mut Random, shape: Shape, draft: &Draft) -> Line {
         6..=11 if draft.globals > 0 => store(some_global(random, draft), expression(random, shape)),
         12..=16 => assert(test(random, shape)),
         17 if draft.mutexes > 0 => unlock(some_mutex(random, draft)),
+        _ => compute(some_local(random, shape), expression(random, shape)),
+    }
+}
+
+fn computing_line(random: &mut Random, shape: Shape) -> Line {
+    match random.below(4) {
+        0 => assert(test(random, shape)),
         _ => compute(some_local(random, shape), expression(random, shape)),
     }
 }

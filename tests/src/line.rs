@@ -53,6 +53,11 @@ impl Line {
         matches!(self.kind, COMPUTE | STORE | ASSERT | ASSUME)
     }
 
+    /// Whether a switch may come before the line, wherever it stands.
+    pub fn is_visible(&self) -> bool {
+        matches!(self.kind, LOAD | STORE | LOCK | UNLOCK)
+    }
+
     /// Whether a run may violate at the line.
     pub fn can_violate(&self) -> bool {
         matches!(self.kind, ASSERT | UNLOCK)

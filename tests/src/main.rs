@@ -3,7 +3,8 @@
 //! `cargo run --release --offline -q -- [group]...` runs the named groups, or
 //! all that make sense. The last line is `N passed, M failed`.
 //! `-- write-cases FOLDER COUNT` writes random small cases, and
-//! `-- write-pages FOLDER` the listings and texts of random cases of all sorts.
+//! `-- write-pages FOLDER` the listings and texts of random cases of all sorts;
+//! `-- count-schedules FOLDER` prints how many schedules its cases have.
 
 #![forbid(unsafe_code)]
 
@@ -13,6 +14,7 @@ mod command;
 mod compare;
 mod compare_lines;
 mod compare_text;
+mod count_schedules;
 mod damage;
 mod damage_source;
 mod demand3;
@@ -29,6 +31,7 @@ mod program;
 mod proved;
 mod random;
 mod report;
+mod rule;
 mod samples;
 mod script;
 mod search;
@@ -63,6 +66,9 @@ fn main() -> ExitCode {
     let names: Vec<String> = std::env::args().skip(1).collect();
     match names.as_slice() {
         [command, folder, cases] if command == "write-cases" => return told(write_cases(folder, cases)),
+        [command, folder] if command == "count-schedules" => {
+            return told(count_schedules::print(&under_test(), folder.as_ref()))
+        }
         [command, folder] if command == "write-pages" => return told(pages::write(&under_test(), folder.as_ref())),
         _ => {}
     }

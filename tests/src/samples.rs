@@ -18,9 +18,9 @@ pub fn case_a() -> Draft {
     }
 }
 
-/// The listing of case A, as document 01 prints it.
+/// The listing of case A, as documents 01 and 02 have it.
 pub const CASE_A_LISTING: &str = "\
-18 12
+19 12
 3 1 2 0 0 0
 1 1 2 0 0 0
 3 2 2 0 0 0
@@ -28,6 +28,7 @@ pub const CASE_A_LISTING: &str = "\
 3 3 2 0 0 0
 1 3 4 0 0 0
 3 4 2 0 0 0
+8 4 3 0 0 0
 2 4 2 0 0 0
 3 5 2 1 0 0
 2 5 2 0 0 0

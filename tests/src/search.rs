@@ -1,16 +1,16 @@
-//! A small complete search: all block numbers that meet the 1s, 2s and 3s of
-//! a table.
+//! A small complete search: all block numbers that meet the 1s, 2s, 3s and 8s
+//! of a table.
 
 use crate::draft::Draft;
 use crate::table::{Row, Table};
 
-/// Every vector of block numbers, by record, that meets the 1s, 2s and 3s.
+/// Every vector of block numbers, by record, that meets the 1s, 2s, 3s and 8s.
 ///
 /// Numbers a little over n + 1 are tried too: if a table forgot a limit, they
 /// would show up here. (Larger ones need not be tried, since a thread that may
 /// go past n + 1 may go to the first number past it that its 3 allows.)
 pub fn block_numbers(draft: &Draft, table: &Table) -> Vec<Vec<u16>> {
-    let order_rows: Vec<Row> = table.rows.iter().copied().filter(|row| matches!(row[0], 1..=3)).collect();
+    let order_rows: Vec<Row> = table.rows.iter().copied().filter(|row| matches!(row[0], 1..=3 | 8)).collect();
     let mut found = Vec::new();
     extend(draft, &order_rows, &mut Vec::new(), &mut found);
     found
@@ -35,7 +35,7 @@ fn extend(draft: &Draft, rows: &[Row], blocks: &mut Vec<u16>, found: &mut Vec<Ve
 /// to wait.
 fn may_hold(row: Row, blocks: &[u16], unrun_block: u16) -> bool {
     let [kind, line, other, thread, ..] = row;
-    let latest = if kind == 1 { line.max(other) } else { line };
+    let latest = if matches!(kind, 1 | 8) { line.max(other) } else { line };
     if usize::from(latest) != blocks.len() {
         return true;
     }
@@ -43,6 +43,7 @@ fn may_hold(row: Row, blocks: &[u16], unrun_block: u16) -> bool {
     match kind {
         1 => block(line) <= block(other),
         2 => block(line) <= other + 1,
+        8 => block(line) == unrun_block || block(line) == block(other),
         _ => block(line) == unrun_block || block(line) % other == thread,
     }
 }

@@ -5,11 +5,11 @@ use crate::draft::Draft;
 
 pub type Row = [u16; 6];
 
-/// More numbers than any table has: 1,205 constraints is the most.
-pub const MOST_NUMBERS: usize = 6 * 1_205;
+/// The most numbers that a table has: 1,457 constraints.
+pub const MOST_NUMBERS: usize = 6 * 1_457;
 
-/// More bytes than any listing has: a number takes at most five digits and the
-/// blank or line end after it, and the two counts stand before the table.
+/// More bytes than any listing has, 52,464: a number takes at most five digits and
+/// the blank or line end after it, and the two counts stand before the table.
 pub const MOST_LISTING_BYTES: usize = 6 * (MOST_NUMBERS + 2);
 
 pub struct Table {
@@ -31,6 +31,17 @@ pub fn table_of(calls: &dyn Calls, case: &[u8]) -> Result<Table, String> {
 }
 
 impl Table {
+    /// The table as it would be without its 8s.
+    pub fn without_eights(&self) -> Table {
+        let rows = self.rows.iter().copied().filter(|row| row[0] != 8).collect();
+        Table { rows, variables: self.variables }
+    }
+
+    /// The place of a line's 8, counted from 1.
+    pub fn place_of_8(&self, line: u16) -> Option<usize> {
+        self.rows.iter().position(|row| row[..2] == [8, line]).map(|place| place + 1)
+    }
+
     /// The 4 of a line.
     pub fn value_row(&self, line: u16) -> Result<Row, String> {
         let mut rows = self.rows.iter();

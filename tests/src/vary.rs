@@ -5,9 +5,11 @@ use crate::draft::Draft;
 use crate::enumerate::lines_run;
 use crate::fill::fill;
 use crate::random::Random;
+use crate::rule::moved;
 
 /// A random schedule that refusals 12 and 13 do not meet. Half of them run all
-/// lines of the threads that have a block; in the others each thread may stop.
+/// lines of the threads that have a block; in the others each thread may stop. Half
+/// of them keep the rule of the 8s, and some of the others do so by chance.
 /// Input values are often 0, since a false guard wants 0, and most often where
 /// the input is not run.
 pub fn schedule(random: &mut Random, draft: &Draft) -> Vec<u16> {
@@ -25,6 +27,9 @@ pub fn schedule(random: &mut Random, draft: &Draft) -> Vec<u16> {
         for _ in 0..steps {
             schedule[thread + threads * random.below(turns)] += 1;
         }
+    }
+    if random.chance(50) {
+        schedule = moved(draft, &schedule);
     }
     let lines_run = lines_run(draft, &schedule);
     let (only_zeros, zeros_left) = (random.chance(40), random.chance(75));

@@ -1,7 +1,8 @@
 //! A question about one line alone, an assert or an unlock: the text of the case, whose last assertion is that of constraint 7, with
 //! the part of that line there and no other (`docs/SMT-TEXT.md`). What makes this part true meets the 7 too, so that an assignment
 //! that is found meets the case's own constraints, and is checked, decoded and replayed as any other. Its run may violate at another
-//! line before, so it is looked at whether the line that was asked about violates as well.
+//! line before, so it is looked at whether the line that was asked about violates as well. The 8s take no answer away: with each
+//! invisible line in the block of the line before it, a run has the same values, and violates at the same lines (`rule`).
 
 use crate::calls::{Ending, Loaded};
 use crate::case::{Case, Kind};

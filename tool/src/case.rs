@@ -84,6 +84,11 @@ impl Record {
         self.thread as u16 + 1
     }
 
+    /// Whether other threads can tell when the line runs: load, store, lock and unlock touch shared items.
+    pub fn is_visible(&self) -> bool {
+        matches!(self.kind, Kind::Load | Kind::Store | Kind::Lock | Kind::Unlock)
+    }
+
     /// Whether a run can violate at this line.
     pub fn can_violate(&self) -> bool {
         matches!(self.kind, Kind::Assert | Kind::Unlock)

@@ -1,7 +1,7 @@
 //! The cells of a picture: what a line says there and how it looks. What is told by colour is told without it too, for print and
 //! for a copier: by a bar, a frame or a word.
 
-use crate::case::{Case, Kind};
+use crate::case::Case;
 use crate::run::Run;
 use crate::sha256;
 use crate::svg::{Style, Svg};
@@ -104,7 +104,7 @@ pub fn is_shared(case: &Case, step: &Step) -> bool {
 
 /// Whether the line is there to read or write a shared item.
 pub fn is_of_shared_kind(case: &Case, step: &Step) -> bool {
-    matches!(case.record(step.record).kind, Kind::Store | Kind::Load | Kind::Lock | Kind::Unlock)
+    case.record(step.record).is_visible()
 }
 
 /// The line's record and what it does.

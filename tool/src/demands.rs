@@ -30,10 +30,17 @@ fn head(loaded: &Loaded) -> String {
             enumeration(&(0..case.items()).map(|item| item_name(case, item)).collect::<Vec<_>>())
         ),
     };
+    let stays = match table.rows.iter().any(|row| row[0] == 8) {
+        true => {
+            "Load, store, lock and unlock touch shared items. Any other line is in the block of the line before it: no other thread\n\
+             can tell when it runs.\n"
+        }
+        false => "",
+    };
     format!(
         "{} over {}\n{}Record k has the variables v(2k - 2), its block number, and v(2k - 1), its value.\n\
          A line with block number {}, which is n + 1, was not run.\n\
-         {block_values}A block begins with the items as they are at the end of the block before, and block 0 with: {}.\n",
+         {stays}{block_values}A block begins with the items as they are at the end of the block before, and block 0 with: {}.\n",
         count(table.rows.len(), "constraint", "constraints"),
         count(table.variables, "variable", "variables"),
         legend(case),

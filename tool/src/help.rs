@@ -112,7 +112,9 @@ pub const PAGES: &[Page] = &[
         summary: "print the schedule of an assignment, as numbers",
         options: &[SWITCHES],
         more: "The numbers are n + 1 block lengths, and then a value for each input line. A line with block number n + 1 was\n\
-               not run, and counts in no block.\n\
+               not run, and counts in no block. By constraint 8 a line that touches no shared item (no load, store, lock or\n\
+               unlock) is in the block of the line before it: assignments that meet the constraints stand for the violating\n\
+               schedules that keep this rule, one for one.\n\
                Exit status 1 where the assignment fails (refusal 15).\n",
     },
     Page {
@@ -129,6 +131,8 @@ pub const PAGES: &[Page] = &[
                A run violates where an assert is zero, or where a thread unlocks a mutex that it does not hold: an unlock by a\n\
                stranger, which frees it all the same, and is told with whose the mutex was. A mutex has 0 while it is free, and\n\
                t + 1 while thread t holds it.\n\
+               A switch may stand before any line. Where it stands before a line that touches no shared item, no assignment\n\
+               stands for the schedule (constraint 8); of one that violates it is told which schedule does the same and has one.\n\
                A solver's model in the place of the schedule is decoded first.\n\
                Exit status 1 where the run violates; 0 where it is clean or cut off.\n",
     },

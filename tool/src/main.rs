@@ -49,6 +49,7 @@ mod reach;
 mod readme;
 mod reads;
 mod report;
+mod rule;
 mod run;
 mod said;
 mod scope;

@@ -34,6 +34,7 @@ pub fn seen(case: &Case, table: &Table, row: Row, assignment: &[u16]) -> Option<
         5 => rows.demand_row(row),
         6 => Some(rows.block_value_row(row)),
         7 => Some(rows.goal_row()),
+        8 => Some(rows.stay_row(row)),
         _ => None,
     }
 }
@@ -71,6 +72,19 @@ impl Rows<'_> {
             needed: format!("a block number that is {thread} modulo {threads}, or {unrun} for a line that was not run"),
             found: format!("block number {block}, which is {rest} modulo {threads}"),
         })
+    }
+
+    fn stay_row(&self, [_, line, before, ..]: Row) -> Seen {
+        let (block, unrun) = (self.reads.block(before), self.case.unrun());
+        let needed = match self.reads.was_run(before) {
+            true => format!(
+                "block number {block}, that of record {before}, as record {line} touches no shared item, or {unrun} for a line that \
+                 was not run"
+            ),
+            false => format!("record {line} not run, as record {before} was not (block number {block})"),
+        };
+        let holds = !self.reads.was_run(line) || self.reads.block(line) == block;
+        Seen { holds, needed, found: self.reads.block_in_words(line) }
     }
 
     fn value_row(&self, row: Row) -> Option<Seen> {

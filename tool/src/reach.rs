@@ -2,11 +2,14 @@
 //! nothing of it.
 //!
 //! The case in which some of these lines are asserts of 0, with the guards that they have, is a case as any other. By the theorem its
-//! constraints with the parts of these lines alone in the 7 are met exactly where a legal run of it reaches one of them with a true
-//! guard. So does then a legal run of the case, and the other way round: up to the first of them both go alike, and a run may stop
-//! right there. What comes after it differs in that an unlock does not free its mutex, which makes no lock succeed that would not
-//! succeed in the case. So a solver is asked about that text, and the library checks, decodes and replays its answer; and which lines
-//! the same schedule reaches in the case itself is the library's word too. Simple schedules are tried first, by its replay alone.
+//! constraints with the parts of these lines alone in the 7 are met exactly where a legal run of it that keeps the rule reaches one of
+//! them with a true guard. Where any legal run does, one that keeps the rule does: each invisible line goes to the block of the line
+//! before it, which changes no value and not which lines are run (`rule`). So does then a legal run of the case, and the other way
+//! round: up to the first of them both go alike, and a run may stop right there. What comes after it differs in that an unlock does not
+//! free its mutex, which makes no lock succeed that would not succeed in the case. That an unlock became an assert, an invisible line,
+//! is as good: what is asked is about the changed case and all its runs. So a solver is asked about that text, and the library checks,
+//! decodes and replays its answer; and which lines the same schedule reaches in the case itself is the library's word too. Simple
+//! schedules are tried first, by its replay alone.
 
 use crate::by_hand::ByHand;
 use crate::calls::{Ending, Loaded};

@@ -38,9 +38,10 @@ const PROVED: &str = "\
 WHAT WAS PROVED, AND WHAT WAS NOT
 
 Proved by machine, of the library's code and for all cases: that the listing has just the constraints
-below; that they are met exactly where a legal run within the bound violates; that constraints.smt2 is true
-of an assignment exactly where it meets them; and what the checker, decoder and replayer answer. So a
-violation does not rest on the solver: where there is one, the assignment was checked, decoded and replayed.
+below; that they can be met exactly where a legal run within the bound violates, with the 8s and without
+them; that constraints.smt2 is true of an assignment exactly where it meets them; and what the checker,
+decoder and replayer answer. So a violation does not rest on the solver: where there is one, the assignment
+was checked, decoded and replayed.
 The proofs rest on their definitions, on the prover and on the front end of its toolchain.
 Not proved: the solver's word where it says unsat, also where it says that an assert or unlock is never
 reached; the compiler that made the library's machine code; the other texts and the picture; that the case

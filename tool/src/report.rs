@@ -5,6 +5,7 @@ use crate::case::Case;
 use crate::demands;
 use crate::failure::Status;
 use crate::json::{list, Json};
+use crate::rule;
 use crate::run::Run;
 use crate::show;
 use crate::table::Row;
@@ -60,6 +61,7 @@ pub fn replayed(loaded: &Loaded, schedule: &[u16], run: &Run, values: bool) -> J
         ("fault", fault.into()),
         ("items", items(case, &run.items)),
         ("notRun", list(run.not_run(case).concat())),
+        ("late", list(rule::late(case, schedule))),
         ("steps", list(run.steps.iter().map(|step| self::step(case, step, values)))),
     ];
     object("replay", loaded, run.status(), answer, own)

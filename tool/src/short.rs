@@ -1,7 +1,8 @@
 //! `solve --short`: a run worth showing. Solvers are asked for runs that use fewer switches, then for such with fewer blocks that
 //! have lines, then with fewer lines, then for smaller inputs, the first one first. A question is the case's own with wishes beside
 //! the constraints: what is found is checked, decoded and replayed by the library as ever, and measured, so a wish decides nothing.
-//! That there is no shorter run is the solvers' word.
+//! That there is no shorter run is the solvers' word. It is about all runs, and not about those that keep the rule alone: one with each
+//! invisible line in the block of the line before it is no longer (`rule`).
 
 use crate::calls::Loaded;
 use crate::case::Case;

@@ -189,7 +189,7 @@ impl Talk<'_> {
     fn say_where(&mut self) -> Result<(), Failure> {
         let text = match self.run.is_over() {
             true => {
-                let conclusion = self.replayed()?.conclusion(&self.loaded.case);
+                let conclusion = self.conclusion()?;
                 format!("{conclusion}'undo' goes back, 'quit' gives the schedule\n")
             }
             false => self.next_lines(),
@@ -251,10 +251,14 @@ impl Talk<'_> {
         run::confirmed(self.loaded, "the schedule", &self.run.schedule(), || self.run.walk())
     }
 
+    /// What it comes to, in lines.
+    fn conclusion(&self) -> Result<String, Failure> {
+        Ok(self.replayed()?.conclusion(&self.loaded.case, &self.run.schedule()))
+    }
+
     /// The schedule, and what it comes to.
     fn schedule(&self) -> Result<String, Failure> {
-        let conclusion = self.replayed()?.conclusion(&self.loaded.case);
-        Ok(format!("schedule:\n{}{conclusion}", numbers_in_lines(&self.run.schedule())))
+        Ok(format!("schedule:\n{}{}", numbers_in_lines(&self.run.schedule()), self.conclusion()?))
     }
 
     /// Prints the schedule, and writes it to the file.

@@ -64,6 +64,7 @@ pub fn in_words(case: &Case, row: Row) -> String {
             format!("the value of {item} at the end of block {second}")
         }
         7 => goal_in_words(case).to_string(),
+        8 => format!("the block number of {} is that of record {second}, the line before it, where it was run", record(first)),
         _ => "not a constraint of document 01".to_string(),
     }
 }

@@ -41,7 +41,9 @@ pub fn check(case: &[u8], assignment: &[u16]) -> Checked {
 }
 
 /// Writes the schedule that the assignment stands for: n + 1 block lengths, then a value for each input line, by thread and
-/// then by chain. A line with block number n + 1 was not run, and counts in no block. Refusals 1 to 11 and 15.
+/// then by chain. A line with block number n + 1 was not run, and counts in no block. Assignments that meet the constraints and the
+/// violating schedules that keep the rule stand for each other, one for one. A schedule keeps the rule when no invisible line
+/// (compute, input, assert, assume) is run in a later block than the line before it in its thread. Refusals 1 to 11 and 15.
 pub fn decode(case: &[u8], assignment: &[u16], schedule: &mut [u16]) -> Decoded {
     read(
         library::decode(case, assignment, schedule),
@@ -55,7 +57,8 @@ pub fn decode(case: &[u8], assignment: &[u16], schedule: &mut [u16]) -> Decoded 
 
 /// Runs the schedule, and writes the items' values at the end of the run, or at the cut-off with the failed line not run:
 /// globals first, then mutexes. A mutex has 0 where it is free, and t + 1 where thread t holds it. A thread whose block lengths add
-/// up to less than its lines stops there; an input line that is not run has value 0. Refusals 1 to 10 and 12 to 14.
+/// up to less than its lines stops there; an input line that is not run has value 0. Every schedule is taken, whether it keeps the
+/// rule of [`decode`] or not. Refusals 1 to 10 and 12 to 14.
 pub fn replay(case: &[u8], schedule: &[u16], items: &mut [u16]) -> Replayed {
     read(
         library::replay(case, schedule, items),

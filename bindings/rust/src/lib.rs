@@ -33,7 +33,7 @@ pub use refusal::Refusal;
 /// The most bytes that an accepted case has.
 pub const MOST_CASE_BYTES: usize = 4_128;
 /// The most numbers that a table has, six for each constraint: a slice of so many is never refused with 10.
-pub const MOST_TABLE_NUMBERS: usize = 7_230;
+pub const MOST_TABLE_NUMBERS: usize = 8_742;
 /// The most numbers that an assignment of an accepted case has.
 pub const MOST_VARIABLES: usize = 692;
 /// The most numbers that a schedule has: a slice of so many is never refused with 10.
@@ -41,7 +41,7 @@ pub const MOST_SCHEDULE_NUMBERS: usize = 272;
 /// The most items, globals and mutexes together: a slice of so many is never refused with 10.
 pub const MOST_ITEMS: usize = 12;
 /// The most bytes that a listing has: a slice of so many is never refused with 10.
-pub const MOST_LISTING_BYTES: usize = 43_392;
+pub const MOST_LISTING_BYTES: usize = 52_464;
 /// The most bytes that a text for solvers has: a slice of so many is never refused with 10.
 pub const MOST_SMT_BYTES: usize = 2_000_000;
 /// How many numbers are held for a thread, one for each name: 16 locals, 8 globals, 4 mutexes.

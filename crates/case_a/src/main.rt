@@ -1,4 +1,4 @@
-// Document 01's case A on the code: P1 to P10, a line or two each. What they must be is in `stdout`.
+// Document 01's case A on the code: P1 to P10, a line or two each, and request Five's constraint 8. What they must be is in `stdout`.
 use libc::STDOUT_FILENO;
 use model::Checked;
 use model::Decoded;
@@ -245,6 +245,13 @@ fn assignments() {
     checked(&case, &[2, 5, 2, 6, 2, 6, 2, 0, 1, 5, 0, 5]);
 }
 
+// P4's schedule as an assignment: the assert is run in a later block than the load before it.
+fn late_assert() {
+    let case = case_with(2);
+    word(b"Five ");
+    checked(&case, &[0, 0, 0, 1, 0, 1, 2, 1, 1, 5, 1, 5]);
+}
+
 // "every run is clean": every schedule whose lengths fit, and one that has a step too many.
 fn no_switch() {
     let case = case_with(0);
@@ -282,6 +289,7 @@ fn one_switch() {
 fn main() {
     violated_and_clean();
     assignments();
+    late_assert();
     no_switch();
     one_switch();
     word(b"P10 ");

@@ -103,10 +103,10 @@ fn invisible_firsts(case: &[u8]) -> usize
 {
     let threads = threads(case) as usize;
     let mut n = 0;
-    let mut t = 0;
-    while t < threads {
-        n += bit_of(invisible_first(case, t)) as usize;
-        t += 1;
+    let mut counted = 0;
+    while counted < threads {
+        n += bit_of(invisible_first(case, counted)) as usize;
+        counted += 1;
     }
     n
 }

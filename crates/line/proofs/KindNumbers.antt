@@ -2,8 +2,9 @@
 -- Assumes nothing.
 use mathlib.Core.Path.{_≡_, refl, ap, _∙_}
 use mathlib.Core.Logic.{_≢_}
-use Prim.Native.Nat.{ℕ, _+_}
+use Prim.Native.Nat.{ℕ, _+_, _≤_, _<_}
 use mathlib.Core.Bool.{Bool, true, false, cond, not}
+use native.Mathlib.Omega.{arith}
 use lib.Dec.{eqb}
 use borrow.Author.Tests.{ne-eqb, not-true, not-false}
 use Rattle.laws.specs.RowCounts.{valueRowCount}
@@ -198,15 +199,28 @@ rows-other k n = go (kindOf k) (kind-view k)
     go lock (is7 e) = absurd (n .1 e)
     go unlock v = refl
 
-pub visible-other : (k : ℕ) → (Not2 k 1 4 × k ≢ 5) × k ≢ 6 → true ≡ visible (kindOf k)
-visible-other k n = go (kindOf k) (kind-view k)
+pub visible-1 : (k : ℕ) → k ≡ 1 → false ≡ visible (kindOf k)
+unfolding kindOf
+visible-1 k e = rw e
+
+pub visible-4-to-6 : (k : ℕ) → 4 ≤ k → k ≤ 6 → false ≡ visible (kindOf k)
+unfolding kindOf
+visible-4-to-6 k from upto = go (eq-view k 4) (eq-view k 5)
+  where
+    go : EqView k 4 → EqView k 5 → false ≡ visible (kindOf k)
+    go (same e _) _ = rw e
+    go (diff _ _) (same e _) = rw e
+    go (diff n _) (diff m _) = let e : k ≡ 6 = omega (arith, n, m) in rw e
+
+pub visible-other : (k : ℕ) → k ≢ 1 → (4 ≤ k → 6 < k) → true ≡ visible (kindOf k)
+visible-other k n beyond = go (kindOf k) (kind-view k)
   where
     go : (κ : Kind) → KindView k κ → true ≡ visible κ
-    go compute (is1 e) = absurd (n .0 .0 .0 .1 e)
+    go compute (is1 e) = absurd (n e)
     go store v = refl
     go load v = refl
-    go input (is4 e) = absurd (n .0 .0 .1 e)
-    go assert (is5 e) = absurd (n .0 .1 e)
-    go assume (is6 e) = absurd (n .1 e)
+    go input (is4 e) = absurd (omega (arith, beyond (omega arith)))
+    go assert (is5 e) = absurd (omega (arith, beyond (omega arith)))
+    go assume (is6 e) = absurd (omega (arith, beyond (omega arith)))
     go lock v = refl
     go unlock v = refl

@@ -134,10 +134,7 @@ pub fn visible(kind: u16) -> bool
     ensures { λ r. ⌜ r ≡ model.visible (kindOf kind) ⌝ }
 {
     match kind {
-        1 => false,
-        4 => false,
-        5 => false,
-        6 => false,
+        1 | 4 | 5 | 6 => false,
         _ => true,
     }
 }

@@ -3,27 +3,31 @@
 use mathlib.Core.Path.{_≡_, refl, sym, ap, _∙_}
 use mathlib.Core.Logic.{_≢_}
 use Prim.Native.Nat.{ℕ, _+_, _-_, _≤_, _<_}
+use mathlib.Core.Bool.{Bool}
 use mathlib.Core.List.{List, [], _∷_, _++_}
 use native.Mathlib.Omega.{arith}
 use native.Mathlib.Numerals.{add-one}
+use borrow.Author.Tests.{ne-eqb}
+use lib.Dec.{eqb}
 use lib.ListN.{length}
 use Rattle.model.specs.Limits.{mostConstraints}
-use Rattle.model.specs.CaseFile.{Line, records, threadCount, firstRecord, nextRecord, lineOf, chains, caseOf}
-use Rattle.model.specs.Table.{followRow, lineOrderRows, orderRows, allOrderRows}
+use Rattle.model.specs.CaseFile.{kindOf, Line, records, recordField, threadCount, firstRecord, nextRecord, lineOf, chains, caseOf}
+use Rattle.model.specs.Table.{followRow, stayRows, lineOrderRows, orderRows, allOrderRows}
 use Rattle.laws.specs.Accepted.{Accepted, linesFrom}
-use Rattle.laws.specs.RowCounts.{orderRowCount}
+use Rattle.laws.specs.RowCounts.{orderRowCount, isFirst}
 use Rattle.laws.proofs.Views.{EqView, same, diff, eq-view}
 use Rattle.laws.proofs.Following.{lines-end, lines-more, next-low, chains-more, chains-end}
 use Rattle.laws.proofs.Sizes.{line-order-length, order-rows}
 use Rattle.search.specs.Search.{failingIn, Searched}
 use Rattle.search.proofs.Search.{Searching, searching-start, searching-end, searching-room, searching-found, searching-more}
-use Rattle.order_check.specs.Rows.{linkRows, threadOrders, allOrders, ThreadReady}
+use Rattle.order_check.specs.Rows.{neighbour, linkRows, threadOrders, allOrders, ThreadReady}
 use Rattle.case_file.specs.declared.Link.{Link}
 
--- ---- A thread, at record k
+-- ---- A thread, at record k, after record `before`
 
-pub record ThreadOrder (bytes xs : List ℕ) (t start at k : ℕ) : Type 0 where
+pub record ThreadOrder (bytes xs : List ℕ) (t start at before k : ℕ) : Type 0 where
   pub earlier : List Line
+  pub behind : (l : Line) → stayRows earlier l ≡ stayRows (neighbour bytes t before) l
   pub low : k ≤ records bytes
   pub seeks : Searching bytes xs start (threadOrders bytes t) at (orderRows (caseOf bytes) t earlier (linesFrom bytes t k))
 
@@ -31,21 +35,22 @@ module _ {bytes : List ℕ} {t start : ℕ} (ready : ThreadReady bytes t start) 
   ok : Accepted bytes
   ok = ready .accepted
 
-  pub thread-start : (k : ℕ) → k ≡ firstRecord bytes t → ThreadOrder bytes xs t start start k
+  pub thread-start : (k : ℕ) → k ≡ firstRecord bytes t → ThreadOrder bytes xs t start start 0 k
   thread-start k e = record {
     earlier = [];
+    behind = λ l. refl;
     low = omega (arith, ok .firsts t (ready .thread));
     seeks = searching-start bytes xs start _ _ (ready .numbers .counted) (ap (λ (j : ℕ). orderRows (caseOf bytes) t [] (linesFrom bytes t j)) e);
   }
 
-  module _ {at k : ℕ} (v : ThreadOrder bytes xs t start at k) where
+  module _ {at before k : ℕ} (v : ThreadOrder bytes xs t start at before k) where
     pub thread-end : k ≡ 0 → Searched bytes xs start (threadOrders bytes t) 0 at
     unfolding orderRows
     thread-end e = searching-end (v .seeks) (ap (orderRows (caseOf bytes) t (v .earlier)) (lines-end bytes t k e)) 0 refl
 
-    module _ (some : k ≢ 0) (before next : ℕ) (en : next ≡ nextRecord bytes k) where
+    module _ (some : k ≢ 0) {next kind : ℕ} (en : next ≡ nextRecord bytes k) (ek : kind ≡ recordField bytes k 1) where
       abbrev link : Link
-      link = record { before = before; line = k; next = next }
+      link = record { before = before; line = k; kind = kind; next = next }
 
       -- the rows of a line are those of its link
       by-link : lineOrderRows (caseOf bytes) t (v .earlier) (lineOf bytes t k) (linesFrom bytes t next) ≡ linkRows bytes t link
@@ -53,33 +58,44 @@ module _ {bytes : List ℕ} {t start : ℕ} (ready : ThreadReady bytes t start) 
       by-link = go (eq-view next 0)
         where
           go : EqView next 0 → lineOrderRows (caseOf bytes) t (v .earlier) (lineOf bytes t k) (linesFrom bytes t next) ≡ linkRows bytes t link
-          go (same z q) = rw (q, lines-end bytes t next z)
-          go (diff z q) = rw (q, lines-more bytes ok t next z (omega (arith, next-low bytes ok t k some (v .low))))
+          go (same z q) = rw (v .behind (lineOf bytes t k), q, lines-end bytes t next z)
+          go (diff z q) = rw (v .behind (lineOf bytes t k), q, lines-more bytes ok t next z (omega (arith, next-low bytes ok t k some (v .low))))
 
       split : orderRows (caseOf bytes) t (v .earlier) (linesFrom bytes t k)
           ≡ linkRows bytes t link ++ orderRows (caseOf bytes) t (lineOf bytes t k ∷ v .earlier) (linesFrom bytes t next)
       unfolding orderRows
       split = ap (orderRows (caseOf bytes) t (v .earlier)) (lines-more bytes ok t k some (v .low)) ∙ rw (← en, by-link)
 
-      size : length (linkRows bytes t link) ≡ orderRowCount
-      size = line-order-length (caseOf bytes) t _ _ _
+      pub thread-number : at < mostConstraints
+      unfolding lineOrderRows
+      thread-number = omega (arith, searching-room (v .seeks) (linkRows bytes t link) _ split, ready .numbers .room)
 
-      pub thread-room : at + orderRowCount ≤ mostConstraints
-      thread-room = omega (arith, searching-room (v .seeks) (linkRows bytes t link) _ split, size, ready .numbers .room)
+      module _ {rows : ℕ} (er : rows ≡ orderRowCount (eqb before 0) (kindOf kind)) where
+        size : length (linkRows bytes t link) ≡ rows
+        size = line-order-length (caseOf bytes) t _ _ _ ∙ rw (er, ek) (ap (λ (first : Bool). orderRowCount first (kindOf (recordField bytes k 1))) (no-neighbour (eq-view before 0)))
+          where
+            no-neighbour : EqView before 0 → isFirst (neighbour bytes t before) ≡ eqb before 0
+            no-neighbour (same z q) = rw q
+            no-neighbour (diff z q) = rw q
 
-      module _ (f : ℕ) (found : f ≡ failingIn bytes xs at (linkRows bytes t link)) where
-        here : Searched bytes xs at (linkRows bytes t link) f (at + orderRowCount)
-        here = record { first = found; after = λ _. ap (λ (x : ℕ). at + x) (sym size) }
+        pub thread-room : at + rows ≤ mostConstraints
+        thread-room = omega (arith, searching-room (v .seeks) (linkRows bytes t link) _ split, size, ready .numbers .room)
 
-        pub thread-found : f ≢ 0 → (n : ℕ) → Searched bytes xs start (threadOrders bytes t) f n
-        thread-found h n = searching-found (v .seeks) here _ split h n
+        module _ (f : ℕ) (found : f ≡ failingIn bytes xs at (linkRows bytes t link)) where
+          here : Searched bytes xs at (linkRows bytes t link) f (at + rows)
+          here = record { first = found; after = λ _. ap (λ (x : ℕ). at + x) (sym size) }
 
-        pub thread-more : f ≡ 0 → ThreadOrder bytes xs t start (at + orderRowCount) next
-        thread-more h = record {
-          earlier = lineOf bytes t k ∷ v .earlier;
-          low = omega (arith, next-low bytes ok t k some (v .low));
-          seeks = searching-more (v .seeks) here split h;
-        }
+          pub thread-found : f ≢ 0 → (n : ℕ) → Searched bytes xs start (threadOrders bytes t) f n
+          thread-found h n = searching-found (v .seeks) here _ split h n
+
+          pub thread-more : f ≡ 0 → ThreadOrder bytes xs t start (at + rows) k next
+          unfolding stayRows
+          thread-more h = record {
+            earlier = lineOf bytes t k ∷ v .earlier;
+            behind = λ l. rw (ne-eqb k 0 some);
+            low = omega (arith, next-low bytes ok t k some (v .low));
+            seeks = searching-more (v .seeks) here split h;
+          }
 
 -- ---- The threads from t on
 

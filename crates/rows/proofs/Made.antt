@@ -3,7 +3,7 @@
 use mathlib.Core.Path.{_≡_, refl, sym, ap, _∙_}
 use mathlib.Core.Logic.{_≢_, _⊎_, inl, inr}
 use Prim.Native.Nat.{ℕ, _+_, _*_, _≤_}
-use mathlib.Core.Bool.{Bool, true, false, cond, not}
+use mathlib.Core.Bool.{Bool, true, false, cond}
 use mathlib.Core.List.{List, [], _∷_, _++_}
 use native.Mathlib.Omega.{arith}
 use native.Mathlib.Numerals.{add-one, add-two, add-three, add-four, add-five}
@@ -11,7 +11,6 @@ use borrow.Author.Tests.{ne-eqb}
 use lib.Dec.{eqb}
 use lib.ListN.{length, set}
 use Rattle.model.specs.CaseFile.{Kind, kindOf, Line, lineOf, Case, caseOf}
-use Rattle.model.specs.Line.{visible}
 use Rattle.model.specs.Table.{Row, row, followRow, stayRows, lineOrderRows, valueRow, demandRows, numbersOf}
 use Rattle.laws.specs.RowCounts.{orderRowCount, valueRowCount}
 use Rattle.laws.specs.Written.{numbersAt, Put}
@@ -21,7 +20,7 @@ use Rattle.laws.proofs.RowNumbers.{numbers-of-append, rows-then}
 use Rattle.laws.proofs.Sizes.{six-a-row, line-value-length}
 use Rattle.case_file.specs.declared.Link.{Link}
 use Rattle.line.specs.Eights.{hasEight}
-use Rattle.line.proofs.Eights.{rows-by-eight}
+use Rattle.line.proofs.Eights.{rows-by-eight, stay-after}
 use Rattle.rows.specs.Rows.{Nearest, Stands, eightOf}
 
 pub six-stores :
@@ -54,13 +53,9 @@ module _ (link : Link) (case : Case) (earlier : List Line) (l : Line) where
   unfolding stayRows Nearest
   stay-is ls s = go earlier (s .before)
     where
-      turned : (q : Bool) (rows : List Row) → cond (not q) rows [] ≡ cond q [] rows
-      turned true rows = refl
-      turned false rows = refl
-
       go : (early : List Line) → Nearest (link .before) early → eightOf link ≡ stayRows early l
       go [] none = rw none
-      go (before ∷ early) near = rw (ne-eqb (link .before) 0 (near .some), s .kind, s .line, near .number) (turned (visible (l .kind)) _)
+      go (before ∷ early) near = rw (ne-eqb (link .before) 0 (near .some), s .kind, s .line, near .number) (stay-after before early l)
 
   -- all order rows
   pub order-put :

@@ -11,10 +11,11 @@ use lib.ListN.{getD, set}
 use Rattle.model.specs.Limits.{mostThreads}
 use Rattle.model.specs.CaseFile.{Case, threadCount, chains, caseOf, linesOf}
 use Rattle.model.specs.Assignment.{Assignment, assignmentOf}
-use Rattle.model.specs.Table.{allValueRows}
+use Rattle.model.specs.Table.{allOrderRows, allValueRows}
 use Rattle.laws.specs.Order.{Ordered}
 use Rattle.laws.proofs.Chains.{thread-count, threads-are}
 use Rattle.laws.proofs.OrderRows.{order-of-all-rows}
+use Rattle.laws.proofs.WithoutEights.{all-hold-without}
 use Rattle.laws.proofs.Following.{chains-more, chains-end}
 use Rattle.copies.specs.CopyChains.{CopyChains}
 use Rattle.copies.proofs.CopyChains.{thread-start}
@@ -30,7 +31,8 @@ thread-ordered : (bytes xs : List ℕ) → AllOrdered bytes xs → (t : ℕ) →
 thread-ordered bytes xs hold t h =
     subst (Ordered (caseOf bytes) (assignmentOf (caseOf bytes) xs .block) t 0) (threads-are bytes t h)
     (subst (λ (s : ℕ). Ordered (caseOf bytes) (assignmentOf (caseOf bytes) xs .block) s 0 (linesOf (caseOf bytes) t)) (zero-add t)
-    (order-of-all-rows (caseOf bytes) (assignmentOf (caseOf bytes) xs) 0 (caseOf bytes .threads) hold t (omega (arith, thread-count bytes))))
+    (order-of-all-rows (caseOf bytes) (assignmentOf (caseOf bytes) xs) 0 (caseOf bytes .threads)
+    (all-hold-without (caseOf bytes) (assignmentOf (caseOf bytes) xs) (allOrderRows (caseOf bytes) 0 (caseOf bytes .threads)) hold) t (omega (arith, thread-count bytes))))
 
 -- Before thread t, where the 4s and 5s of the threads before it hold.
 pub record AllWalk (bytes xs : List ℕ) (start to : ℕ) (latest : List (List ℕ)) (previous : List ℕ) (walk : Walk) (t : ℕ) : Type 0 where

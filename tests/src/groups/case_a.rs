@@ -6,6 +6,7 @@ use crate::determined::Determined;
 use crate::draft::Draft;
 use crate::enumerate::{block_lengths, runs_all_lines};
 use crate::report::{Outcome, Report, Tally};
+use crate::rule::keeps_rule;
 use crate::samples::{case_a, CASE_A_LISTING};
 use crate::search::block_numbers;
 use crate::table::table_of;
@@ -77,7 +78,8 @@ fn case_a_with_switches(switches: u16) -> Draft {
 
 /// "Case A keeps its two violating schedules; P8 and P9 become: every run is
 /// clean." Every schedule is tried, some that are refused, and everything that
-/// the 1s, 2s and 3s leave.
+/// the 1s, 2s, 3s and 8s leave: as much as there are schedules that keep the rule,
+/// and without the 8s as much as there are schedules.
 fn only_these_violate(calls: &dyn Calls, switches: u16, violating: &[&[u16]], tally: &mut Tally) -> Outcome {
     let draft = case_a_with_switches(switches);
     let all = block_lengths(&draft);
@@ -95,7 +97,10 @@ fn only_these_violate(calls: &dyn Calls, switches: u16, violating: &[&[u16]], ta
     }
     let table = table_of(calls, &draft.bytes())?;
     let blocks = block_numbers(&draft, &table);
-    tally.same(blocks.len(), all.len(), || "block numbers".into())?;
+    let keeping = all.iter().filter(|schedule| keeps_rule(&draft, schedule)).count();
+    tally.same(blocks.len(), keeping, || "block numbers".into())?;
+    let without_eights = block_numbers(&draft, &table.without_eights());
+    tally.same(without_eights.len(), all.len(), || "block numbers without the 8s".into())?;
     // No inputs, so the numbers that are left are determined; at most the 7 fails.
     let mut decoded = Vec::new();
     for blocks in blocks {
@@ -129,20 +134,23 @@ fn nothing_meets(calls: &dyn Calls, tally: &mut Tally) -> Outcome {
 fn changed_number_fails(calls: &dyn Calls, tally: &mut Tally) -> Outcome {
     // Block number 3 is that of a line that was not run: line 3 then stands after
     // line 4, and line 4 has the value of one that was run.
-    let firsts = [1, 11, 3, 12, 6, 13, 14, 14, 9, 15, 16, 13];
+    let firsts = [1, 12, 3, 13, 6, 14, 15, 15, 10, 16, 17, 14];
     for (variable, first) in firsts.into_iter().enumerate() {
         let mut numbers = P1_ASSIGNMENT;
         numbers[variable] += 1;
         let got = check(calls, &case_a(), &numbers);
         tally.same(got, Checked::Fails(first), || format!("v{variable} one up"))?;
     }
-    // An even block number over n + 1 passes its 3 and fails the 2 of the last
-    // line, however large it is; no value may be looked at before.
+    // An even block number over n + 1 passes its 3. It fails the 8 of the last line,
+    // or its 2 where the line before it is as far out, however large it is; no value
+    // may be looked at before.
     for block in [4, 16, 40, 256, 65_534] {
         let mut numbers = P1_ASSIGNMENT;
-        numbers[6] = block;
-        let got = check(calls, &case_a(), &numbers);
-        tally.same(got, Checked::Fails(8), || format!("line 4 in block {block}"))?;
+        for (variable, first) in [(6, 8), (4, 9)] {
+            numbers[variable] = block;
+            let got = check(calls, &case_a(), &numbers);
+            tally.same(got, Checked::Fails(first), || format!("v{variable} is {block}"))?;
+        }
     }
     Ok(())
 }

@@ -9,9 +9,10 @@ use crate::report::Report;
 /// Thread 0 stores 4 under the mutex; thread 1 loads under it, and asserts
 /// that it loads 0. Global 0 begins at 0.
 ///
-/// The table: constraints 1 to 16 are the 3s, 1s and 2s of lines 1 to 8; then
-/// come 17 and 18 (line 1), 19, 20, 21 and 22 (line 4), 23, 24 and 25 (line 6),
-/// 26, 27; then 28 to 33 are the 6s, and 34 is the 7.
+/// The table: constraints 1 to 18 are the 3s, 8s, 1s and 2s of lines 1 to 8, among
+/// them 12 and 15, the 8s of lines 6 and 7; then come 19 and 20 (line 1), 21, 22, 23
+/// and 24 (line 4), 25, 26 and 27 (line 6), 28, 29; then 30 to 35 are the 6s, and 36
+/// is the 7.
 fn shared() -> Draft {
     storing(4)
 }
@@ -46,42 +47,46 @@ pub fn run(calls: &dyn Calls, report: &mut Report) {
     // Line 3 goes past block 3, and line 8 as little past it as it can.
     fails("a 2 fails first", shared(), with(&[(4, 6)]), 6);
     fails("a 2 fails far out", shared(), with(&[(4, 65_534)]), 6);
-    fails("a 2 fails at n + 2", shared(), with(&[(14, 5)]), 16);
+    fails("a 2 fails at n + 2", shared(), with(&[(14, 5)]), 18);
     // Line 4 of thread 1 goes to a block of thread 0.
     fails("a 3 fails first", shared(), with(&[(6, 2)]), 7);
-    fails("a 4 fails first", shared(), with(&[(3, 5)]), 19);
+    fails("a 4 fails first", shared(), with(&[(3, 5)]), 21);
     // The unlock goes to block 2, so that block 1 finds the mutex at 1.
     let held = with(&[(4, 2), (17, 1)]);
-    fails("the 5 of a lock fails first", shared(), held, 22);
+    fails("the 5 of a lock fails first", shared(), held, 24);
     // Thread 1 loads 20, which is not less than 9.
     let large = with(&[(3, 20), (9, 20), (11, 0), (16, 20), (18, 20), (20, 20)]);
-    fails("the 5 of an assume fails first", storing(20), large, 25);
+    fails("the 5 of an assume fails first", storing(20), large, 27);
     // Nothing reads the global after block 2 but its own 6.
-    fails("a 6 fails first", shared(), with(&[(20, 5)]), 32);
+    fails("a 6 fails first", shared(), with(&[(20, 5)]), 34);
     // Thread 0 comes after thread 1, in block 2: the assert holds.
     let after = [2, 1, 2, 4, 2, 0, 1, 2, 1, 0, 1, 1, 1, 1, 1, 0, 0, 0, 0, 0, 4, 0];
-    fails("the 7 fails first", shared(), after, 34);
+    fails("the 7 fails first", shared(), after, 36);
+    // Line 6 goes to block 3, after line 5, and then line 7 goes there alone; both
+    // with what comes after them.
+    fails("an 8 fails first", shared(), with(&[(10, 3), (12, 3), (14, 3)]), 12);
+    fails("a later 8 fails first", shared(), with(&[(12, 3), (14, 3)]), 15);
     // Line 7 was not run, but line 8 after it was.
-    fails("a line is run after one that was not", shared(), with(&[(12, 4), (13, 1)]), 14);
+    fails("a line is run after one that was not", shared(), with(&[(12, 4), (13, 1)]), 16);
     // Line 8 was not run; the mutex stays at 2 from block 1 on.
     let last_left = with(&[(14, 4), (19, 2), (21, 2)]);
-    fails("an unlock that was not run is no 0 in a 6", shared(), with(&[(14, 4)]), 31);
+    fails("an unlock that was not run is no 0 in a 6", shared(), with(&[(14, 4)]), 33);
     let mut not_zero = last_left;
     not_zero[15] = 1;
-    fails("an unlock that was not run has 0", shared(), not_zero, 27);
+    fails("an unlock that was not run has 0", shared(), not_zero, 29);
     // Nor were lines 6 and 7, an assume and an assert; they have 1.
     let tests_left = [(10, 4), (12, 4), (13, 1), (14, 4), (19, 2), (21, 2)];
     let tests_left = |changes: &[(usize, u16)]| with(&[&tests_left[..], changes].concat());
-    fails("an assert that was not run is not broken", shared(), tests_left(&[]), 34);
-    fails("an assert that was not run has 1", shared(), tests_left(&[(13, 0)]), 26);
-    fails("an assume that was not run has 1", shared(), tests_left(&[(11, 0)]), 24);
+    fails("an assert that was not run is not broken", shared(), tests_left(&[]), 36);
+    fails("an assert that was not run has 1", shared(), tests_left(&[(13, 0)]), 28);
+    fails("an assume that was not run has 1", shared(), tests_left(&[(11, 0)]), 26);
     // Thread 0 holds the mutex at the end, and thread 1 was not run: its lock
     // and its assume demand nothing.
     let held = [0, 1, 0, 4, 4, 0, 4, 0, 4, 0, 4, 1, 4, 1, 4, 0, 4, 1, 4, 1, 4, 1];
-    fails("the 5s of lines that were not run are met", shared(), held, 34);
+    fails("the 5s of lines that were not run are met", shared(), held, 36);
     let mut lock_is_2 = held;
     lock_is_2[7] = 2;
-    fails("a lock that was not run has 0", shared(), lock_is_2, 21);
+    fails("a lock that was not run has 0", shared(), lock_is_2, 23);
     for (name, numbers) in [("all are met", MEETS), ("all are met, and the last line was not run", last_left)] {
         report.check(name, |tally| {
             let checked = check(calls, &shared(), &numbers);

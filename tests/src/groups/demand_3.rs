@@ -2,15 +2,15 @@
 //! and some schedules of large ones.
 
 use crate::calls::Calls;
-use crate::demand3::{compare, seen_alike};
+use crate::demand3::{compare, seen_alike, Written, MOVED};
 use crate::fill::{of_several, UNLOCKS, VIOLATIONS};
 use crate::generate::{accepted, Shape};
 use crate::generate::{
-    ANY, BUSY, BUSY_WITH_INPUTS, FOUR_HOLDERS, FOUR_THREADS, FULL, HOLDERS, HOLDERS_WITH_INPUTS, LONG, MANY_HOLDERS, SMALL,
+    ANY, BUSY, BUSY_WITH_INPUTS, FOUR_HOLDERS, FOUR_THREADS, FULL, HOLDERS, HOLDERS_WITH_INPUTS, LONG, LONG_STRETCHES,
+    MANY_HOLDERS, SMALL, STRETCHES, STRETCHES_WITH_INPUTS,
 };
 use crate::random::Random;
 use crate::report::{Outcome, Report, Tally};
-use crate::table::table_of;
 use crate::vary::schedule;
 
 /// How many large cases are taken.
@@ -40,6 +40,23 @@ pub fn run(calls: &dyn Calls, report: &mut Report) {
         enough(calls, HOLDERS_WITH_INPUTS, 150, 50, &INPUT_VALUES, tally)?;
         enough_unlocks(400, tally)
     });
+    // Lines that are not visible, between some that are.
+    report.check("computing stretches", |tally| {
+        enough(calls, STRETCHES, 300, 100, &[0], tally)?;
+        enough_moved(200, tally)?;
+        tally.saw_often("a case whose violating schedules do not all keep the rule", 100)
+    });
+    report.check("computing stretches with inputs", |tally| {
+        enough(calls, STRETCHES_WITH_INPUTS, 120, 30, &INPUT_VALUES, tally)?;
+        enough_moved(40, tally)?;
+        tally.saw_often("a case whose violating schedules do not all keep the rule", 30)
+    });
+}
+
+/// Demands that so many runs kept the rule, and so many did not, with and without
+/// violation.
+fn enough_moved(times: u64, tally: &mut Tally) -> Outcome {
+    MOVED.iter().try_for_each(|what| tally.saw_often(what, times))
 }
 
 /// Compares, and demands that the cases were of use: that there were so many
@@ -66,16 +83,17 @@ fn enough_unlocks(times: u64, tally: &mut Tally) -> Outcome {
 fn some_schedules(calls: &dyn Calls, tally: &mut Tally) -> Outcome {
     for seed in 0..LARGE_CASES {
         let mut random = Random::from_seed(80_000_000 + seed);
-        let draft = accepted(&mut random, [ANY, LONG, FULL, MANY_HOLDERS][seed as usize % 4]);
-        let table = table_of(calls, &draft.bytes())?;
+        let draft = accepted(&mut random, [ANY, LONG, FULL, MANY_HOLDERS, LONG_STRETCHES][seed as usize % 5]);
+        let written = Written::of(calls, &draft, tally)?;
         for _ in 0..10 {
             let schedule = schedule(&mut random, &draft);
-            seen_alike(calls, &draft, &table, &schedule, tally)
+            seen_alike(calls, &draft, &written, &schedule, tally)
                 .map_err(|message| format!("seed {seed}: {message}; case {draft}"))?;
         }
     }
     for reply in ["violated by all lines", "violated", "clean", "cut off", "refused 14"] {
         tally.saw_often(reply, 100)?;
     }
+    enough_moved(20, tally)?;
     enough_unlocks(100, tally)
 }

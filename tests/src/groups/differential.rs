@@ -22,15 +22,16 @@ const VERDICTS: [&str; 10] = [
     "refused 9",
 ];
 
-const CHECKS: [&str; 9] = [
+const CHECKS: [&str; 10] = [
     "met",
-    "a 1 failed first",
-    "a 2 failed first",
-    "a 3 failed first",
-    "a 4 failed first",
-    "a 5 failed first",
-    "a 6 failed first",
-    "a 7 failed first",
+    "constraint 1 failed first",
+    "constraint 2 failed first",
+    "constraint 3 failed first",
+    "constraint 4 failed first",
+    "constraint 5 failed first",
+    "constraint 6 failed first",
+    "constraint 7 failed first",
+    "constraint 8 failed first",
     "refused 11",
 ];
 

@@ -9,12 +9,13 @@ use crate::draft::Draft;
 use crate::enumerate::{lines_run, runs_all_lines};
 use crate::fill::{of_several, watch, UNLOCKS, VIOLATIONS};
 use crate::generate::accepted;
-use crate::line::{Line, COMPUTE, INPUT, LOAD};
+use crate::line::{Line, ASSERT, ASSUME, COMPUTE, INPUT, LOAD};
 use crate::random::Random;
 use crate::report::{Outcome, Report, Tally};
+use crate::rule::first_late;
 use crate::vary::schedule;
 
-const CASES: u64 = 3_000;
+const CASES: u64 = 5_000;
 
 pub fn run(calls: &dyn Calls, report: &mut Report) {
     report.check("random cases are accepted", |tally| {
@@ -58,7 +59,10 @@ pub fn run(calls: &dyn Calls, report: &mut Report) {
         for reply in ["violated", "clean", "cut off", "refused 14"] {
             tally.saw_often(&format!("{reply}, all lines"), 20)?;
             tally.saw_often(&format!("{reply}, lines left"), 20)?;
+            tally.saw_often(&format!("{reply}, the rule kept"), 20)?;
+            tally.saw_often(&format!("{reply}, the rule not kept"), 20)?;
         }
+        saw_all(tally, "late kind", [COMPUTE, INPUT, ASSERT, ASSUME].into_iter())?;
         saw_all(tally, "kind left", 1..=8)?;
         for what in ["an input left with a value", "several inputs left with values, and not by record"] {
             tally.saw_often(what, 20)?;
@@ -139,6 +143,13 @@ fn note_schedule(draft: &Draft, schedule: &[u16], reply: Replayed, tally: &mut T
     };
     let lines = if runs_all_lines(draft, schedule) { "all lines" } else { "lines left" };
     tally.saw(format!("{reply}, {lines}"));
+    match first_late(draft, schedule) {
+        None => tally.saw(format!("{reply}, the rule kept")),
+        Some(late) => {
+            tally.saw(format!("{reply}, the rule not kept"));
+            tally.saw(format!("late kind {}", draft.line(late).kind));
+        }
+    }
     let run = lines_run(draft, schedule);
     let mut left = draft.chains().concat();
     left.retain(|line| !run.contains(line));

@@ -104,7 +104,7 @@ pub fn unrun_at_the_7(calls: &dyn Calls, tally: &mut Tally) -> Outcome {
 }
 
 /// The assertions of a text from this one on, counted from 1.
-fn same_assertions(calls: &dyn Calls, draft: &Draft, first: usize, wanted: &[&str], tally: &mut Tally) -> Outcome {
+pub fn same_assertions(calls: &dyn Calls, draft: &Draft, first: usize, wanted: &[&str], tally: &mut Tally) -> Outcome {
     let text = text_of(calls, &draft.bytes())?;
     let text = String::from_utf8_lossy(&text);
     let lines: Vec<&str> = text.lines().skip(draft.variables() + first).take(wanted.len()).collect();
@@ -127,8 +127,8 @@ pub fn text_of_three_lines(calls: &dyn Calls, tally: &mut Tally) -> Outcome {
 }
 
 /// Thread 3 of four, whose only own block is 3. Its lock may be passed over, so
-/// that it has what it reads; the input is a source. The lock's 4 is constraint 10,
-/// behind eight for the order and the input's 4; the 7 is the last of 17.
+/// that it has what it reads; the input is a source. The lock's 4 is constraint 11,
+/// behind nine for the order and the input's 4; the 7 is the last of 18.
 pub fn text_of_guarded_lines(calls: &dyn Calls, tally: &mut Tally) -> Outcome {
     let lines = [input(0), lock(0).guarded(1), assert(local(0)), unlock(0).guarded(17)];
     let draft = Draft::new(4, 3).with_mutexes(1).with_thread(3, &lines);
@@ -137,7 +137,7 @@ pub fn text_of_guarded_lines(calls: &dyn Calls, tally: &mut Tally) -> Outcome {
          (ite (= v2 #x0003) (and (not (xor (= v3 v1) (= v10 v1))) (= v3 v10)) true)))",
         "(or (= v2 #x0004) (=> (not (= v1 #x0000)) (ite (= v2 #x0003) (= #x0000 v10) true)))",
     ];
-    same_assertions(calls, &draft, 10, &wanted, tally)?;
+    same_assertions(calls, &draft, 11, &wanted, tally)?;
     let seven = "(or (= v5 #x0000) (or (not (or (= v6 #x0004) (=> (= v1 #x0000) \
                  (ite (= v2 v6) (= #x0004 v3) (ite (= v6 #x0003) (= #x0004 v10) true))))) false))";
     same_assertions(calls, &draft, draft.constraints(), &[seven], tally)

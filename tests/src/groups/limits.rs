@@ -1,13 +1,13 @@
 //! Both sides of every limit.
 
-use crate::ask::{listing, refused_by_all, replay};
-use crate::calls::{Calls, Checked, Refusal, Replayed, Verdict};
+use crate::ask::{byte_marks, listing, marks, refused_by_all, replay};
+use crate::calls::{Calls, Checked, Encoded, Listed, Refusal, Replayed, Verdict};
 use crate::draft::Draft;
 use crate::enumerate::block_lengths;
 use crate::fill::fill;
 use crate::line::*;
 use crate::report::{Outcome, Report, Tally};
-use crate::table::table_of;
+use crate::table::{table_of, MOST_LISTING_BYTES, MOST_NUMBERS};
 
 pub fn run(calls: &dyn Calls, report: &mut Report) {
     report.check("lengths of the file", |tally| file_lengths(calls, tally));
@@ -46,6 +46,7 @@ pub fn run(calls: &dyn Calls, report: &mut Report) {
     });
     report.check("records 256, 257", |tally| records(calls, tally));
     report.check("the largest case", |tally| largest_case(calls, tally));
+    report.check("the longest tables", |tally| longest_tables(calls, tally));
     report.check("15 switches are all used", |tally| all_switches_used(calls, tally));
     report.check("fewer blocks than threads", |tally| fewer_blocks(calls, tally));
     report.check("lengths that add up to 63, 64 and 65", |tally| steps_and_lines(calls, tally));
@@ -99,28 +100,78 @@ fn records(calls: &dyn Calls, tally: &mut Tally) -> Outcome {
     Ok(())
 }
 
-/// 256 assumes with all items: the largest table, 1,205 constraints.
+/// 256 assumes with all items: the largest table, 1,457 constraints, 4 for each line
+/// and an 8 for all but four, 180 6s and the 7.
 fn largest_case(calls: &dyn Calls, tally: &mut Tally) -> Outcome {
     let mut lines = [assume(constant(1)); 64];
     lines[0] = assume(local(0)).guarded(1);
     let draft = full(&lines);
     let table = table_of(calls, &draft.bytes())?;
-    tally.same(table.rows.len(), 1_205, || "constraints".into())?;
+    tally.same(table.rows.len(), 1_457, || "constraints".into())?;
     tally.same(table.variables, 692, || "variables".into())?;
     let text = listing(calls, &draft.bytes())?;
     tally.same(text, table.listing(), || "the listing".into())?;
-    let schedule = [16; 16];
-    let numbers = fill(&draft, &schedule);
-    let checked = calls.check(&draft.bytes(), &numbers);
-    tally.same(checked, Checked::Fails(1_205), || "only the 7 fails".into())?;
-    let (reply, items) = replay(calls, &draft, &schedule);
     let at_end = vec![1, 2, 3, 4, 5, 6, 7, 8, 0, 0, 0, 0];
-    tally.same((reply, items), (Replayed::Clean, at_end), || "the run".into())?;
+    let in_first_blocks = [[64; 4].as_slice(), &[0; 12]].concat();
+    // With line 17 a thread comes to its second block. Its 8 stands behind two order
+    // constraints of line 1, three of each line up to 16, and its own 3.
+    for (schedule, first) in [(in_first_blocks, 1_457), (vec![16; 16], 2 + 3 * 15 + 2)] {
+        let checked = calls.check(&draft.bytes(), &fill(&draft, &schedule));
+        tally.same(checked, Checked::Fails(first), || format!("{schedule:?} filled"))?;
+        let wanted = (Replayed::Clean, at_end.clone());
+        tally.same(replay(calls, &draft, &schedule), wanted, || format!("{schedule:?}"))?;
+    }
     // 256 inputs: the longest schedule has 272 numbers.
     let inputs = full(&[input(3); 64]);
     tally.same(inputs.schedule_numbers(), 272, || "schedule numbers".into())?;
     let schedule = [[16; 16].as_slice(), &[65_535; 256]].concat();
     tally.same(replay(calls, &inputs, &schedule).0, Replayed::Clean, || "inputs".into())
+}
+
+/// "a table has at most 8,742 numbers and a listing at most 52,464 bytes". A lock in
+/// the place of one assume has no 8, unless it is a thread's first line, where neither
+/// has one; a load has no 5 either.
+fn longest_tables(calls: &dyn Calls, tally: &mut Tally) -> Outcome {
+    tally.same((MOST_NUMBERS, MOST_LISTING_BYTES), (8_742, 52_464), || "the most".into())?;
+    let with = |place: usize, line: Line| {
+        let mut draft = full(&[assume(constant(1)); 64]);
+        draft.records[place] = Line { next: draft.records[place].next, ..line };
+        draft
+    };
+    for (draft, constraints) in [
+        (full(&[assume(constant(1)); 64]), 1_457),
+        (with(0, lock(3)), 1_457),
+        (with(128, lock(3)), 1_457),
+        (with(0, load(0, 7)), 1_456),
+        (with(1, lock(3)), 1_456),
+        (with(255, lock(3)), 1_456),
+        (with(255, unlock(3)), 1_455),
+        (with(64, compute(0, constant(1))), 1_456),
+        (with(65, compute(0, constant(1))), 1_456),
+        (with(65, load(0, 7)), 1_455),
+    ] {
+        let (case, needed) = (draft.bytes(), 6 * usize::from(constraints));
+        for room in [needed - 1, needed, needed + 1] {
+            let mut table = marks(room);
+            let wanted = match room < needed {
+                true => Encoded::Refused { number: 10, place: 0 },
+                false => Encoded::Table { constraints, variables: 692 },
+            };
+            tally.same(calls.encode(&case, &mut table), wanted, || format!("room for {room} numbers"))?;
+            let from = if room < needed { 0 } else { needed };
+            tally.holds(table[from..] == marks(room)[from..], || format!("room for {room} numbers: more was touched"))?;
+        }
+        let needed = listing(calls, &case)?.len();
+        tally.holds(needed <= MOST_LISTING_BYTES, || format!("a listing of {needed} bytes"))?;
+        for room in [needed - 1, needed, needed + 1] {
+            let wanted = match room < needed {
+                true => Listed::Refused { number: 10, place: 0 },
+                false => Listed::Text { bytes: needed as u16 },
+            };
+            tally.same(calls.listing(&case, &mut byte_marks(room)), wanted, || format!("room for {room} bytes"))?;
+        }
+    }
+    Ok(())
 }
 
 /// Threads that must take turns sixteen times to violate.

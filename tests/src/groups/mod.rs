@@ -29,6 +29,7 @@ mod sources_by_hand;
 mod step;
 mod tables;
 mod text;
+mod visible;
 
 use crate::calls::Calls;
 use crate::command;
@@ -50,6 +51,7 @@ pub fn all() -> Vec<Group> {
         group("tables", "tables worked out by hand", tables::run),
         group("runs", "runs worked out by hand", runs::run),
         group("holders", "mutexes and who unlocks them", holders::run),
+        group("visible", "the 8s and the rule that they keep", visible::run),
         group("checks", "each kind of constraint fails first", checks::run),
         group("decodings", "decodings worked out by hand", decodings::run),
         group("fields", "refusal 9, field by field", fields::run),

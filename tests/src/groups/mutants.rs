@@ -1,20 +1,21 @@
 //! Deliberate mistakes in the second implementation. Each must be found by
 //! every comparison named for it; the right one must pass them all.
 
-use super::holders;
+use super::{holders, visible};
 use crate::calls::Calls;
 use crate::compare::{checks, decodings, lengths, listings, replays, tables, verdicts, Comparison};
 use crate::compare_lines::{single_lines, whole_threads};
 use crate::compare_text::{texts, truths};
 use crate::demand3::compare;
-use crate::generate::{BUSY, BUSY_WITH_INPUTS, HOLDERS, SMALL};
+use crate::generate::{BUSY, BUSY_WITH_INPUTS, HOLDERS, SMALL, STRETCHES};
+use crate::line::{ASSERT, ASSUME, COMPUTE, INPUT, LOAD, LOCK, STORE, UNLOCK};
 use crate::report::{outcome_of, Outcome, Report, Tally};
 use crate::second::{Second, Wrong, RIGHT};
 
 /// Rounds for each comparison: few, since a mistake should be found soon.
 const ROUNDS: u64 = 150;
 
-const MISTAKES: [(Wrong, &[Comparison]); 64] = [
+const MISTAKES: [(Wrong, &[Comparison]); 86] = [
     (Wrong::StrayNextUnseen, &[verdicts]),
     (Wrong::DropsA6, &[tables, demand_3]),
     (Wrong::FivesLast, &[tables]),
@@ -52,6 +53,26 @@ const MISTAKES: [(Wrong, &[Comparison]); 64] = [
     (Wrong::OnlyAssertsIn7, &[checks, decodings, demand_3_holders, texts, holders_by_hand]),
     (Wrong::AssertNamedFirst, &[replays, demand_3_holders, holders_by_hand]),
     (Wrong::LastNamed, &[replays, demand_3, demand_3_holders, holders_by_hand]),
+    (Wrong::SeenOtherwise(COMPUTE), &[tables, checks, demand_3_long, texts, visible_by_hand]),
+    (Wrong::SeenOtherwise(STORE), &[tables, checks, demand_3, texts, visible_by_hand]),
+    (Wrong::SeenOtherwise(LOAD), &[tables, checks, demand_3, texts, visible_by_hand]),
+    (Wrong::SeenOtherwise(INPUT), &[tables, checks, demand_3_with_inputs, texts, visible_by_hand]),
+    (Wrong::SeenOtherwise(ASSERT), &[tables, checks, demand_3, texts, visible_by_hand]),
+    (Wrong::SeenOtherwise(ASSUME), &[tables, checks, demand_3, texts, visible_by_hand]),
+    (Wrong::SeenOtherwise(LOCK), &[tables, checks, demand_3_holders, texts, visible_by_hand]),
+    (Wrong::SeenOtherwise(UNLOCK), &[tables, checks, demand_3_holders, texts, visible_by_hand]),
+    (Wrong::EightOfFirst, &[tables, checks, demand_3, texts, visible_by_hand]),
+    (Wrong::EightOfVisible, &[tables, checks, demand_3, texts, visible_by_hand]),
+    (Wrong::LineAfter, &[tables, checks, demand_3, texts, visible_by_hand]),
+    (Wrong::RecordBefore, &[tables, checks, demand_3, texts, visible_by_hand]),
+    (Wrong::FirstStays, &[tables, checks, demand_3, texts, visible_by_hand]),
+    (Wrong::VisibleBefore, &[tables, texts, visible_by_hand]),
+    (Wrong::GuardedMayMove, &[tables, checks, demand_3, texts, visible_by_hand]),
+    (Wrong::NoStopAtInvisible, &[checks, demand_3, texts, visible_by_hand]),
+    (Wrong::EightBefore3, &[tables, texts, visible_by_hand]),
+    (Wrong::EightLast, &[tables, texts, visible_by_hand]),
+    (Wrong::LateRefused, &[replays, demand_3, visible_by_hand]),
+    (Wrong::CountedWithBefore, &[decodings, demand_3, visible_by_hand]),
     (Wrong::GuardedLineNotTaken, &[single_lines, whole_threads]),
     (Wrong::FirstLineStays, &[single_lines, whole_threads]),
     (Wrong::MutexAmongGlobals, &[single_lines, whole_threads]),
@@ -76,12 +97,14 @@ const MISTAKES: [(Wrong, &[Comparison]); 64] = [
     (Wrong::LessOrEqual, &[texts, truths]),
     (Wrong::InitialValueForgotten, &[texts, truths]),
     (Wrong::OldValueOpen, &[texts, truths]),
+    (Wrong::LineBeforeFirst, &[texts, visible_by_hand]),
+    (Wrong::AtMostInText, &[texts, visible_by_hand]),
     (Wrong::ThreadAskedFor, &[texts, truths, holders_by_hand]),
     (Wrong::UnrunPartHolds, &[texts, truths, holders_by_hand]),
     (Wrong::UnlocksBehindAsserts, &[texts, holders_by_hand]),
 ];
 
-const ALL: [Comparison; 16] = [
+const ALL: [Comparison; 18] = [
     verdicts,
     tables,
     checks,
@@ -97,7 +120,9 @@ const ALL: [Comparison; 16] = [
     demand_3_small,
     demand_3_with_inputs,
     demand_3_holders,
+    demand_3_long,
     holders_by_hand,
+    visible_by_hand,
 ];
 
 pub fn run(_: &dyn Calls, report: &mut Report) {
@@ -131,6 +156,14 @@ fn demand_3_with_inputs(calls: &dyn Calls, rounds: u64, tally: &mut Tally) -> Ou
 
 fn demand_3_holders(calls: &dyn Calls, rounds: u64, tally: &mut Tally) -> Outcome {
     compare(calls, HOLDERS, rounds, &[0], tally)
+}
+
+fn demand_3_long(calls: &dyn Calls, rounds: u64, tally: &mut Tally) -> Outcome {
+    compare(calls, STRETCHES, rounds, &[0], tally)
+}
+
+fn visible_by_hand(calls: &dyn Calls, _: u64, tally: &mut Tally) -> Outcome {
+    visible::all(calls, tally)
 }
 
 fn holders_by_hand(calls: &dyn Calls, _: u64, tally: &mut Tally) -> Outcome {

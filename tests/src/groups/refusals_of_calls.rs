@@ -9,7 +9,7 @@ use crate::samples::{case_a, CASE_A_LISTING};
 
 /// P6: meets case A's table.
 const GOOD: [u16; 12] = [0, 0, 0, 1, 2, 5, 2, 0, 1, 5, 1, 5];
-/// Fails first at the 2 of line 4, the eighth constraint.
+/// Fails first at the 8 of line 4, the eighth constraint.
 const BAD: [u16; 12] = [0, 0, 0, 1, 2, 5, 4, 0, 1, 5, 1, 5];
 
 pub fn run(calls: &dyn Calls, report: &mut Report) {
@@ -28,17 +28,17 @@ pub fn run(calls: &dyn Calls, report: &mut Report) {
     report.check("15: the first failed constraint", |tally| failed_decoding(calls, tally));
 }
 
-/// Case A's table has 18 × 6 numbers.
+/// Case A's table has 19 × 6 numbers.
 fn short_table(calls: &dyn Calls, tally: &mut Tally) -> Outcome {
-    for room in 0..=109 {
+    for room in 0..=115 {
         let mut table = marks(room);
         let wanted = match room {
-            0..=107 => Encoded::Refused { number: 10, place: 0 },
-            _ => Encoded::Table { constraints: 18, variables: 12 },
+            0..=113 => Encoded::Refused { number: 10, place: 0 },
+            _ => Encoded::Table { constraints: 19, variables: 12 },
         };
         let reply = calls.encode(&case_a().bytes(), &mut table);
         tally.same(reply, wanted, || format!("room for {room}"))?;
-        let from = if room < 108 { 0 } else { 108 };
+        let from = if room < 114 { 0 } else { 114 };
         let kept = table[from..] == marks(room)[from..];
         tally.holds(kept, || format!("room for {room}: more was touched"))?;
     }
@@ -84,7 +84,7 @@ fn short_items(calls: &dyn Calls, tally: &mut Tally) -> Outcome {
 /// Case A's listing has 6 bytes for the counts and 12 for each constraint. Of a
 /// refused case the text is four bytes here, and 10 is the only refusal.
 fn short_text(calls: &dyn Calls, tally: &mut Tally) -> Outcome {
-    let files = [(case_a().bytes(), CASE_A_LISTING, 222), (vec![], "1 0\n", 4)];
+    let files = [(case_a().bytes(), CASE_A_LISTING, 234), (vec![], "1 0\n", 4)];
     for (case, text, bytes) in files {
         for room in 0..=bytes + 1 {
             let mut slice = byte_marks(usize::from(room));
@@ -315,7 +315,9 @@ fn met_first(calls: &dyn Calls, tally: &mut Tally) -> Outcome {
 /// The place is "the first failed constraint, from 1".
 fn failed_decoding(calls: &dyn Calls, tally: &mut Tally) -> Outcome {
     let clean = [0, 0, 2, 1, 2, 1, 2, 1, 1, 5, 0, 5];
-    for (assignment, place) in [(BAD, 8), ([0; 12], 9), ([65_535; 12], 1), (clean, 18)] {
+    // Lines 3 and 4 are in block 4, and the 2 of line 4 fails.
+    let too_late = [0, 0, 0, 1, 4, 5, 4, 0, 1, 5, 1, 5];
+    for (assignment, place) in [(BAD, 8), (too_late, 9), ([0; 12], 10), ([65_535; 12], 1), (clean, 19)] {
         let mut schedule = marks(4);
         let reply = calls.decode(&case_a().bytes(), &assignment, &mut schedule);
         let refused = Decoded::Refused { number: 15, place };

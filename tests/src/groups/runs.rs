@@ -2,13 +2,12 @@
 
 use crate::ask::{replay, reply};
 use crate::calls::{Calls, Replayed};
-use crate::demand3::seen_alike;
+use crate::demand3::{seen_alike, Written};
 use crate::draft::Draft;
 use crate::enumerate::{block_lengths, runs_all_lines};
 use crate::line::*;
 use crate::report::{Outcome, Report, Tally};
 use crate::samples::handshake;
-use crate::table::table_of;
 
 pub fn run(calls: &dyn Calls, report: &mut Report) {
     report.check("ops", |tally| ops(calls, tally));
@@ -102,8 +101,8 @@ pub fn runs(calls: &dyn Calls, draft: &Draft, schedule: &[u16], reply: Replayed,
     let about = || format!("schedule {schedule:?} of {draft}");
     let wanted = (reply, items.to_vec());
     tally.same(replay(calls, draft, schedule), wanted, about)?;
-    let table = table_of(calls, &draft.bytes())?;
-    seen_alike(calls, draft, &table, schedule, tally).map(|_| ())
+    let written = Written::of(calls, draft, tally)?;
+    seen_alike(calls, draft, &written, schedule, tally).map(|_| ())
 }
 
 /// Op, a, b and what the op gives.

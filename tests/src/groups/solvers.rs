@@ -10,18 +10,26 @@ use crate::compare_text::text_of;
 use crate::demand3::small_case;
 use crate::draft::Draft;
 use crate::enumerate::{block_lengths, runs_all_lines, schedules, schedules_with_all_values};
-use crate::generate::{Shape, BUSY, FOUR_HOLDERS, FOUR_THREADS, HOLDERS, SMALL, TINY, TINY_HOLDERS, TINY_WITH_INPUTS};
-use crate::line::{assert, constant, Line, ASSERT, UNLOCK};
+use crate::generate::{
+    Shape, BUSY, BUSY_WITH_INPUTS, FOUR_HOLDERS, FOUR_THREADS, HOLDERS, HOLDERS_WITH_INPUTS, SMALL, STRETCHES,
+    STRETCHES_WITH_INPUTS, TINY, TINY_HOLDERS, TINY_WITH_INPUTS,
+};
+use crate::line::{assert, constant, Line, ASSERT, COMPUTE, INPUT, LOAD, UNLOCK};
 use crate::random::Random;
 use crate::report::{Outcome, Report, Tally};
+use crate::rule::{first_late, keeps_rule, moved};
 use crate::samples::{case_a, guarded_counter, handshake, largest, right_release, wrong_release};
 use crate::solver::{other_than, Answer, Solver, ALL};
+use crate::table::table_of;
 
 /// Random cases for each solver: without inputs, with faults of one sort alone,
 /// and with one input each.
 const CASES: u64 = 150;
 const ONLY_UNLOCKS: u64 = 40;
 const WITH_AN_INPUT: usize = 10;
+/// Cases that are asked with and without the 8s, and so many of them with an input.
+const WITHOUT_EIGHTS: u64 = 60;
+const WITHOUT_EIGHTS_AND_AN_INPUT: u64 = 24;
 /// At least so many of those without inputs must be sat, and so many unsat.
 const OF_EACH: u64 = 30;
 /// The most block lengths of a case with an input.
@@ -31,11 +39,13 @@ const ALL_MODELS: usize = 12;
 
 type Check = fn(&dyn Calls, Solver, &mut Tally) -> Outcome;
 
-const CHECKS: [(&str, Check); 8] = [
+const CHECKS: [(&str, Check); 10] = [
     ("cases by hand", by_hand),
     ("random cases", many),
     ("random cases in which unlocks alone violate", only_unlocks),
     ("random cases with an input", with_an_input),
+    ("random cases with and without the 8s", with_and_without),
+    ("random cases with an input, with and without the 8s", with_and_without_and_an_input),
     ("all models of a case", all_models),
     ("an assertion that is left out", left_out),
     ("an assertion that is changed", changed),
@@ -152,17 +162,106 @@ fn violating(calls: &dyn Calls, draft: &Draft) -> BTreeSet<Vec<u16>> {
     schedules(draft, &[0]).into_iter().filter(|schedule| violates(calls, draft, schedule)).collect()
 }
 
-/// A model meets the table, and its schedule violates.
+/// A model meets the table, and its schedule violates and keeps the rule.
 fn model_violates(calls: &dyn Calls, draft: &Draft, model: &[u16], tally: &mut Tally) -> Result<Vec<u16>, String> {
     let about = || format!("model {model:?} of {draft}");
     tally.same(check(calls, draft, model), Checked::Meets, about)?;
     let schedule = decode(calls, draft, model)?;
+    tally.holds(keeps_rule(draft, &schedule), || format!("{}: {schedule:?} does not keep the rule", about()))?;
     match reply(calls, draft, &schedule) {
         Replayed::Violated(line) if draft.line(line).kind == ASSERT => tally.saw("an assert is named"),
         Replayed::Violated(line) if draft.line(line).kind == UNLOCK => tally.saw("an unlock is named"),
         reply => return Err(format!("{}: {schedule:?} is replayed as {reply:?}", about())),
     }
     Ok(schedule)
+}
+
+/// The text without the assertions of the 8s.
+fn text_without_eights(calls: &dyn Calls, draft: &Draft) -> Result<String, String> {
+    let mut rows = table_of(calls, &draft.bytes())?.rows.into_iter();
+    let mut is_8 = |line: &str| line.starts_with("(assert ") && rows.next().is_some_and(|row| row[0] == 8);
+    let whole = text(calls, draft)?;
+    Ok(whole.lines().filter(|line| !is_8(line)).map(|line| format!("{line}\n")).collect())
+}
+
+/// "Prove that the solver's yes or no is unchanged by the new constraint": both texts
+/// are sat, or neither. Gives the answer. A model of the text without the 8s meets the
+/// table but for an 8, where its schedule does not keep the rule; that schedule
+/// violates, and so does the one that keeps the rule in its place.
+fn same_without_eights(calls: &dyn Calls, solver: Solver, draft: &Draft, tally: &mut Tally) -> Result<bool, String> {
+    let answer = solver.ask(&text(calls, draft)?, false)?;
+    let without = text_without_eights(calls, draft)?;
+    let dropped = text(calls, draft)?.lines().count() - without.lines().count();
+    let eights = table_of(calls, &draft.bytes())?.rows.iter().filter(|row| row[0] == 8).count();
+    tally.same(dropped, eights, || format!("8s; case {draft}"))?;
+    tally.saw(if dropped == 0 { "no 8" } else { "some 8s" });
+    let answer_without = solver.ask(&without, matches!(answer, Answer::Sat(_)))?;
+    let is_sat = |answer: &Answer| matches!(answer, Answer::Sat(_));
+    tally.same(is_sat(&answer), is_sat(&answer_without), || format!("sat with and without the 8s; case {draft}"))?;
+    tally.saw(if is_sat(&answer) { "sat" } else { "unsat" });
+    let (Answer::Sat(model), Answer::Sat(other)) = (answer, answer_without) else { return Ok(false) };
+    model_violates(calls, draft, &model, tally)?;
+    let about = || format!("model {other:?} of {draft} without the 8s");
+    let schedule = counted(draft, &other);
+    match first_late(draft, &schedule) {
+        None => tally.same(check(calls, draft, &other), Checked::Meets, about)?,
+        Some(late) => {
+            tally.saw("a model that only the 8s exclude");
+            let place = table_of(calls, &draft.bytes())?.place_of_8(late).ok_or_else(about)?;
+            tally.same(check(calls, draft, &other), Checked::Fails(place as u16), about)?;
+        }
+    }
+    for schedule in [moved(draft, &schedule), schedule] {
+        tally.holds(violates(calls, draft, &schedule), || format!("{}: {schedule:?} does not violate", about()))?;
+    }
+    Ok(true)
+}
+
+/// The schedule of an assignment, by the counting of document 01, without asking the
+/// decoder, which refuses what fails an 8.
+fn counted(draft: &Draft, numbers: &[u16]) -> Vec<u16> {
+    let block = |line: u16| usize::from(numbers[2 * (usize::from(line) - 1)]);
+    let lines_in = |wanted: usize| (1..=draft.records.len() as u16).filter(move |&line| block(line) == wanted).count();
+    let lengths = (0..draft.blocks()).map(|block| lines_in(block) as u16);
+    // An input with a false guard keeps the old value of its target, and counts 0.
+    let inputs = draft.inputs().into_iter().map(|line| match guard_was_true(draft, numbers, line) {
+        true => numbers[2 * usize::from(line) - 1],
+        false => 0,
+    });
+    lengths.chain(inputs).collect()
+}
+
+/// Whether the guard of a line is true by the value of the latest line of its thread
+/// that has the guard's local as target; one that was not run has 0 for its value.
+fn guard_was_true(draft: &Draft, numbers: &[u16], line: u16) -> bool {
+    let guard_local = draft.line(line).guard_local();
+    let chain = draft.chain(draft.thread_of(line));
+    let earlier = chain.into_iter().take_while(|&other| other != line);
+    let copies = earlier.filter(|&other| {
+        let Line { kind, target, .. } = *draft.line(other);
+        matches!(kind, COMPUTE | LOAD | INPUT) && guard_local == Some(target.into())
+    });
+    let value = copies.last().map_or(0, |copy| numbers[2 * usize::from(copy) - 1]);
+    draft.line(line).guard_is_true(value)
+}
+
+fn with_and_without(calls: &dyn Calls, solver: Solver, tally: &mut Tally) -> Outcome {
+    for seed in 0..WITHOUT_EIGHTS {
+        let draft = case_of(60_000 + seed, [BUSY, SMALL, HOLDERS, FOUR_THREADS, STRETCHES][seed as usize % 5]);
+        let is_sat = same_without_eights(calls, solver, &draft, tally).map_err(|message| format!("seed {seed}: {message}"))?;
+        tally.same(is_sat, !violating(calls, &draft).is_empty(), || format!("sat; case {draft}"))?;
+    }
+    ["sat", "unsat", "some 8s"].iter().try_for_each(|answer| tally.saw_often(answer, 10))
+}
+
+/// Inputs may have any value here, so replay cannot be asked for all.
+fn with_and_without_and_an_input(calls: &dyn Calls, solver: Solver, tally: &mut Tally) -> Outcome {
+    let holders = Shape { switches: (1, 3), ..HOLDERS_WITH_INPUTS };
+    for seed in 0..WITHOUT_EIGHTS_AND_AN_INPUT {
+        let draft = case_of(70_000 + seed, [BUSY_WITH_INPUTS, holders, STRETCHES_WITH_INPUTS][seed as usize % 3]);
+        same_without_eights(calls, solver, &draft, tally).map_err(|message| format!("seed {seed}: {message}"))?;
+    }
+    ["sat", "some 8s"].iter().try_for_each(|answer| tally.saw_often(answer, 5))
 }
 
 /// The first cases that fit, in a bounded search.
@@ -201,13 +300,23 @@ fn with_an_input(calls: &dyn Calls, solver: Solver, tally: &mut Tally) -> Outcom
 }
 
 /// Asks for one model after the other, each time leaving out those known. The
-/// schedules must be all that violate, each from one model.
+/// schedules must be all that violate and keep the rule, each from one model.
 fn all_models(calls: &dyn Calls, solver: Solver, tally: &mut Tally) -> Outcome {
-    let fits = |draft: &Draft| (2..=6).contains(&violating(calls, draft).len());
+    let keeping = |draft: &Draft| {
+        let mut keeping = violating(calls, draft);
+        keeping.retain(|schedule| keeps_rule(draft, schedule));
+        keeping
+    };
+    let fits = |draft: &Draft| (2..=6).contains(&keeping(draft).len());
     let mut cases = fitting_cases(20_000..30_000, TINY, ALL_MODELS, fits)?;
     cases.extend(fitting_cases(20_000..30_000, TINY_HOLDERS, ALL_MODELS / 2, fits)?);
+    let fits_with_others = |draft: &Draft| fits(draft) && keeping(draft).len() < violating(calls, draft).len();
+    cases.extend(fitting_cases(30_000..40_000, TINY, ALL_MODELS / 2, fits_with_others)?);
     for draft in cases {
-        let wanted = violating(calls, &draft);
+        let wanted = keeping(&draft);
+        if wanted.len() < violating(calls, &draft).len() {
+            tally.saw("some that violate do not keep the rule");
+        }
         let mut text = text(calls, &draft)?;
         let mut found = BTreeSet::new();
         while let Answer::Sat(model) = solver.ask(&text, found.len() < wanted.len())? {
@@ -219,6 +328,7 @@ fn all_models(calls: &dyn Calls, solver: Solver, tally: &mut Tally) -> Outcome {
         }
         tally.same(&found, &wanted, || format!("all models of {draft}"))?;
     }
+    tally.saw_often("some that violate do not keep the rule", ALL_MODELS as u64 / 2)?;
     let all = ["all lines", "lines left", "an assert is named", "an unlock is named"];
     all.iter().try_for_each(|what| tally.saw_often(what, 10))
 }
@@ -244,37 +354,39 @@ fn with_assertion(text: &str, number: usize, formula: Option<&str>) -> String {
 /// thread 0 may then stand in block 4, where nothing says what is read, or the
 /// assert's value or one that it comes from is open, or no assert is asked for.
 /// A 3 does not matter: line 4 must be run, so the 1s and the 2 leave block 1 at
-/// most, and that to line 4; nor do line 5 and the block value, which nobody
-/// reads.
+/// most, and that to line 4; nor does the 1 of line 3, since line 4 stays in its
+/// block by the 8, nor the 8, nor do line 5 and the block value, which nobody reads.
 fn left_out(calls: &dyn Calls, solver: Solver, tally: &mut Tally) -> Outcome {
     let whole = text(calls, &short())?;
     let last = short().constraints();
     for number in 1..=last {
         let text = with_assertion(&whole, number, None);
         tally.same(text.lines().count() + 1, whole.lines().count(), || format!("lines without {number}"))?;
-        let wanted = [2, 4, 6, 8, 11, 12, 13, 14, last].contains(&number);
+        let wanted = [2, 4, 9, 12, 13, 14, 15, last].contains(&number);
         let is_sat = matches!(solver.ask(&text, wanted)?, Answer::Sat(_));
         tally.same(is_sat, wanted, || format!("sat without assertion {number}"))?;
     }
     Ok(())
 }
 
-/// Assertions of case A, each with a formula that makes the text unsat: blocks
-/// below 2 alone, line 4 not run, thread 1 in a block of thread 0, a load of 1, a
-/// block value that is not what thread 1 stored, and no assert in the 7.
-const UNSAT_CHANGES: [(usize, &str); 6] = [
-    (8, "(bvult v6 #x0002)"),
+/// Assertions of case A, each with a formula that makes the text unsat: line 4 not
+/// run, or in the block of line 5, blocks below 2 alone, line 4 not run, thread 1 in
+/// a block of thread 0, a load of 1, a block value that is not what thread 1 stored,
+/// and no assert in the 7.
+const UNSAT_CHANGES: [(usize, &str); 8] = [
     (8, "(= v6 #x0003)"),
-    (9, "(= (bvurem v8 #x0002) #x0000)"),
-    (13, "(= v5 #x0001)"),
-    (17, "(= v11 v10)"),
-    (18, "(or false false)"),
+    (8, "(or (= v6 #x0003) (= v6 v8))"),
+    (9, "(bvult v6 #x0002)"),
+    (9, "(= v6 #x0003)"),
+    (10, "(= (bvurem v8 #x0002) #x0000)"),
+    (14, "(= v5 #x0001)"),
+    (18, "(= v11 v10)"),
+    (19, "(or false false)"),
 ];
 
 /// Assertions of case A with one switch, each with a formula that makes the text
-/// sat: line 4 may be run after line 3 was not, and is 0 where it is not run.
-const SAT_CHANGES: [(usize, &str); 2] =
-    [(6, "(or (= v4 #x0002) (bvule v4 v6))"), (14, "(ite (= v6 #x0002) (= v7 #x0000) (= v7 #x0001))")];
+/// sat: line 4 may stand in any block, and is 0 where it is not run.
+const SAT_CHANGES: [(usize, &str); 2] = [(9, "true"), (15, "(ite (= v6 #x0002) (= v7 #x0000) (= v7 #x0001))")];
 
 /// The 7 of a wrong release, number 22, so changed that the text is unsat: no line
 /// counts, the holder's unlock alone counts, or the stranger's where it does not

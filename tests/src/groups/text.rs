@@ -16,6 +16,7 @@ use crate::generate::{accepted, shuffled, BUSY, BUSY_WITH_INPUTS, FULL, HOLDERS,
 use crate::line::*;
 use crate::random::Random;
 use crate::report::{Outcome, Report, Tally};
+use crate::rule::keeps_rule;
 use crate::samples::{case_a, filled_up, guarded_counter, largest};
 use crate::script::Script;
 use crate::vary::filled;
@@ -178,8 +179,9 @@ fn first_false(calls: &dyn Calls, tally: &mut Tally) -> Outcome {
     tally.saw_often("met", 50)
 }
 
-/// Assignments of violating schedules make every assertion true; a changed
-/// number makes one false, the one that the checker names.
+/// Assignments of violating schedules that keep the rule make every assertion true,
+/// and those of others make one false; so does a changed number. It is the one that
+/// the checker names.
 fn meeting(calls: &dyn Calls, tally: &mut Tally) -> Outcome {
     for seed in 0..300 {
         let mut random = Random::from_seed(72_000_000 + seed);
@@ -188,7 +190,8 @@ fn meeting(calls: &dyn Calls, tally: &mut Tally) -> Outcome {
         let violates = |schedule: &Vec<u16>| matches!(reply(calls, &draft, schedule), Replayed::Violated(_));
         for schedule in schedules(&draft, &[0, 3]).into_iter().filter(violates).take(6) {
             let mut numbers = fill(&draft, &schedule);
-            tally.same(calls.check(&draft.bytes(), &numbers), Checked::Meets, || format!("{schedule:?} of {draft}"))?;
+            let meets = calls.check(&draft.bytes(), &numbers) == Checked::Meets;
+            tally.same(meets, keeps_rule(&draft, &schedule), || format!("{schedule:?} of {draft}"))?;
             same_truth(calls, &draft, &script, &numbers, tally)?;
             let place = random.below(numbers.len());
             numbers[place] = numbers[place].wrapping_add(random.between(1, 3));

@@ -166,6 +166,13 @@ impl Case {
         }
     }
 
+    /// "Load, store, lock and unlock are visible."
+    pub fn is_visible(&self, line: u16) -> bool {
+        let kind = self.record(line).kind;
+        let mistaken = self.wrong == Wrong::SeenOtherwise(kind);
+        matches!(kind, LOAD | STORE | LOCK | UNLOCK) != mistaken
+    }
+
     /// "A line with block number n + 1 was not run".
     pub fn unrun_block(&self) -> u16 {
         self.switches as u16 + 1

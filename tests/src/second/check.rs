@@ -16,7 +16,7 @@ impl Assigned<'_> {
     pub fn first_failed(&self) -> Option<u16> {
         let mut order: Vec<usize> = (0..self.rows.len()).collect();
         if self.case.wrong == Wrong::ValuesBeforeBlocks {
-            order.sort_by_key(|&index| self.rows[index][0] <= 3);
+            order.sort_by_key(|&index| matches!(self.rows[index][0], 1..=3 | 8));
         }
         let failed = order.into_iter().find(|&index| !self.holds(self.rows[index]))?;
         Some(failed as u16 + 1)
@@ -39,8 +39,19 @@ impl Assigned<'_> {
             4 => self.value_is_kept(row),
             5 => self.demand_is_met(row),
             6 => self.block_value_is_kept(row),
-            _ => self.some_line_violates(),
+            7 => self.some_line_violates(),
+            _ => self.stays(row),
         }
+    }
+
+    /// "An invisible line that is not its thread's first takes the block number of
+    /// the line before it, or n + 1."
+    fn stays(&self, row: Row) -> bool {
+        let [_, line, before, ..] = row;
+        let may_stop = self.case.wrong != Wrong::NoStopAtInvisible;
+        // No line is 0 but by mistake.
+        let block_before = if before == 0 { 0 } else { self.block(before) };
+        may_stop && !self.was_run(line) || self.block(line) == block_before
     }
 
     /// "Record k has variable 2(k − 1), its block number".

@@ -8,7 +8,7 @@ pub type Row = [u16; 6];
 
 /// "Order: for each thread and line a 3, then a 1 or (last line) a 2; then for
 /// each thread and line a 4, and a 5 for assume and lock; then the 6s by block
-/// and item; then the 7."
+/// and item; then the 7." An 8 stands "after that line's 3".
 pub fn rows(case: &Case) -> Vec<Row> {
     let mut rows = order_rows(case);
     rows.extend(value_rows(case));
@@ -17,19 +17,43 @@ pub fn rows(case: &Case) -> Vec<Row> {
     rows
 }
 
-/// The 3s, 1s and 2s.
+/// The 3s, 8s, 1s and 2s.
 fn order_rows(case: &Case) -> Vec<Row> {
     let mut rows = Vec::new();
     for (thread, chain) in case.chains.iter().enumerate() {
-        for &line in chain {
-            rows.push([3, line, case.threads as u16, thread as u16, 0, 0]);
-            rows.push(match case.record(line).next {
+        for (position, &line) in chain.iter().enumerate() {
+            let three = [3, line, case.threads as u16, thread as u16, 0, 0];
+            let eight = stay_row(case, &chain[..position], line);
+            let last = match case.record(line).next {
                 0 => [2, line, case.switches as u16, 0, 0, 0],
                 next => [1, line, next, 0, 0, 0],
+            };
+            let eight = eight.as_slice();
+            rows.extend(match case.wrong {
+                Wrong::EightBefore3 => [eight, &[three], &[last]].concat(),
+                Wrong::EightLast => [&[three], &[last], eight].concat(),
+                _ => [&[three], eight, &[last]].concat(),
             });
         }
     }
     rows
+}
+
+/// "An invisible line that is not its thread's first takes the block number of
+/// the line before it, or n + 1. Put this as constraint 8 (line, line before)".
+fn stay_row(case: &Case, earlier: &[u16], line: u16) -> Option<Row> {
+    let before = earlier.last().copied();
+    let before = match case.wrong {
+        Wrong::EightOfFirst => Some(before.unwrap_or(0)),
+        Wrong::LineAfter => before.map(|_| case.record(line).next).filter(|&next| next != 0),
+        Wrong::RecordBefore => before.map(|_| line - 1).filter(|&number| number != 0),
+        Wrong::FirstStays => earlier.first().copied(),
+        Wrong::VisibleBefore => earlier.iter().rev().copied().find(|&line| case.is_visible(line)),
+        _ => before,
+    };
+    let seen = case.is_visible(line) && case.wrong != Wrong::EightOfVisible;
+    let free = case.wrong == Wrong::GuardedMayMove && case.record(line).guard != 0;
+    before.filter(|_| !seen && !free).map(|before| [8, line, before, 0, 0, 0])
 }
 
 /// The 4s, each followed by its line's 5 if it has one.

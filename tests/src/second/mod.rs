@@ -144,6 +144,9 @@ impl Second {
         room_for(case.items(), items)?;
         fits_blocks_and_inputs(&case, schedule)?;
         block_lengths_fit(&case, schedule)?;
+        if self.wrong == Wrong::LateRefused && runs_late(&case, schedule) {
+            return Err(refusal(13));
+        }
         let mut machine = Machine::new(&case, schedule);
         let stop = machine.run();
         if let Some(Stop::StrayInput(place)) = stop {
@@ -257,4 +260,20 @@ fn block_lengths_fit(case: &Case, schedule: &[u16]) -> Result<(), Refusal> {
         return Err(refusal(13));
     }
     Ok(())
+}
+
+/// Whether an invisible line is run in a later block than the line before it, which
+/// "the replayer still takes".
+fn runs_late(case: &Case, schedule: &[u16]) -> bool {
+    let mut next = vec![0; case.threads];
+    let mut late = false;
+    for (block, &length) in schedule[..=case.switches].iter().enumerate() {
+        let thread = case.thread_of_block(block);
+        let length = usize::from(length);
+        // Only the first line of a block comes after one of an earlier block.
+        let first = case.chains[thread].get(next[thread]).copied().filter(|_| length > 0 && next[thread] > 0);
+        late |= first.is_some_and(|line| !case.is_visible(line));
+        next[thread] += length;
+    }
+    late
 }

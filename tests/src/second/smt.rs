@@ -183,7 +183,25 @@ impl<'a> Speller<'a> {
             4 => self.value_formula(row),
             5 => self.demand_formula(row),
             6 => self.block_value_formula(row),
-            _ => self.violation_formula(),
+            7 => self.violation_formula(),
+            _ => self.stay_formula(row),
+        }
+    }
+
+    /// "8, line k, line before j: `(or U (= B C))`, with `U` for not run of k, `B`
+    /// for block of k and `C` for block of j."
+    fn stay_formula(&self, row: Row) -> String {
+        let [_, line, before, ..] = row;
+        // No line is 0 but by mistake.
+        let (block, block_before) = (self.block(line), if before == 0 { constant(0) } else { self.block(before) });
+        let stays = match self.case.wrong {
+            Wrong::LineBeforeFirst => equal(&block_before, &block),
+            Wrong::AtMostInText => format!("(bvule {block} {block_before})"),
+            _ => equal(&block, &block_before),
+        };
+        match self.case.wrong {
+            Wrong::NoStopAtInvisible => stays,
+            _ => format!("(or {} {stays})", self.not_run(line)),
         }
     }
 

@@ -88,6 +88,33 @@ pub enum Wrong {
     LastNamed,
     /// A line with a guard is not taken as a copy.
     GuardedLineNotTaken,
+    /// Lines of this kind are taken as visible where they are not, and the other
+    /// way round.
+    SeenOtherwise(u16),
+    /// A thread's first line has an 8 as well; the line before it is 0, and block 0.
+    EightOfFirst,
+    /// A visible line has an 8 as well.
+    EightOfVisible,
+    /// An 8 has the line after in the place of the line before.
+    LineAfter,
+    /// An 8 has the record before, by number, in the place of the line before.
+    RecordBefore,
+    /// An 8 has the thread's first line in the place of the line before.
+    FirstStays,
+    /// An 8 has the latest visible line in the place of the line before.
+    VisibleBefore,
+    /// A line with a guard has no 8.
+    GuardedMayMove,
+    /// An 8 does not allow n + 1.
+    NoStopAtInvisible,
+    /// The 8 of a line stands before its 3.
+    EightBefore3,
+    /// The 8 of a line stands behind its 1 or 2.
+    EightLast,
+    /// The replayer refuses a schedule that does not keep the rule of the 8s.
+    LateRefused,
+    /// The decoder counts a line that has an 8 into the block of the line before it.
+    CountedWithBefore,
     /// A name keeps the first line that has it as target.
     FirstLineStays,
     /// Mutexes stand where the globals begin, whatever G is.
@@ -142,6 +169,10 @@ pub enum Wrong {
     InitialValueForgotten,
     /// The text leaves the value of a line open where its guard is false.
     OldValueOpen,
+    /// In the text's 8 the line before stands before the line.
+    LineBeforeFirst,
+    /// The text's 8 asks that the block number is at most that of the line before.
+    AtMostInText,
     /// The text's 7 looks for t in the mutex that thread t unlocks.
     ThreadAskedFor,
     /// The text's 7 does not ask whether an unlock was run.

@@ -4,6 +4,7 @@ use super::Fault;
 use crate::calls::{Ending, Loaded};
 use crate::case::Kind;
 use crate::input::Source;
+use crate::rule::{late, moved};
 use crate::run;
 use crate::source::Draft;
 use crate::walk::{first_fault, walk, Event};
@@ -115,6 +116,41 @@ fn what_lines_find() {
     let often =
         ["reached", "not reached", "no stranger", "free", "held", "first an assert", "first an unlock", "clean", "in vain"];
     assert!(often.iter().all(|what| seen.get(what).is_some_and(|&times| times >= 30)), "{seen:?}");
+}
+
+/// A schedule with its invisible lines in the block of the line before keeps the rule, and does the same: where it is legal it
+/// violates at the same lines, and leaves the same items.
+#[test]
+fn moved_schedules() {
+    let mut dice = Dice(13);
+    let mut seen: BTreeMap<&str, usize> = BTreeMap::new();
+    for number in 0..5000 {
+        let loaded = loaded(&mut dice);
+        let (case, schedule) = (&loaded.case, schedule(&mut dice, &loaded));
+        let moved = moved(case, &schedule);
+        assert_eq!(late(case, &moved), [], "case {number}");
+        assert_eq!(late(case, &schedule).is_empty(), moved == schedule, "case {number}");
+        let (ending, items) = loaded.replay("a schedule", &schedule).expect("it is taken");
+        let (moved_ending, moved_items) = loaded.replay("a moved schedule", &moved).expect("it is taken");
+        let faults = |schedule: &[u16]| {
+            let steps = walk(case, schedule).steps.into_iter();
+            let faults = steps.filter(|step| matches!(step.event, Event::Broken(_) | Event::Stranger(..)));
+            faults.map(|step| (step.record, step.event)).collect::<BTreeMap<u16, Event>>()
+        };
+        let (what, same) = match (ending, moved_ending) {
+            (Ending::Violated(_), Ending::Violated(_)) => ("violated", faults(&schedule) == faults(&moved)),
+            (Ending::Clean, Ending::Clean) => ("clean", true),
+            (Ending::CutOff(_), Ending::CutOff(_)) => ("cut off", true),
+            _ => ("another ending", false),
+        };
+        assert!(same, "case {number}: {ending:?}, {moved_ending:?}");
+        assert!(matches!(ending, Ending::CutOff(_)) || items == moved_items, "case {number}");
+        *seen.entry(if moved == schedule { "kept" } else { what }).or_default() += 1;
+    }
+    assert!(
+        ["kept", "violated", "clean", "cut off"].iter().all(|what| seen.get(what).is_some_and(|&times| times >= 30)),
+        "{seen:?}"
+    );
 }
 
 /// The library's text has a part for each assert and unlock: with all of them it is the text itself.

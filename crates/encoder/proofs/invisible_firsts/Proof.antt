@@ -7,10 +7,10 @@ use Rattle.encoder.proofs.invisible_firsts.Statement.{statement}
 use Rattle.encoder.proofs.invisible_firsts.Tie as tie
 
 abbrev Inv-loop : tie.InvT-loop
-Inv-loop case threads n₀ t₀ n t = CountingFirsts case threads t n
+Inv-loop case threads n₀ counted₀ n counted = CountingFirsts case threads counted n
 
 abbrev μ-loop : tie.MeasureT-loop
-μ-loop case threads n₀ t₀ n t = threads - t
+μ-loop case threads n₀ counted₀ n counted = threads - counted
 
 threads-requires : tie.Need-threads-requires Inv-loop μ-loop
 threads-requires c κs = search needs
@@ -33,8 +33,8 @@ cast-n c = search needs
 add-n : tie.Need-add-n Inv-loop μ-loop
 add-n c = search needs
 
-add-t : tie.Need-add-t Inv-loop μ-loop
-add-t c = search needs
+add-counted : tie.Need-add-counted Inv-loop μ-loop
+add-counted c = search needs
 
 loop-less : tie.Need-loop-less Inv-loop μ-loop
 loop-less c = search needs
@@ -58,7 +58,7 @@ invisible-firsts-spec =
     bit-of-requires
     cast-n
     add-n
-    add-t
+    add-counted
     loop-less
     loop-again
     returns)
