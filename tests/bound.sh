@@ -77,7 +77,7 @@ switches() {
         says "a file of $n bytes" 2 'refusal 1, place 0' "$menduvo" list "$scratch/stub.case" --switches 2
     done
     run bash -c "'$menduvo' list - --switches 2 <$broken"
-    shows 'a case on standard input' '[ "$status" = 0 ] && [[ $out = "63 42"* ]]'
+    shows 'a case on standard input' '[ "$status" = 0 ] && [[ $out = "67 42"* ]]'
     says 'several to list' 0 '== cases/case-a.case with n = 2' "$menduvo" list "$broken" cases/case-a.case --switches 2
     says 'check' 0 'meets all 70 constraints with n = 3' "$menduvo" check "$broken" cases/interlock-broken.assignment --switches 3
     says 'check at another n' 2 'refusal 11' "$menduvo" check "$broken" cases/interlock-broken.assignment --switches 2
@@ -143,7 +143,7 @@ CASES
     says 'a bound over the largest' 3 '--least looks up to n = 15, the largest of a case, and not to 16' \
         "$menduvo" solve "$broken" --least --switches 16
     says 'a folder' 1 '8 cases: 5 violated, 3 unsat, 0 vacuous' "$menduvo" solve cases --least --switches 4 --jobs 2
-    shows 'a line of it' '[[ $out = *"lost-update.source       violated    42 over 28"*"first at n = 2; unsat at 0, 1 (0, 1: nothing was checked); record 9"* ]]'
+    shows 'a line of it' '[[ $out = *"lost-update.source       violated    46 over 28"*"first at n = 2; unsat at 0, 1 (0, 1: nothing was checked); record 9"* ]]'
     damaged 0 5
     says 'a refused case' 2 'refusal 2' "$menduvo" solve "$scratch/damaged.case" --least
     # L0 = 1; G1 = L0: no assert.

@@ -61,6 +61,18 @@ same 'a lock and an unlock' "$(fields 2 1 1 1 1 0 0 0 0 0 0 0 0 0 0 0  2 7 0 0 0
 6 1 0 2 0 0
 $goal"
 
+# A line that touches no shared item, after a lock: an 8 after its 3.
+same 'an invisible line' "$(fields 2 0 0 1 1 0 0 0 0 0 0 0 0 0 0 0  2 7 0 0 0 0 0 0  0 1 0 0 0 16 0 1 | "$program")" "9 4
+3 1 2 0 0 0
+1 1 2 0 0 0
+3 2 2 0 0 0
+8 2 1 0 0 0
+2 2 0 0 0 0
+4 1 0 0 0 0
+5 1 0 0 0 0
+4 2 0 0 0 0
+$goal"
+
 # What cannot be read is no case: a folder. What cannot be written is said on standard error: a full device.
 same 'a folder as input' "$("$program" </)" 'read error'
 same 'a full device as output' "$(fields 2 0 0 0 0 0 0 0 0 0 0 0 0 0 0 0 | "$program" 2>&1 >/dev/full)" 'write error'

@@ -1,5 +1,5 @@
-//! Makes a case along a run: each line is chosen as its turn comes, knowing the state of the run, so that the run is legal and
-//! its last line violates. The assignment is written down on the way, and the first line that violates. Lines that the run leaves
+//! Makes a case along a run: each line is chosen as its turn comes, knowing the state of the run, so that the run is legal, comes to
+//! a thread's later blocks with visible lines, and its last line violates. The assignment is written down on the way, and the first line that violates. Lines that the run leaves
 //! come last.
 //!
 //! All that is random comes from a fixed seed. Records are numbered as the run meets them.
@@ -18,9 +18,9 @@ pub fn made(shape: Shape) -> (Vec<u8>, Vec<u16>, Vec<u16>, u16) {
     let lengths = block_lengths(shape);
     let lines: usize = lengths.iter().sum();
     for (block, &length) in lengths.iter().enumerate() {
-        for _ in 0..length {
+        for turn in 0..length {
             let is_last = run.records.len() + 1 == lines;
-            run.add_line(block, is_last);
+            run.add_line(block, turn == 0, is_last);
         }
         if block < shape.switches {
             run.block_values.extend(&run.items);
@@ -88,10 +88,11 @@ impl Run {
         }
     }
 
-    /// Adds a line to the thread of a block, and runs it.
-    fn add_line(&mut self, block: usize, is_last: bool) {
+    /// Adds a line to the thread of a block, and runs it. The first of a block is visible.
+    fn add_line(&mut self, block: usize, is_first: bool, is_last: bool) {
         let thread = block % self.shape.lines.len();
         let record = match (is_last, self.shape.faults) {
+            (false, _) if is_first => self.visible_line(thread),
             (false, _) => self.line(thread),
             (true, Faults::LastUnlock) => self.stray_unlock(thread),
             (true, _) => self.test(thread, ASSERT, false),
@@ -139,6 +140,16 @@ impl Run {
             _ => self.lock_or_unlock(thread),
         };
         Record { guard, ..record }
+    }
+
+    /// The same, of a line that is visible.
+    fn visible_line(&mut self, thread: usize) -> Record {
+        loop {
+            let record = self.line(thread);
+            if record.is_visible() {
+                return record;
+            }
+        }
     }
 
     /// Two lines in five have a guard.

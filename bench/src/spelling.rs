@@ -151,6 +151,7 @@ impl Writer<'_> {
                 let rest = format!("(bvurem {} {})", block_of(line), constant(number));
                 format!("(or {} {})", self.not_run(line), equal(&rest, &constant(usize::from(third))))
             }
+            8 => format!("(or {} {})", self.not_run(line), equal(&block_of(line), &block_of(second))),
             1 => self.in_order(line, second),
             2 => self.in_bounds(line),
             4 => {

@@ -31,8 +31,9 @@ pub struct Case<'a> {
     /// How many lines each thread has, and how many of them are inputs.
     pub lines: [usize; 4],
     pub inputs: [usize; 4],
-    /// How many lines have a 5.
+    /// How many lines have a 5, and how many have an 8.
     demands: usize,
+    stays: usize,
 }
 
 impl<'a> Case<'a> {
@@ -72,6 +73,7 @@ impl<'a> Case<'a> {
             lines: [0; 4],
             inputs: [0; 4],
             demands: 0,
+            stays: 0,
         })
     }
 
@@ -94,6 +96,7 @@ impl<'a> Case<'a> {
                 self.lines[thread] += 1;
                 self.inputs[thread] += usize::from(record.kind == INPUT);
                 self.demands += usize::from(matches!(record.kind, ASSUME | LOCK));
+                self.stays += usize::from(line != self.firsts[thread] && !record.is_visible());
                 line = record.next;
             }
         }
@@ -150,7 +153,7 @@ impl<'a> Case<'a> {
     }
 
     pub fn constraints(&self) -> usize {
-        3 * self.records.len() + self.demands + self.switches * self.items() + 1
+        3 * self.records.len() + self.demands + self.stays + self.switches * self.items() + 1
     }
 
     /// The block number of a line that was not run.

@@ -62,12 +62,17 @@ fn block_values<'a>(case: &Case, assignment: &'a [u16], block: usize) -> &'a [u1
     &assignment[first..first + case.items()]
 }
 
-/// The 3s, 1s and 2s.
+/// The 3s, 8s, 1s and 2s.
 fn check_order(case: &Case, assignment: &[u16], count: &mut Count) -> Result<(), u16> {
     for thread in 0..case.threads {
+        let mut block_before = None;
         for (line, record) in case.chain(thread) {
             let (block, _) = numbers_of(assignment, line);
             count.next(!case.was_run(block) || usize::from(block) % case.threads == thread)?;
+            if let (Some(before), false) = (block_before, record.is_visible()) {
+                count.next(!case.was_run(block) || block == before)?;
+            }
+            block_before = Some(block);
             let most = match record.next {
                 0 => case.unrun_block(),
                 next => numbers_of(assignment, next).0,

@@ -20,12 +20,17 @@ pub fn write_table(case: &Case, table: &mut [u16]) {
 /// Gives `put` the constraints, in the order of the table.
 pub fn put_rows(case: &Case, mut put: impl FnMut([u16; 6])) {
     for thread in 0..case.threads {
+        let mut before = 0;
         for (line, record) in case.chain(thread) {
             put([3, line, case.threads as u16, thread as u16, 0, 0]);
+            if before != 0 && !record.is_visible() {
+                put([8, line, before, 0, 0, 0]);
+            }
             put(match record.next {
                 0 => [2, line, case.switches as u16, 0, 0, 0],
                 next => [1, line, next, 0, 0, 0],
             });
+            before = line;
         }
     }
     let mut copies: [Copies; 4] = [[0; NO_NAME + 1]; 4];

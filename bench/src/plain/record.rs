@@ -49,6 +49,11 @@ impl Record {
         [self.next, self.kind, self.guard, self.target, self.op, self.a, self.b, self.c]
     }
 
+    /// Whether other threads may see the line.
+    pub fn is_visible(&self) -> bool {
+        matches!(self.kind, LOAD | STORE | LOCK | UNLOCK)
+    }
+
     /// Whether check 9 passes.
     pub fn keeps_the_rules(&self, globals: u16, mutexes: u16) -> bool {
         let kind_is_kept = match self.kind {

@@ -142,6 +142,7 @@ impl<S: Sink> Writer<'_, S> {
                 self.threads[usize::from(line)] = usize::from(third);
                 self.put_thread(line, second, third);
             }
+            8 => self.put_stay(line, second),
             1 => self.put_two(b"(bvule ", block_of(line), block_of(second)),
             2 => self.put_two(b"(bvule ", block_of(line), Term::constant(second + 1)),
             4 => {
@@ -183,6 +184,12 @@ impl<S: Sink> Writer<'_, S> {
         self.to.put(b" ");
         self.to.put(Term::constant(thread).spelling());
         self.to.put(b"))");
+    }
+
+    fn put_stay(&mut self, line: u16, before: u16) {
+        self.open_with_not_run(b"(or ", line);
+        self.put_two(b"(= ", block_of(line), block_of(before));
+        self.to.put(b")");
     }
 
     /// "X is Y": the equation, with a link for each source where both are variables.

@@ -138,11 +138,11 @@ pub fn put_eight(text: &mut [u8], start: usize, shape: Shape, k: u16, j: u16) ->
 {
     let block = Atom::Variable(block_variable(k));
     let before = Atom::Variable(block_variable(j));
-    let mut at = put(text, start, b"(or ");
-    at = put_not_run(text, at, shape, k);
-    at = put(text, at, b" ");
-    at = put_equal(text, at, block, before);
-    put(text, at, b")")
+    let mut place = put(text, start, b"(or ");
+    place = put_not_run(text, place, shape, k);
+    place = put(text, place, b" ");
+    place = put_equal(text, place, block, before);
+    put(text, place, b")")
 }
 
 // A 1: the block number of record k is at most that of record l.

@@ -343,11 +343,9 @@ fn nothing_visible(calls: &dyn Calls, tally: &mut Tally) -> Outcome {
         runs(calls, &draft, &schedule, Violated(4), &[], tally)?;
     }
     // Every other schedule that runs all lines violates too, and moves to one of them.
-    for (schedule, wanted) in [
-        ([0, 1, 0, 0, 1, 0, 0, 2, 0, 0], 1),
-        ([0, 3, 0, 0, 0, 0, 0, 1, 0, 0], 1),
-        ([0, 0, 0, 0, 1, 0, 0, 3, 0, 0], 4),
-    ] {
+    for (schedule, wanted) in
+        [([0, 1, 0, 0, 1, 0, 0, 2, 0, 0], 1), ([0, 3, 0, 0, 0, 0, 0, 1, 0, 0], 1), ([0, 0, 0, 0, 1, 0, 0, 3, 0, 0], 4)]
+    {
         runs(calls, &draft, &schedule, Violated(4), &[], tally)?;
         let mut all_there = [0; 10];
         all_there[wanted] = 4;

@@ -267,9 +267,9 @@ fn block_lengths_fit(case: &Case, schedule: &[u16]) -> Result<(), Refusal> {
 fn runs_late(case: &Case, schedule: &[u16]) -> bool {
     let mut next = vec![0; case.threads];
     let mut late = false;
-    for block in 0..=case.switches {
+    for (block, &length) in schedule[..=case.switches].iter().enumerate() {
         let thread = case.thread_of_block(block);
-        let length = usize::from(schedule[block]);
+        let length = usize::from(length);
         // Only the first line of a block comes after one of an earlier block.
         let first = case.chains[thread].get(next[thread]).copied().filter(|_| length > 0 && next[thread] > 0);
         late |= first.is_some_and(|line| !case.is_visible(line));

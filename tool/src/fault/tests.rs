@@ -124,7 +124,7 @@ fn what_lines_find() {
 fn moved_schedules() {
     let mut dice = Dice(13);
     let mut seen: BTreeMap<&str, usize> = BTreeMap::new();
-    for number in 0..3000 {
+    for number in 0..5000 {
         let loaded = loaded(&mut dice);
         let (case, schedule) = (&loaded.case, schedule(&mut dice, &loaded));
         let moved = moved(case, &schedule);
