@@ -7,6 +7,7 @@ use Rattle.model.specs.CaseFile.{Kind, compute, store, load, input, assert, ass
 use Rattle.model.specs.Line.{guardName, targetName, visible}
 use Rattle.model.specs.Copies.{copyOf}
 use Rattle.model.specs.Table.{Row, row, followRow, stayRows, lineOrderRows, orderRows, demandRows, valueRows, allOrderRows, allValueRows, itemRows, blockRows, runRows, goalRow, table}
+use Rattle.laws.proofs.StayRows.{stay-rows-by}
 use Rattle.goal_text.specs.Goal.{partHead, rowHead, rowHeads}
 
 module _ (case : Case) (sources : List ℕ) where
@@ -29,13 +30,8 @@ module _ (case : Case) (sources : List ℕ) where
   follow-none l (next ∷ ls) = refl
 
   stay-none : (earlier : List Line) (l : Line) → heads (stayRows earlier l) ≡ []
-  unfolding rowHeads rowHead stayRows
-  stay-none [] l = refl
-  stay-none (before ∷ earlier) l = go (visible (l .kind))
-    where
-      go : (q : Bool) → heads (cond q [] (row 8 (l .number) (before .number) 0 0 0 ∷ [])) ≡ []
-      go true = refl
-      go false = refl
+  unfolding rowHeads rowHead
+  stay-none earlier l = stay-rows-by (λ ws. heads ws ≡ []) earlier l refl (λ before. refl)
 
   line-order-none : (t : ℕ) (earlier : List Line) (l : Line) (ls : List Line) → heads (lineOrderRows case t earlier l ls) ≡ []
   unfolding rowHeads rowHead lineOrderRows

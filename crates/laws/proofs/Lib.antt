@@ -31,5 +31,6 @@ pub mod Memory
 pub mod Walk
 pub mod AllHold
 pub mod WithoutEights
+pub mod StayRows
 pub mod OrderRows
 pub mod RowReads

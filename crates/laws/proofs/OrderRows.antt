@@ -21,6 +21,7 @@ use Rattle.laws.proofs.Views.{EqView, same, diff, eq-view}
 use Rattle.laws.proofs.Unrun.{run-within-blocks}
 use Rattle.laws.proofs.AllHold.{all-hold-append, all-hold-split}
 use Rattle.laws.proofs.WithoutEights.{without-append}
+use Rattle.laws.proofs.StayRows.{stay-rows-by}
 
 -- Constraint 3 at a line with block number x.
 mine-of-three : (case : Case) (t x : ℕ) → not (wasRun case x) || eqb (x % case .T) t ≡ true → x ≤ case .n → x % case .T ≡ t
@@ -48,13 +49,8 @@ eight-of-stays case x y stays = go (wasRun case x) stays
 
 -- Without its 8 a line has its 3, and its 1 or 2.
 stay-without : (earlier : List Line) (l : Line) → withoutEights (stayRows earlier l) ≡ []
-unfolding stayRows withoutEights
-stay-without [] l = refl
-stay-without (before ∷ earlier) l = go (visible (l .kind))
-  where
-    go : (q : Bool) → withoutEights (cond q [] (row 8 (l .number) (before .number) 0 0 0 ∷ [])) ≡ []
-    go true = refl
-    go false = refl
+unfolding withoutEights
+stay-without earlier l = stay-rows-by (λ ws. withoutEights ws ≡ []) earlier l refl (λ before. refl)
 
 follow-without : (case : Case) (l : Line) (ls : List Line) → withoutEights (followRow case l ls ∷ []) ≡ followRow case l ls ∷ []
 unfolding followRow withoutEights

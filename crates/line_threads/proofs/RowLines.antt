@@ -13,6 +13,7 @@ use Rattle.laws.specs.Accepted.{Accepted}
 use Rattle.laws.specs.Order.{AllLines, AllThreads}
 use Rattle.laws.specs.RecordNumber.{RecordNumber}
 use Rattle.laws.proofs.AllLines.{all-threads}
+use Rattle.laws.proofs.StayRows.{stay-rows-by}
 use Rattle.line_threads.specs.Threads.{RowOf, RowsOf}
 use Rattle.line_threads.proofs.RecordLines.{lines-are-records}
 
@@ -41,13 +42,7 @@ module _ (case : Case) where
   follow-numbered l (next ∷ ls) is = (of-line (λ e. omega (arith, e)) is, tt)
 
   stay-numbered : (earlier : List Line) (l : Line) → Numbered (stayRows earlier l)
-  unfolding stayRows
-  stay-numbered [] l = tt
-  stay-numbered (before ∷ earlier) l = go (visible (l .kind))
-    where
-      go : (q : Bool) → Numbered (cond q [] (row 8 (l .number) (before .number) 0 0 0 ∷ []))
-      go true = tt
-      go false = (of-none (omega arith), tt)
+  stay-numbered earlier l = stay-rows-by Numbered earlier l tt (λ before. (of-none (omega arith), tt))
 
   line-order-numbered : (t : ℕ) (earlier : List Line) (l : Line) (ls : List Line) → IsRecord l → Numbered (lineOrderRows case t earlier l ls)
   unfolding lineOrderRows

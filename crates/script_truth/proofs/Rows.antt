@@ -23,6 +23,7 @@ use Rattle.script.specs.Assertions
 use Rattle.laws.specs.Order.{AllLines, AllThreads}
 use Rattle.laws.proofs.Views.{EqView, same, diff, eq-view}
 use Rattle.laws.proofs.RowReads.{guard-same, copy-reads}
+use Rattle.laws.proofs.StayRows.{stay-rows-by}
 use Rattle.script_truth.proofs.Links.{same-value}
 use Rattle.script_truth.proofs.Reading.{OwnBlock, before-value}
 use Rattle.script_truth.proofs.Fields.{Fields}
@@ -98,13 +99,8 @@ module _ (case : Case) (xs sources : List ℕ) where
     thread-agrees t l = or-where-run case (α .block (l .number)) _ _ (λ run. rw (ne-eqb (case .T) 0 (λ e. omega arith)))
 
     stay-agrees : (earlier : List Line) (l : Line) → AllAgree (stayRows earlier l)
-    unfolding stayRows assertionOf holds meets value tested joined assignmentOf
-    stay-agrees [] l = tt
-    stay-agrees (before ∷ earlier) l = go (visible (l .kind))
-      where
-        go : (q : Bool) → AllAgree (cond q [] (row 8 (l .number) (before .number) 0 0 0 ∷ []))
-        go true = tt
-        go false = (or-where-run case (α .block (l .number)) _ _ (λ run. refl), tt)
+    unfolding assertionOf holds meets value tested joined assignmentOf
+    stay-agrees earlier l = stay-rows-by AllAgree earlier l tt (λ before. (or-where-run case (α .block (l .number)) _ _ (λ run. refl), tt))
 
     follow-agrees : (l : Line) (ls : List Line) → Agrees (followRow case l ls)
     unfolding followRow assertionOf holds meets value tested assignmentOf

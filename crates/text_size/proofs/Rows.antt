@@ -16,6 +16,7 @@ use Rattle.model.specs.Holds.{fromRecord}
 use Rattle.model.specs.Table.{Row, row, followRow, stayRows, lineOrderRows, orderRows, valueRow, demandRows, valueRows, allOrderRows, allValueRows, itemRows, blockRows}
 use Rattle.laws.specs.Order.{AllLines, AllThreads}
 use Rattle.laws.proofs.Counting.{sumFrom}
+use Rattle.laws.proofs.StayRows.{stay-rows-by}
 use Rattle.smt.specs.Term.{constant, Formula, select}
 use Rattle.smt.specs.Spelling.{ascii, formulaText, assertion, assertionLines}
 use Rattle.script.specs.Assertions.{mostSources, equal, blockOf, valueOf, blockValue, valueBefore, same, ownBlocks, demandAssertion, walkBack, someBreaks, someThreadBreaks, assertionOf, assertionsOf}
@@ -59,13 +60,8 @@ module _ (case : Case) (sources : List ℕ) where
   thread-size t l = omega arith
 
   stay-size : (earlier : List Line) (l : Line) → rowsSize (stayRows earlier l) ≤ 50
-  unfolding stayRows rowsSize assertionOf size
-  stay-size [] l = omega arith
-  stay-size (before ∷ earlier) l = go (visible (l .kind))
-    where
-      go : (q : Bool) → rowsSize (cond q [] (row 8 (l .number) (before .number) 0 0 0 ∷ [])) ≤ 50
-      go true = omega arith
-      go false = omega arith
+  unfolding rowsSize assertionOf size
+  stay-size earlier l = stay-rows-by (λ ws. rowsSize ws ≤ 50) earlier l (omega arith) (λ before. omega arith)
 
   line-order-size : (t : ℕ) (earlier : List Line) (l : Line) (ls : List Line) → rowsSize (lineOrderRows case t earlier l ls) ≤ 147
   unfolding lineOrderRows rowsSize

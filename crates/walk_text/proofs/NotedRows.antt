@@ -11,6 +11,7 @@ use lib.ListN.{length, getD}
 use Rattle.model.specs.CaseFile.{Kind, compute, store, load, input, assert, assume, lock, unlock, Line, Case, linesOf, itemCount}
 use Rattle.model.specs.Line.{visible}
 use Rattle.model.specs.Table.{Row, row, followRow, stayRows, demandRows, allOrderRows, allValueRows, itemRows, blockRows, runRows, goalRow, table, numbersOf}
+use Rattle.laws.proofs.StayRows.{stay-rows-by}
 use Rattle.walk_text.specs.Previous.{HasTable, noted, notedRow, notedFrom}
 
 -- A row in front of other numbers.
@@ -95,13 +96,8 @@ module _ (which place : ℕ) (case : Case) where
 
   stay-none : eqb 8 which ≡ false → (earlier : List Line) (l : Line) (ws : List Row) (notes : List ℕ)
       → notedIn (stayRows earlier l ++ ws) notes ≡ notedIn ws notes
-  unfolding stayRows
-  stay-none eight [] l ws notes = refl
-  stay-none eight (before ∷ earlier) l ws notes = go (visible (l .kind))
-    where
-      go : (q : Bool) → notedIn (cond q [] (row 8 (l .number) (before .number) 0 0 0 ∷ []) ++ ws) notes ≡ notedIn ws notes
-      go true = refl
-      go false = other-first _ ws notes eight
+  stay-none eight earlier l ws notes =
+      stay-rows-by (λ us. notedIn (us ++ ws) notes ≡ notedIn ws notes) earlier l refl (λ before. other-first (row 8 (l .number) (before .number) 0 0 0) ws notes eight)
 
   -- The order rows of a line behind its 3.
   pub behind-none : eqb 8 which ≡ false → eqb 1 which ≡ false → eqb 2 which ≡ false → (earlier : List Line) (l : Line) (ls : List Line) (ws : List Row)

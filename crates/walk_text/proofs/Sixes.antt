@@ -8,6 +8,7 @@ use Rattle.model.specs.CaseFile.{Kind, compute, store, load, input, assert, ass
 use Rattle.model.specs.Line.{visible}
 use Rattle.model.specs.Table.{Row, row, followRow, stayRows, lineOrderRows, orderRows, demandRows, valueRows, allOrderRows, allValueRows, itemRows, blockRows, runRows, goalRow, table}
 use Rattle.laws.specs.Accepted.{Accepted}
+use Rattle.laws.proofs.StayRows.{stay-rows-by}
 use Rattle.walk_text.specs.Walk.{PreviousCopies, linesBack, SixesWalk}
 use Rattle.walk_text.proofs.WalkBack.{six-walked}
 
@@ -26,13 +27,7 @@ module _ (case : Case) (sources previous : List ℕ) where
   follow-walks l (next ∷ ls) = ((λ e. absurd (omega (arith, e))), tt)
 
   stay-walks : (earlier : List Line) (l : Line) → Walks (stayRows earlier l)
-  unfolding stayRows
-  stay-walks [] l = tt
-  stay-walks (before ∷ earlier) l = go (visible (l .kind))
-    where
-      go : (q : Bool) → Walks (cond q [] (row 8 (l .number) (before .number) 0 0 0 ∷ []))
-      go true = tt
-      go false = ((λ e. absurd (omega (arith, e))), tt)
+  stay-walks earlier l = stay-rows-by Walks earlier l tt (λ before. ((λ e. absurd (omega (arith, e))), tt))
 
   line-order-walks : (t : ℕ) (earlier : List Line) (l : Line) (ls : List Line) → Walks (lineOrderRows case t earlier l ls)
   unfolding lineOrderRows
