@@ -4,7 +4,7 @@ use mathlib.Core.Path.{_≡_, refl, sym, ap, _∙_}
 use mathlib.Core.Logic.{_≢_, _⊎_, inl, inr}
 use Prim.Native.Nat.{ℕ, _+_, _*_, _≤_}
 use mathlib.Core.Bool.{Bool, true, false, cond}
-use mathlib.Core.List.{List, [], _∷_, _++_}
+use mathlib.Core.List.{List, [], _∷_}
 use native.Mathlib.Omega.{arith}
 use native.Mathlib.Numerals.{add-one, add-two, add-three, add-four, add-five}
 use borrow.Author.Tests.{ne-eqb}
@@ -67,9 +67,9 @@ module _ (link : Link) (case : Case) (earlier : List Line) (l : Line) where
       (put-then (put-one ea (ev ∙ rw (s .line, eT))) (put-then put (put-one ee ew)))
 
 -- an 8, by whether the line has one, and how many numbers it is
-module _ (link : Link) {r q : Bool} (is : r ≡ hasEight (eqb (link .before) 0) (kindOf (link .kind))) (h : r ≡ q) where
-  pub eight-by : eightOf link ≡ cond q (row 8 (link .line) (link .before) 0 0 0 ∷ []) []
-  eight-by = ap (λ (x : Bool). cond x (row 8 (link .line) (link .before) 0 0 0 ∷ []) []) (sym is ∙ h)
+pub eight-by : (link : Link) {r q : Bool} → r ≡ hasEight (eqb (link .before) 0) (kindOf (link .kind)) → r ≡ q
+    → eightOf link ≡ cond q (row 8 (link .line) (link .before) 0 0 0 ∷ []) []
+eight-by link is h = ap (λ (x : Bool). cond x (row 8 (link .line) (link .before) 0 0 0 ∷ []) []) (sym is ∙ h)
 
 pub eight-size : (link : Link) → 12 + length (numbersOf (eightOf link)) ≡ 6 * orderRowCount (eqb (link .before) 0) (kindOf (link .kind))
 unfolding numbersOf
