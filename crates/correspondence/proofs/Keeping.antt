@@ -1,7 +1,7 @@
 -- Five: a schedule keeps the rule just where the invisible lines of its assignment stay in the blocks of the lines before them.
 -- Assumes nothing. Met again in Demand3.
-use mathlib.Core.Path.{_≡_, refl, sym, ap, _∙_, subst}
-use Prim.Native.Nat.{ℕ, zero, suc, _+_, _%_, _≤_, _<_}
+use mathlib.Core.Path.{_≡_, refl, sym, _∙_, subst}
+use Prim.Native.Nat.{ℕ, zero, suc, _+_, _%_, _≤_}
 use mathlib.Core.Bool.{Bool, true, false, cond, not, _&&_, true≢false}
 use mathlib.Core.List.{List, [], _∷_, _++_, map}
 use native.Mathlib.Omega.{arith}
@@ -10,11 +10,11 @@ use lib.Dec.{ltb, eqb}
 use lib.ListN.{getD, length}
 use Rattle.model.specs.CaseFile.{Line, Case, linesOf}
 use Rattle.model.specs.Line.{visible}
-use Rattle.model.specs.Assignment.{Assignment, assignmentOf, wasRun}
+use Rattle.model.specs.Assignment.{Assignment, assignmentOf}
 use Rattle.model.specs.Machine.{Memory, State, stepped, start, restIn, memoryIn}
 use Rattle.model.specs.Schedule.{scheduleSize, blockLengths, givenIn, decode}
 use Rattle.model.specs.Runs.{Step, blockSteps, nextState, course, lastState, threadSteps, NoneLate, KeepsRule}
-use Rattle.laws.specs.Order.{AllLines, AllThreads, Ordered, StaysAfter, Stays}
+use Rattle.laws.specs.Order.{AllLines, AllThreads, Ordered, Stays}
 use Rattle.laws.proofs.Views.{LtView, below, above, lt-view}
 use Rattle.laws.proofs.Unrun.{run-within-blocks, unrun-past-blocks}
 use Rattle.laws.proofs.AllLines.{each-thread}

@@ -12,17 +12,16 @@ use lib.ListN.{getD}
 use Rattle.model.specs.Word.{bit, nonzero}
 use Rattle.model.specs.Limits.{localCount}
 use Rattle.model.specs.CaseFile.{Kind, compute, store, load, input, assert, assume, lock, unlock, Line, Case, linesOf, itemCount, sumOfLines, sumOfThreads, hasNumber}
-use Rattle.model.specs.Line.{noName, itemName, localName, guardName, nameOfA, nameOfB, nameOfTarget, operandA, operandB, targetName, hasExpression, readsOf, Reads, guardTrue, breaks, visible, isInput}
+use Rattle.model.specs.Line.{noName, itemName, localName, guardName, nameOfA, nameOfB, nameOfTarget, operandA, operandB, targetName, hasExpression, readsOf, Reads, breaks, visible}
 use Rattle.model.specs.Assignment.{Assignment, wasRun}
 use Rattle.model.specs.Copies.{latest, valueBefore, readLocal, readItem, readName, readAfter, readsAfter, walkBack}
 use Rattle.model.specs.Schedule.{decodedValues, allDecodedValues}
 use Rattle.laws.specs.Order.{AllLines, AllThreads, Ordered, Stays}
-use Rattle.laws.proofs.Views.{EqView, same, diff, eq-view, LtView, below, above, lt-view, BothTrue, and-true}
+use Rattle.laws.proofs.Views.{EqView, same, diff, eq-view, LtView, below, above, lt-view, and-true}
 use Rattle.laws.proofs.Unrun.{run-within-blocks, within-blocks-of-run}
 use Rattle.laws.proofs.AllLines.{all-threads}
-use Rattle.laws.proofs.Copies.{readName-no-name, latest-target, latest-other}
-use Rattle.laws.proofs.Walk.{walkBack-past-other-target}
-use Rattle.correspondence.specs.Meaning.{WellFormed, Demanded, LineMet, LinesMet, Meets, AllStay, breaksIn, breakCount}
+use Rattle.laws.proofs.Copies.{readName-no-name}
+use Rattle.correspondence.specs.Meaning.{WellFormed, LinesMet, Meets, AllStay, breaksIn, breakCount}
 use Rattle.correspondence.specs.Trace.{Event}
 use Rattle.correspondence.specs.Agreement.{sumOfEvents, Agrees}
 use Rattle.correspondence.specs.Fill.{blockIn, traced}

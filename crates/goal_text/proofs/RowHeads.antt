@@ -1,12 +1,11 @@
 -- The rows of the table that put something are the 4s, and each puts the part of its line. Assumes nothing. Met again in GoalText.
 use mathlib.Core.Path.{_≡_, refl, sym, ap, _∙_}
 use Prim.Native.Nat.{ℕ, zero, suc, _%_}
-use mathlib.Core.Bool.{Bool, true, false, cond}
 use mathlib.Core.List.{List, [], _∷_, _++_, reverse, append-assoc, append-nil}
 use Rattle.model.specs.CaseFile.{Kind, compute, store, load, input, assert, assume, lock, unlock, Line, Case, linesOf, itemCount, lineAt}
-use Rattle.model.specs.Line.{guardName, targetName, visible}
+use Rattle.model.specs.Line.{guardName, targetName}
 use Rattle.model.specs.Copies.{copyOf}
-use Rattle.model.specs.Table.{Row, row, followRow, stayRows, lineOrderRows, orderRows, demandRows, valueRows, allOrderRows, allValueRows, itemRows, blockRows, runRows, goalRow, table}
+use Rattle.model.specs.Table.{Row, followRow, stayRows, lineOrderRows, orderRows, demandRows, valueRows, allOrderRows, allValueRows, itemRows, blockRows, runRows, goalRow, table}
 use Rattle.laws.proofs.StayRows.{stay-rows-by}
 use Rattle.goal_text.specs.Goal.{partHead, rowHead, rowHeads}
 

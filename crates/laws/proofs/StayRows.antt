@@ -1,6 +1,5 @@
 -- The 8 of a line: there is none, or one with the line before it.
 -- Assumes nothing. Met again wherever order rows are gone through one by one.
-use Prim.Native.Nat.{ℕ}
 use mathlib.Core.Bool.{Bool, true, false, cond}
 use mathlib.Core.List.{List, [], _∷_}
 use Rattle.model.specs.CaseFile.{Line}

@@ -8,7 +8,6 @@ use lib.Dec.{eqb}
 use Rattle.model.specs.CaseFile.{Kind, compute, store, load, input, assert, assume, lock, unlock, Line, Case, linesOf, itemCount}
 use Rattle.model.specs.Assignment.{Assignment}
 use Rattle.model.specs.Table.{Row, valueRow, demandRows, valueRows, allValueRows, itemRows, blockRows, withoutEights}
-use Rattle.model.specs.Holds.{holds}
 use Rattle.laws.specs.AllHold.{AllHold}
 
 pub without-append : (ws us : List Row) → withoutEights (ws ++ us) ≡ withoutEights ws ++ withoutEights us

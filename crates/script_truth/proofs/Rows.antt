@@ -11,7 +11,7 @@ use lib.Dec.{eqb}
 use borrow.Author.Tests.{eq-eqb, ne-eqb}
 use Rattle.model.specs.Limits.{localCount}
 use Rattle.model.specs.CaseFile.{Kind, compute, store, load, input, assert, assume, lock, unlock, Line, Case, linesOf, itemCount, lineAt}
-use Rattle.model.specs.Line.{noName, itemName, guardName, targetName, Reads, guardTrue, holder, breaks, visible}
+use Rattle.model.specs.Line.{noName, itemName, guardName, targetName, Reads, guardTrue, holder, breaks}
 use Rattle.model.specs.Assignment.{Assignment, assignmentOf, wasRun}
 use Rattle.model.specs.Copies.{copyOf, readsAfter, walkBack}
 use Rattle.model.specs.Table.{Row, row, followRow, stayRows, lineOrderRows, orderRows, valueRow, demandRows, valueRows, allOrderRows, allValueRows, itemRows, blockRows, goalRow, withoutEights}

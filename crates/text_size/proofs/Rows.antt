@@ -10,7 +10,7 @@ use lib.Dec.{eqb}
 use lib.ListN.{length, length-append, length-reverse}
 use Rattle.model.specs.Limits.{mostLines, mostItems}
 use Rattle.model.specs.CaseFile.{Kind, compute, store, load, input, assert, assume, lock, unlock, Line, Case, linesOf, itemCount, lineAt, sumOfLines}
-use Rattle.model.specs.Line.{itemName, targetName, guardName, operandA, operandB, visible}
+use Rattle.model.specs.Line.{itemName, targetName, guardName, operandA, operandB}
 use Rattle.model.specs.Copies.{latest, copyOf}
 use Rattle.model.specs.Holds.{fromRecord}
 use Rattle.model.specs.Table.{Row, row, followRow, stayRows, lineOrderRows, orderRows, valueRow, demandRows, valueRows, allOrderRows, allValueRows, itemRows, blockRows}

@@ -2,14 +2,13 @@
 -- Assumes nothing. Met again in Previous, and where other numbers of the rows are noted.
 use mathlib.Core.Path.{_≡_, refl, ap, _∙_}
 use Prim.Native.Nat.{ℕ, zero, suc, _+_, _*_, _%_, _<_}
-use mathlib.Core.Bool.{Bool, true, false, cond}
+use mathlib.Core.Bool.{false}
 use mathlib.Core.List.{List, [], _∷_, _++_, reverse, append-assoc}
 use native.Mathlib.Omega.{arith}
 use native.Mathlib.Nat.{zero-add}
 use lib.Dec.{eqb}
 use lib.ListN.{length, getD}
 use Rattle.model.specs.CaseFile.{Kind, compute, store, load, input, assert, assume, lock, unlock, Line, Case, linesOf, itemCount}
-use Rattle.model.specs.Line.{visible}
 use Rattle.model.specs.Table.{Row, row, followRow, stayRows, demandRows, allOrderRows, allValueRows, itemRows, blockRows, runRows, goalRow, table, numbersOf}
 use Rattle.laws.proofs.StayRows.{stay-rows-by}
 use Rattle.walk_text.specs.Previous.{HasTable, noted, notedRow, notedFrom}

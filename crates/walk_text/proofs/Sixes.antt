@@ -1,12 +1,10 @@
 -- Each 6 of an accepted case's table has the walk over its copies as its assertion.
 -- Assumes nothing. Met again where the assertions of all rows are written.
 use Prim.Native.Nat.{ℕ, zero, suc, _+_, _≤_}
-use mathlib.Core.Bool.{Bool, true, false, cond}
 use mathlib.Core.List.{List, [], _∷_, _++_}
 use native.Mathlib.Omega.{arith}
 use Rattle.model.specs.CaseFile.{Kind, compute, store, load, input, assert, assume, lock, unlock, Line, Case, caseOf, itemCount}
-use Rattle.model.specs.Line.{visible}
-use Rattle.model.specs.Table.{Row, row, followRow, stayRows, lineOrderRows, orderRows, demandRows, valueRows, allOrderRows, allValueRows, itemRows, blockRows, runRows, goalRow, table}
+use Rattle.model.specs.Table.{Row, followRow, stayRows, lineOrderRows, orderRows, demandRows, valueRows, allOrderRows, allValueRows, itemRows, blockRows, runRows, goalRow, table}
 use Rattle.laws.specs.Accepted.{Accepted}
 use Rattle.laws.proofs.StayRows.{stay-rows-by}
 use Rattle.walk_text.specs.Walk.{PreviousCopies, linesBack, SixesWalk}
