@@ -2,13 +2,13 @@
 -- Assumes nothing.
 use mathlib.Core.Path.{_≡_}
 use Prim.Native.Nat.{ℕ, zero, suc, _%_, _≤_, _<_}
-use mathlib.Core.Bool.{Bool, true, false, cond, not, _&&_}
+use mathlib.Core.Bool.{Bool, true, false, cond, _&&_}
 use mathlib.Core.List.{List, [], _∷_, _++_, map}
-use lib.Dec.{eqb, ltb}
+use lib.Dec.{eqb}
 use lib.ListN.{length}
 use Rattle.model.specs.Word.{wordSize, AllBelow}
 use Rattle.model.specs.CaseFile.{Line, Case, linesOf}
-use Rattle.model.specs.Line.{Reads, valueOf, stops, breaks, visible, strayInput}
+use Rattle.model.specs.Line.{Reads, valueOf, stops, breaks, late, strayInput}
 use Rattle.model.specs.Machine.{Memory, State, readsIn, stepped, start, restIn, memoryIn, afterBlock, firstStrayLeft}
 use Rattle.model.specs.Schedule.{blockLengths, givenIn, scheduleSize, stepsOf, lengthsFit}
 
@@ -103,19 +103,32 @@ threadSteps case t (s ∷ steps) = cond (eqb t (s .block % case .T)) (s ∷ thre
 abbrev pub linesRun : Case → ℕ → List Step → List Line
 linesRun case t steps = map (λ s. s .line) (threadSteps case t steps)
 
--- Five: "An invisible line that is not its thread's first takes the block number of the line before it". Whether a step of a thread runs
--- an invisible line in a later block than the line before it; that none of a thread's steps does; and that none of a schedule's does:
--- "the schedules that keep the rule".
-abbrev pub late : Step → Step → Bool
-late before s = not (visible (s .line .kind)) && ltb (before .block) (s .block)
-
+-- Five: "An invisible line that is not its thread's first takes the block number of the line before it". None of a thread's steps runs an
+-- invisible line in a later block than the line before it; and none of a schedule's does: "the schedules that keep the rule".
 abbrev pub NoneLate : List Step → Type 0
 NoneLate [] = Unit
 NoneLate (before ∷ []) = Unit
-NoneLate (before ∷ (s ∷ steps)) = (late before s ≡ false) × NoneLate (s ∷ steps)
+NoneLate (before ∷ (s ∷ steps)) = (late (s .line .kind) (before .block) (s .block) ≡ false) × NoneLate (s ∷ steps)
 
 abbrev pub KeepsRule : Case → List ℕ → Type 0
 KeepsRule case schedule = (t : ℕ) → t < case .T → NoneLate (threadSteps case t (courseOf case schedule))
+
+-- Six: "the first such record by thread and chain": that of the first such step among a thread's, and among those of all threads.
+abbrev pub IfLate : Bool → Type 0 → Type 0 → Type 0
+IfLate true own others = own
+IfLate false own others = others
+
+abbrev pub ThreadLate : List Step → ℕ → Type 0
+ThreadLate [] k = ⊥
+ThreadLate (before ∷ []) k = ⊥
+ThreadLate (before ∷ (s ∷ steps)) k =
+    IfLate (late (s .line .kind) (before .block) (s .block)) (s .line .number ≡ k) (ThreadLate (s ∷ steps) k)
+
+pub record FirstLate (case : Case) (schedule : List ℕ) (k : ℕ) : Type 0 where
+  pub thread : ℕ
+  pub is-thread : thread < case .T
+  pub none-before : (t : ℕ) → t < thread → NoneLate (threadSteps case t (courseOf case schedule))
+  pub here : ThreadLate (threadSteps case thread (courseOf case schedule)) k
 
 -- Two: "A run is legal when nothing cuts it off", that is "when every guarded-in assume holds and every guarded-in lock finds its mutex
 -- at 0."
