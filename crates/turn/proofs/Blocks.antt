@@ -1,29 +1,33 @@
 -- The loop of a block: after some of its steps, what is left of it decides.
 -- Assumes nothing.
-use mathlib.Core.Path.{_≡_, refl, sym, ap, _∙_}
+use mathlib.Core.Path.{_≡_, refl, sym, ap, ap₂, _∙_}
 use mathlib.Core.Logic.{_≢_}
 use Prim.Native.Nat.{ℕ, zero, suc, _-_, _≤_, _<_}
 use mathlib.Core.Bool.{true, false}
 use mathlib.Core.List.{List, [], _∷_}
 use native.Mathlib.Omega.{arith}
-use lib.ListN.{drop}
+use lib.ListN.{length, drop, length-set}
 use Rattle.model.specs.CaseFile.{Line, records, nextRecord, lineOf, caseOf}
 use Rattle.model.specs.Machine.{Memory, BlockEnd, passed, runBlock}
+use Rattle.model.specs.Runs.{Step, blockSteps}
+use Rattle.model.specs.Fill.{putSteps}
 use Rattle.laws.specs.Accepted.{Accepted, linesFrom}
 use Rattle.laws.proofs.Chains.{linesFrom-end}
 use Rattle.turn.specs.declared.Stand.{Stand}
 use Rattle.turn.specs.declared.Stand.the-variants.{Running, Strayed, Stopped}
 use Rattle.turn.specs.declared.Turn.{Turn}
 use Rattle.turn.specs.TurnState.{memoryOf, linesLeft, givenBy, isRunning}
-use Rattle.turn.specs.Promises.{endBy, endOf, continued, endAfter, BlockRan}
-use Rattle.turn.proofs.Steps.{Stepped}
+use Rattle.turn.specs.Promises.{endBy, endOf, continued, endAfter, BlockRan, traceAfter, BlockRecorded}
+use Rattle.turn.proofs.Steps.{Stepped, StepTraced}
 
--- After some of the steps of a block of thread t, with so many left: the run goes on.
-pub record Stepping (bytes givens : List ℕ) (t steps : ℕ) (turn₀ : Turn) (left : ℕ) (turn : Turn) : Type 0 where
+-- After some of the steps of block i, of thread t, with so many left: the run goes on.
+pub record Stepping (bytes givens : List ℕ) (t i steps : ℕ) (turn₀ : Turn) (trace₀ : List ℕ) (left : ℕ) (turn : Turn) (trace : List ℕ) : Type 0 where
   pub does : endAfter bytes givens t left turn ≡ endAfter bytes givens t steps turn₀
   pub runs : turn .stand ≡ Running
   pub moves : drop left (linesLeft bytes t turn) ≡ drop steps (linesLeft bytes t turn₀)
   pub within : turn .next ≤ records bytes
+  pub traced : traceAfter bytes givens t i left turn trace ≡ traceAfter bytes givens t i steps turn₀ trace₀
+  pub size : length trace ≡ length trace₀
 
 running-of : (stand : Stand) → isRunning stand ≡ true → stand ≡ Running
 running-of Running e = refl
@@ -66,43 +70,76 @@ unfolding runBlock
 no-steps bytes givens zero ls h m note = refl
 no-steps bytes givens (suc n) ls h m note = absurd (omega arith)
 
+-- and no step puts anything in the trace
+nothing-traced : (bytes givens : List ℕ) (i left : ℕ) (ls : List Line) → ls ≡ [] → (m : Memory)
+    → blockSteps (caseOf bytes) (givenBy givens) i left ls m ≡ []
+nothing-traced bytes givens i zero ls e m = refl
+nothing-traced bytes givens i (suc n) ls e m = rw e
+
+none-traced : (bytes givens : List ℕ) (i left : ℕ) (ls : List Line) → left ≤ 0 → (m : Memory)
+    → blockSteps (caseOf bytes) (givenBy givens) i left ls m ≡ []
+none-traced bytes givens i zero ls h m = refl
+none-traced bytes givens i (suc n) ls h m = absurd (omega arith)
+
 drop-none : (n : ℕ) (ls : List Line) → n ≤ 0 → drop n ls ≡ ls
 drop-none zero ls h = refl
 drop-none (suc n) ls h = absurd (omega arith)
 
-module _ (bytes givens : List ℕ) (t steps : ℕ) (turn₀ : Turn) where
+module _ (bytes givens : List ℕ) (t i steps : ℕ) (turn₀ : Turn) (trace₀ : List ℕ) where
   abbrev next : ℕ → List Line → Memory → ℕ → BlockEnd
   next = runBlock (caseOf bytes) (givenBy givens)
 
-  module _ (low : turn₀ .next ≤ records bytes) where
-    pub stepping-start : isRunning (turn₀ .stand) ≡ true → Stepping bytes givens t steps turn₀ steps turn₀
-    stepping-start runs = record { does = refl; runs = running-of (turn₀ .stand) runs; moves = refl; within = low }
+  abbrev put : List Step → List ℕ → List ℕ
+  put = putSteps (caseOf bytes) (givenBy givens)
 
-    pub run-ended : isRunning (turn₀ .stand) ≡ false → BlockRan bytes givens t steps turn₀ turn₀
-    run-ended ended = record {
-      does = halts bytes (turn₀ .stand) turn₀ (next steps (linesLeft bytes t turn₀)) ended;
-      moves = never-running (turn₀ .stand) ended;
+  abbrev Recorded : Turn → List ℕ → Type 0
+  Recorded after trace = BlockRecorded bytes givens t i steps turn₀ after trace₀ trace
+
+  module _ (low : turn₀ .next ≤ records bytes) where
+    pub stepping-start : isRunning (turn₀ .stand) ≡ true → Stepping bytes givens t i steps turn₀ trace₀ steps turn₀ trace₀
+    stepping-start runs = record {
+      does = refl;
+      runs = running-of (turn₀ .stand) runs;
+      moves = refl;
       within = low;
+      traced = refl;
+      size = refl;
     }
 
-  module _ {left : ℕ} {turn : Turn} (g : Stepping bytes givens t steps turn₀ left turn) where
-    pub block-ends : left ≤ 0 → BlockRan bytes givens t steps turn₀ turn
+    pub run-ended : isRunning (turn₀ .stand) ≡ false → Recorded turn₀ trace₀
+    run-ended ended = record {
+      ran = record {
+        does = halts bytes (turn₀ .stand) turn₀ (next steps (linesLeft bytes t turn₀)) ended;
+        moves = never-running (turn₀ .stand) ended;
+        within = low;
+      };
+      traced = never-running (turn₀ .stand) ended;
+    }
+
+  module _ {left : ℕ} {turn : Turn} {trace : List ℕ} (g : Stepping bytes givens t i steps turn₀ trace₀ left turn trace) where
+    pub block-ends : left ≤ 0 → Recorded turn trace
     block-ends none =
         let rest = linesLeft bytes t turn in
         record {
-          does = sym (g .does) ∙ passes bytes (turn .stand) turn (next left rest) (no-steps bytes givens left rest none);
-          moves = λ _. sym (drop-none left rest none) ∙ g .moves;
-          within = g .within;
+          ran = record {
+            does = sym (g .does) ∙ passes bytes (turn .stand) turn (next left rest) (no-steps bytes givens left rest none);
+            moves = λ _. sym (drop-none left rest none) ∙ g .moves;
+            within = g .within;
+          };
+          traced = λ _. ap (λ (x : List Step). put x trace) (sym (none-traced bytes givens i left rest none (memoryOf bytes turn))) ∙ g .traced;
         }
 
-    pub thread-ends : turn .next ≡ 0 → BlockRan bytes givens t steps turn₀ turn
+    pub thread-ends : turn .next ≡ 0 → Recorded turn trace
     thread-ends ended =
         let rest = linesLeft bytes t turn in
         let none : rest ≡ [] = ap (linesFrom bytes t) ended ∙ linesFrom-end bytes t in
         record {
-          does = sym (g .does) ∙ passes bytes (turn .stand) turn (next left rest) (nothing-left bytes givens left rest none);
-          moves = λ _. none ∙ sym (drop-nothing left) ∙ ap (drop left) (sym none) ∙ g .moves;
-          within = g .within;
+          ran = record {
+            does = sym (g .does) ∙ passes bytes (turn .stand) turn (next left rest) (nothing-left bytes givens left rest none);
+            moves = λ _. none ∙ sym (drop-nothing left) ∙ ap (drop left) (sym none) ∙ g .moves;
+            within = g .within;
+          };
+          traced = λ _. ap (λ (x : List Step). put x trace) (sym (nothing-traced bytes givens i left rest none (memoryOf bytes turn))) ∙ g .traced;
         }
 
     -- One line more.
@@ -127,18 +164,32 @@ module _ (bytes givens : List ℕ) (t steps : ℕ) (turn₀ : Turn) where
           ∙ sym (goes bytes (turn .stand) turn (next left (linesLeft bytes t turn)) (g .runs))
           ∙ g .does
 
-      pub line-ends : isRunning (after .stand) ≡ false → after .next ≤ records bytes → BlockRan bytes givens t steps turn₀ after
+      pub line-ends : isRunning (after .stand) ≡ false → after .next ≤ records bytes → Recorded after trace
       line-ends ended low = record {
-        does = sym does-line ∙ halts bytes (after .stand) after (next n later) ended;
-        moves = never-running (after .stand) ended;
-        within = low;
+        ran = record {
+          does = sym does-line ∙ halts bytes (after .stand) after (next n later) ended;
+          moves = never-running (after .stand) ended;
+          within = low;
+        };
+        traced = never-running (after .stand) ended;
       }
 
-      pub stepping-on : after .stand ≡ turn .stand → after .next ≡ nextRecord bytes (turn .next) → Stepping bytes givens t steps turn₀ n after
-      stepping-on runs moves = record {
-        does = ap (λ (x : ℕ). continued (endOf bytes after) (next n (linesFrom bytes t x))) moves ∙ does-line;
-        runs = runs ∙ g .runs;
-        moves = ap (λ (x : ℕ). drop n (linesFrom bytes t x)) moves ∙ ap (drop (suc n)) (sym rest-is)
-            ∙ ap (λ (x : ℕ). drop x (linesLeft bytes t turn)) (sym left-is) ∙ g .moves;
-        within = omega (arith, moves, ok .nexts (turn .next) (omega arith) (g .within));
-      }
+      module _ (trace' : List ℕ) (p : StepTraced bytes givens t i turn after trace trace') where
+        traces-line : put (blockSteps (caseOf bytes) (givenBy givens) i n later (memoryOf bytes after)) trace' ≡ traceAfter bytes givens t i steps turn₀ trace₀
+        traces-line =
+            ap₂ (λ (x : Memory) (y : List ℕ). put (blockSteps (caseOf bytes) (givenBy givens) i n later x) y) (sym (p .memory)) (p .record-put)
+            ∙ ap (λ (x : List Line). put (blockSteps (caseOf bytes) (givenBy givens) i (suc n) x (memoryOf bytes turn)) trace) (sym rest-is)
+            ∙ ap (λ (x : ℕ). traceAfter bytes givens t i x turn trace) (sym left-is)
+            ∙ g .traced
+
+        pub stepping-on : after .stand ≡ turn .stand → after .next ≡ nextRecord bytes (turn .next)
+            → Stepping bytes givens t i steps turn₀ trace₀ n after trace'
+        stepping-on runs moves = record {
+          does = ap (λ (x : ℕ). continued (endOf bytes after) (next n (linesFrom bytes t x))) moves ∙ does-line;
+          runs = runs ∙ g .runs;
+          moves = ap (λ (x : ℕ). drop n (linesFrom bytes t x)) moves ∙ ap (drop (suc n)) (sym rest-is)
+              ∙ ap (λ (x : ℕ). drop x (linesLeft bytes t turn)) (sym left-is) ∙ g .moves;
+          within = omega (arith, moves, ok .nexts (turn .next) (omega arith) (g .within));
+          traced = ap (λ (x : ℕ). put (blockSteps (caseOf bytes) (givenBy givens) i n (linesFrom bytes t x) (memoryOf bytes after)) trace') moves ∙ traces-line;
+          size = ap length (p .record-put) ∙ simp length-set (g .size);
+        }

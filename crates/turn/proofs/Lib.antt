@@ -1,3 +1,4 @@
 pub mod LineKinds
+pub mod Traces
 pub mod Steps
 pub mod Blocks

@@ -10,6 +10,7 @@ use Rattle.model.specs.Limits.{mostItems}
 use Rattle.model.specs.CaseFile.{Line, globalCount, lineOf, caseOf}
 use Rattle.model.specs.Line.{Reads, noName, targetName, guardTrue, valueOf, stops, strayInput}
 use Rattle.model.specs.Machine.{putLocal, putItem, noted, readsIn, stepped, runBlock}
+use Rattle.model.specs.Fill.{putRecord}
 use Rattle.case_file.specs.declared.Record.{Record}
 use Rattle.case_file.specs.Records.{recordOf, asLine}
 use Rattle.line.specs.CaseCounts.{HasCounts}
@@ -29,14 +30,14 @@ put-nothing name value xs = refl
 
 -- A name and its value where `on` is true, and no name otherwise.
 module _ (name target value value' : ℕ) where
-  put-local : (on : Bool) (xs : List ℕ) → name ≡ cond on target noName → (on ≡ true → value ≡ value') → putLocal true name value xs ≡ putLocal on target value' xs
+  put-local : (on : Bool) (xs : List ℕ) → name ≡ cond on target noName → value ≡ value' → putLocal true name value xs ≡ putLocal on target value' xs
   unfolding putLocal
-  put-local true xs is gives = rw (is, gives refl)
+  put-local true xs is gives = rw (is, gives)
   put-local false xs is gives = rw is
 
-  put-item : (on : Bool) (count : ℕ) (xs : List ℕ) → count ≤ mostItems → name ≡ cond on target noName → (on ≡ true → value ≡ value')
+  put-item : (on : Bool) (count : ℕ) (xs : List ℕ) → count ≤ mostItems → name ≡ cond on target noName → value ≡ value'
       → putItem true name value (take count xs) ≡ putItem on target value' (take count xs)
-  put-item true count xs few is gives = rw (is, gives refl)
+  put-item true count xs few is gives = rw (is, gives)
   put-item false count xs few is gives = rw is (sym (put-beyond xs count value noName (omega arith) few) ∙ put-nothing target value' (take count xs))
 
 -- The next line of a turn of thread t is run, and then the turn is so.
@@ -44,6 +45,11 @@ abbrev pub Stepped : List ℕ → List ℕ → ℕ → Turn → Turn → Type 0
 Stepped bytes givens t turn after = (steps : ℕ) (ls : List Line)
     → runBlock (caseOf bytes) (givenBy givens) (suc steps) (lineOf bytes t (turn .next) ∷ ls) (memoryOf bytes turn) (turn .note)
     ≡ continued (endOf bytes after) (runBlock (caseOf bytes) (givenBy givens) steps ls)
+
+-- The same, with the line's numbers in the trace of block i.
+pub record StepTraced (bytes givens : List ℕ) (t i : ℕ) (turn after : Turn) (trace trace' : List ℕ) : Type 0 where
+  pub memory : stepped (caseOf bytes) (givenBy givens) (lineOf bytes t (turn .next)) (memoryOf bytes turn) ≡ memoryOf bytes after
+  pub record-put : trace' ≡ putRecord (turn .next) i (valueOf (lineOf bytes t (turn .next)) (readsIn (caseOf bytes) (givenBy givens) (lineOf bytes t (turn .next)) (memoryOf bytes turn))) trace
 
 -- A turn's next line is line l of a case with these counts, and e is what it does.
 module _ {bytes : List ℕ} (givens : List ℕ) (t : ℕ) (turn : Turn) {counts : Counts} (are : HasCounts bytes counts) {l : Record} (is-l : l ≡ recordOf bytes t (turn .next))
@@ -76,19 +82,31 @@ module _ {bytes : List ℕ} (givens : List ℕ) (t : ℕ) (turn : Turn) {counts 
           let s : stops (line .kind) line reads ≡ true = sym (does-it .stopping) ∙ h in
           rw (passes, s)
 
-      pub step-goes : e .stops ≡ false → turn .stand ≡ Running → (locals' items' : List ℕ)
-          → locals' ≡ putLocal true (e .name) (e .value) (turn .locals)
-          → take (counts .items) items' ≡ putItem true (e .name) (e .value) (take (counts .items) (turn .items))
-          → (next : ℕ) → Stepped bytes givens t turn (goneOn (record { next = turn .next; locals = locals'; items = items'; stand = turn .stand; note = turn .note }) next (turn .next) (e .breaks))
-      unfolding runBlock
-      step-goes not-stop runs locals' items' are-locals are-items next steps ls =
-          let after : Turn = goneOn (record { next = turn .next; locals = locals'; items = items'; stand = turn .stand; note = turn .note }) next (turn .next) (e .breaks) in
-          let goes : stops (line .kind) line reads ≡ false = sym (does-it .stopping) ∙ not-stop in
-          let are-locals' = are-locals ∙ put-local (e .name) (targetName (globalCount bytes) line) (e .value) (valueOf line reads) (guardTrue line reads) (turn .locals) (does-it .naming) (does-it .giving) in
-          let are-items' : itemsOf bytes items' ≡ putItem (guardTrue line reads) (targetName (globalCount bytes) line) (valueOf line reads) (itemsOf bytes (turn .items)) =
-          rw (are .items) at (are-items ∙ put-item (e .name) (targetName (globalCount bytes) line) (e .value) (valueOf line reads) (guardTrue line reads) (counts .items) (turn .items) (are .few .items) (does-it .naming) (does-it .giving)) in
-          let left : stepped (caseOf bytes) (givenBy givens) line (memoryOf bytes turn) ≡ memoryOf bytes after =
-          λ i. record { locals = sym are-locals' i; items = sym are-items' i } in
-          rw (passes, goes)
-          (ap₂ (runBlock (caseOf bytes) (givenBy givens) steps ls) left (ap (noted (turn .note) line) (sym (does-it .breaking)))
-          ∙ sym (ap (λ (x : Stand). continued (endBy bytes x after) (runBlock (caseOf bytes) (givenBy givens) steps ls)) runs))
+      module _ (locals' items' : List ℕ) (are-locals : locals' ≡ putLocal true (e .name) (e .value) (turn .locals))
+          (are-items : take (counts .items) items' ≡ putItem true (e .name) (e .value) (take (counts .items) (turn .items))) (next : ℕ)
+        where
+          abbrev after : Turn
+          after = goneOn (record { next = turn .next; locals = locals'; items = items'; stand = turn .stand; note = turn .note }) next (turn .next) (e .breaks)
+
+          pub step-memory : stepped (caseOf bytes) (givenBy givens) line (memoryOf bytes turn) ≡ memoryOf bytes after
+          step-memory =
+              let are-locals' = are-locals ∙ put-local (e .name) (targetName (globalCount bytes) line) (e .value) (valueOf line reads) (guardTrue line reads) (turn .locals) (does-it .naming) (does-it .giving) in
+              let are-items' : itemsOf bytes items' ≡ putItem (guardTrue line reads) (targetName (globalCount bytes) line) (valueOf line reads) (itemsOf bytes (turn .items)) =
+              rw (are .items) at (are-items ∙ put-item (e .name) (targetName (globalCount bytes) line) (e .value) (valueOf line reads) (guardTrue line reads) (counts .items) (turn .items) (are .few .items) (does-it .naming) (does-it .giving)) in
+              λ i. record { locals = sym are-locals' i; items = sym are-items' i }
+
+          pub step-goes : e .stops ≡ false → turn .stand ≡ Running → Stepped bytes givens t turn after
+          unfolding runBlock
+          step-goes not-stop runs steps ls =
+              let goes : stops (line .kind) line reads ≡ false = sym (does-it .stopping) ∙ not-stop in
+              rw (passes, goes)
+              (ap₂ (runBlock (caseOf bytes) (givenBy givens) steps ls) step-memory (ap (noted (turn .note) line) (sym (does-it .breaking)))
+              ∙ sym (ap (λ (x : Stand). continued (endBy bytes x after) (runBlock (caseOf bytes) (givenBy givens) steps ls)) runs))
+
+          -- the record of the line in the trace
+          pub step-traced : (i : ℕ) (trace trace' : List ℕ) → trace' ≡ putRecord (turn .next) i (e .value) trace
+              → StepTraced bytes givens t i turn after trace trace'
+          step-traced i trace trace' put = record {
+            memory = step-memory;
+            record-put = put ∙ ap (λ (x : ℕ). putRecord (turn .next) i x trace) (does-it .giving);
+          }

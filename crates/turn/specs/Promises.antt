@@ -9,6 +9,8 @@ use lib.ListN.{length, drop}
 use Rattle.model.specs.CaseFile.{Line, records, threadCount, caseOf}
 use Rattle.model.specs.Line.{Reads, noName, targetName, guardTrue, valueOf, stops, breaks, strayInput}
 use Rattle.model.specs.Machine.{Memory, BlockEnd, strayed, stopped, passed, runBlock}
+use Rattle.model.specs.Runs.{blockSteps}
+use Rattle.model.specs.Fill.{putSteps}
 use Rattle.laws.specs.Accepted.{Accepted}
 use Rattle.turn.specs.declared.Effect.{Effect}
 use Rattle.turn.specs.declared.Stand.{Stand}
@@ -44,7 +46,7 @@ pub record Effective (G : ℕ) (l : Line) (reads : Reads) (e : Effect) : Type 0 
   pub stopping : e .stops ≡ stops (l .kind) l reads
   pub breaking : e .breaks ≡ breaks true (l .kind) l reads (valueOf l reads)
   pub naming : e .name ≡ cond (guardTrue l reads) (targetName G l) noName
-  pub giving : guardTrue l reads ≡ true → e .value ≡ valueOf l reads
+  pub giving : e .value ≡ valueOf l reads
 
 -- The same, where the line's guard is so.
 abbrev pub Does : Bool → ℕ → Line → Reads → Effect → Type 0
@@ -69,3 +71,13 @@ pub record BlockRan (bytes givens : List ℕ) (t steps : ℕ) (turn after : Turn
   pub does : endAfter bytes givens t steps turn ≡ endOf bytes after
   pub moves : after .stand ≡ Running → linesLeft bytes t after ≡ drop steps (linesLeft bytes t turn)
   pub within : after .next ≤ records bytes
+
+-- The trace after a block i of thread t with so many steps: each of them has put the numbers of its line there.
+abbrev pub traceAfter : List ℕ → List ℕ → ℕ → ℕ → ℕ → Turn → List ℕ → List ℕ
+traceAfter bytes givens t i steps turn trace =
+    putSteps (caseOf bytes) (givenBy givens) (blockSteps (caseOf bytes) (givenBy givens) i steps (linesLeft bytes t turn) (memoryOf bytes turn)) trace
+
+-- Such a block, and its trace where the run still goes on.
+pub record BlockRecorded (bytes givens : List ℕ) (t i steps : ℕ) (turn after : Turn) (trace trace' : List ℕ) : Type 0 where
+  pub ran : BlockRan bytes givens t steps turn after
+  pub traced : after .stand ≡ Running → trace' ≡ traceAfter bytes givens t i steps turn trace

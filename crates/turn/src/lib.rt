@@ -3,13 +3,16 @@
 ghost use mathlib.Core.Path.{_≡_};
 ghost use mathlib.Core.Bool.{true, false};
 ghost use Prim.Native.Nat.{ℕ};
-ghost use mathlib.Core.List.{List};
+ghost use Rattle.model.specs.Limits.{mostRecords};
+ghost use Rattle.model.specs.CaseFile.{kindOf};
+ghost use Rattle.model.specs.Line.{guardedOutValue};
+ghost use Rattle.model.specs.Fill.{putRecord};
+ghost use Rattle.laws.specs.RecordNumber.{RecordNumber};
 ghost use Rattle.case_file.specs.Records.{asLine};
 ghost use Rattle.line.specs.CaseCounts.{OfCase};
 ghost use Rattle.line.specs.LineReads.{readsBy};
-ghost use Rattle.line.specs.declared.Counts.{Counts};
 ghost use Rattle.turn.specs.TurnState.{isRunning};
-ghost use Rattle.turn.specs.Promises.{Ready, Does, Effective, goneOn, BlockRan};
+ghost use Rattle.turn.specs.Promises.{Ready, Does, Effective, goneOn, BlockRecorded};
 use case_file::Record;
 use line::Counts;
 use model::ITEMS;
@@ -33,8 +36,8 @@ pub struct Turn {
     pub note: u16,
 }
 
-// What a line does: whether it strays, whether it ends the run, whether it violates, the name that it writes, and the value that
-// it writes there.
+// What a line does: whether it strays, whether it ends the run, whether it violates, the name that it writes, and its value, which it
+// writes there.
 pub struct Effect {
     pub strays: bool,
     pub stops: bool,
@@ -124,10 +127,41 @@ fn effect_in<'a>(
     }
 }
 
-// What a line with a false guard does: nothing, and an input must be given 0.
-fn effect_out(l: Record, given: u16) -> Effect
-    ensures { λ r. ⌜ ((counts : Counts) (locals items : List ℕ) (k : ℕ) → Does false (counts .globals) (asLine l k) (readsBy counts given locals items (asLine l k)) r) ⌝ }
+// The value of a line with a false guard: its target's old value, and 1 for assert and assume.
+fn old_value<'a>(
+    locals: &'a [u16; LOCALS],
+    items: &'a [u16; ITEMS],
+    counts: Counts,
+    l: Record,
+) -> u16
+    requires { ⌜ OfCase counts l ⌝ }
+    ensures { λ r. ⌜ ((given k : ℕ) → r ≡ guardedOutValue (kindOf (l .kind)) (readsBy counts given (now (locals .entry)) (now (items .entry)) (asLine l k))) ⌝ }
 {
+    let kind = l.kind;
+    let target = l.target as usize;
+    match kind {
+        1 => line::local_at(locals, l.target),
+        2 => line::item_at(items, counts.items, target),
+        3 => line::local_at(locals, l.target),
+        4 => line::local_at(locals, l.target),
+        5 => 1,
+        6 => 1,
+        _ => line::item_at(items, counts.items, counts.globals + target),
+    }
+}
+
+// What a line with a false guard does: nothing, and an input must be given 0.
+fn effect_out<'a>(
+    locals: &'a [u16; LOCALS],
+    items: &'a [u16; ITEMS],
+    counts: Counts,
+    l: Record,
+    given: u16,
+) -> Effect
+    requires { ⌜ OfCase counts l ⌝ }
+    ensures { λ r. ⌜ ((k : ℕ) → Does false (counts .globals) (asLine l k) (readsBy counts given (now (locals .entry)) (now (items .entry)) (asLine l k)) r) ⌝ }
+{
+    let value = old_value(locals, items, counts, l);
     let kind = l.kind;
     match kind {
         4 => Effect {
@@ -135,9 +169,9 @@ fn effect_out(l: Record, given: u16) -> Effect
             stops: false,
             breaks: false,
             name: NAMES,
-            value: 0,
+            value,
         },
-        _ => put(NAMES, 0),
+        _ => put(NAMES, value),
     }
 }
 
@@ -155,7 +189,7 @@ fn effect_of<'a>(
     if line::guarded(locals, l) {
         return effect_in(locals, items, counts, l, given);
     }
-    effect_out(l, given)
+    effect_out(locals, items, counts, l, given)
 }
 
 // Whether the run goes on.
@@ -166,6 +200,21 @@ fn goes_on(stand: Stand) -> bool
         Stand::Running => true,
         Stand::Strayed(_) => false,
         Stand::Stopped(_) => false,
+    }
+}
+
+// The block number and the value of record k go to its places, where the trace has them.
+pub fn put_record(trace: &mut [u16], k: usize, block: u16, value: u16)
+    requires { ⌜ RecordNumber mostRecords k ⌝ }
+    ensures { λ r. ⌜ now (trace .exit) ≡ putRecord k block value (now (trace .entry)) ⌝ }
+{
+    let first = 2 * (k - 1);
+    if first < trace.len() {
+        trace[first] = block;
+        let second = first + 1;
+        if second < trace.len() {
+            trace[second] = value;
+        }
     }
 }
 
@@ -194,11 +243,19 @@ impl Turn {
         self
     }
 
-    // A block of thread t: so many steps, or fewer where the thread or the run ends. What a line writes goes to the turn's own
-    // locals and items, which are lent for it.
-    pub fn block(mut self, t: u16, case: &[u8], given: &[u16], steps: u16) -> Turn
+    // Block i, of thread t: so many steps, or fewer where the thread or the run ends. What a line writes goes to the turn's own
+    // locals and items, which are lent for it, and its block number and its value to the trace.
+    pub fn block(
+        mut self,
+        t: u16,
+        case: &[u8],
+        given: &[u16],
+        steps: u16,
+        i: u16,
+        trace: &mut [u16],
+    ) -> Turn
         requires { ⌜ Ready (now case) (now given) t self ⌝ }
-        ensures { λ r. ⌜ BlockRan (now (case .entry)) (now (given .entry)) t steps self r ⌝ }
+        ensures { λ r. ⌜ BlockRecorded (now (case .entry)) (now (given .entry)) t i steps self r (now (trace .entry)) (now (trace .exit)) ⌝ }
     {
         let stand = self.stand;
         if !goes_on(stand) {
@@ -220,6 +277,7 @@ impl Turn {
             if e.stops {
                 return self.ended(Stand::Stopped(k));
             }
+            put_record(trace, at, i, e.value);
             line::put_local(&mut self.locals, e.name, e.value);
             line::put_item(&mut self.items, counts.items, e.name, e.value);
             self = self.step(case_file::next_of(case, at), k, e.breaks);
