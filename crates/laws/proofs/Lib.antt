@@ -28,6 +28,7 @@ pub mod Copies
 pub mod ForwardWalk
 pub mod HandedOn
 pub mod Memory
+pub mod Passing
 pub mod Walk
 pub mod AllHold
 pub mod WithoutEights

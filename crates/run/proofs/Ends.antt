@@ -1,12 +1,16 @@
 -- What a run has come to, and the reply that says it.
 -- Assumes nothing.
 use mathlib.Core.Path.{_≡_, refl, ap, _∙_, subst}
-use Prim.Native.Nat.{ℕ}
+use Prim.Native.Nat.{ℕ, _≤_}
 use mathlib.Core.Bool.{cond}
 use mathlib.Core.List.{List, []}
 use lib.Dec.{eqb}
+use lib.ListN.{length}
 use borrow.Author.Tests.{eq-eqb, ne-eqb}
+use Rattle.model.specs.Word.{wordSize}
+use Rattle.model.specs.CaseFile.{caseOf}
 use Rattle.model.specs.Machine.{State, Outcome, refused14, cutOff, violated, clean, firstStrayLeft, ending, runBlocks}
+use Rattle.model.specs.Fill.{putBlocks}
 use Rattle.model.specs.declared.Replayed.the-variants.{Violated, Clean, CutOff, Refused}
 use Rattle.laws.proofs.Views.{EqView, same, diff, eq-view}
 use Rattle.turn.specs.declared.Stand.{Stand}
@@ -16,7 +20,7 @@ use Rattle.run.specs.declared.Thread.{Thread}
 use Rattle.run.specs.declared.Shared.{Shared}
 use Rattle.run.specs.declared.Ended.{Ended}
 use Rattle.run.specs.RunState.{restsOf, stateOf}
-use Rattle.run.specs.Promises.{resumed, outcomeFrom, Played, standAfter, lookedAt, outcomeOf, Replies}
+use Rattle.run.specs.Promises.{resumed, outcomeFrom, Played, standAfter, lookedAt, outcomeOf, Replies, AtTheEnd}
 
 module _ (bytes : List ℕ) (threads : List Thread) (shared : Shared) where
   abbrev state : State
@@ -66,8 +70,30 @@ module _ (bytes : List ℕ) (threads : List Thread) (shared : Shared) where
       go (Strayed k) v = refl
       go (Stopped k) v = refl
 
-pub comes : (bytes givens lengths : List ℕ) (threads : List Thread) (shared : Shared) (after : List Thread) (moved last : Shared) (e : Ended)
-    → Played bytes givens lengths threads shared after moved → last ≡ lookedAt (firstStrayLeft (givenBy givens) (restsOf bytes after)) moved
-    → ((bs : List ℕ) → Replies bs (outcomeOf bs after last) e) → Replies bytes (outcomeFrom bytes givens 0 lengths threads shared) e
-comes bytes givens lengths threads shared after moved last e played is-last ended =
-    subst (λ (x : Outcome). Replies bytes x e) (ap (outcomeOf bytes after) is-last ∙ looked bytes after moved givens ∙ played .comes) (ended bytes)
+module _ (bytes givens lengths : List ℕ) (threads : List Thread) (shared : Shared) (trace : List ℕ) (after : List Thread) (moved : Shared)
+    (trace' : List ℕ) (played : Played bytes givens lengths threads shared trace after moved trace')
+  where
+    pub comes : (last : Shared) (e : Ended) → last ≡ lookedAt (firstStrayLeft (givenBy givens) (restsOf bytes after)) moved
+        → ((bs : List ℕ) → Replies bs (outcomeOf bs after last) e) → Replies bytes (outcomeFrom bytes givens 0 lengths threads shared) e
+    comes last e is-last ended =
+        subst (λ (x : Outcome). Replies bytes x e) (ap (outcomeOf bytes after) is-last ∙ looked bytes after moved givens ∙ played .comes) (ended bytes)
+
+    abbrev AllPut : Type 0
+    AllPut = trace' ≡ putBlocks (caseOf bytes) (givenBy givens) 0 lengths (stateOf bytes threads (shared .items)) trace
+
+    at-any-end : (outcome : Outcome) → AllPut → AtTheEnd outcome AllPut
+    at-any-end (refused14 k) put = tt
+    at-any-end (cutOff k items) put = tt
+    at-any-end (violated k s) put = put
+    at-any-end (clean s) put = put
+
+    pub traced-at-the-end : length lengths ≤ wordSize → AtTheEnd (outcomeFrom bytes givens 0 lengths threads shared) AllPut
+    traced-at-the-end numbered = subst (λ (x : Outcome). AtTheEnd x AllPut) (played .comes) (go (moved .stand) (played .traced numbered))
+      where
+        finish : Outcome
+        finish = runBlocks (caseOf bytes) (givenBy givens) 0 [] (stateOf bytes after (moved .items)) (moved .note)
+
+        go : (stand : Stand) → (stand ≡ Running → AllPut) → AtTheEnd (resumed stand (itemsOf bytes (moved .items)) finish) AllPut
+        go Running put = at-any-end finish (put refl)
+        go (Strayed k) put = tt
+        go (Stopped k) put = tt

@@ -1,3 +1,4 @@
+pub mod ItemsPut
 pub mod Runs
 pub mod Starts
 pub mod Ends

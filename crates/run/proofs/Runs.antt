@@ -8,20 +8,24 @@ use native.Mathlib.Nat.{mod-lt, add-zero, zero-add}
 use native.Mathlib.Numerals.{add-one}
 use lib.ListN.{getD, set, length, drop, length-set, drop-of-length-le}
 use lib.Seq.{drop-cons, getD-set-same, getD-set-other}
+use Rattle.model.specs.Word.{wordSize}
 use Rattle.model.specs.CaseFile.{Line, records, threadCount, caseOf}
-use Rattle.model.specs.Machine.{Memory, State, BlockEnd, runBlock, restIn, memoryIn, afterBlock, Outcome, afterSteps, runBlocks}
+use Rattle.model.specs.Machine.{Memory, State, BlockEnd, passed, runBlock, restIn, memoryIn, afterBlock, Outcome, afterSteps, runBlocks}
+use Rattle.model.specs.Runs.{blockSteps, memoryAfter, endMemory, nextState}
+use Rattle.model.specs.Fill.{putSteps, putItems, putBlocks}
 use Rattle.laws.specs.Accepted.{linesFrom}
 use Rattle.laws.proofs.Views.{EqView, same, diff, eq-view}
+use Rattle.laws.proofs.Passing.{passed-memory}
 use Rattle.turn.specs.declared.Stand.{Stand}
 use Rattle.turn.specs.declared.Stand.the-variants.{Running, Strayed, Stopped}
 use Rattle.turn.specs.TurnState.{itemsOf, memoryOf, givenBy}
 use Rattle.turn.specs.declared.Turn.{Turn}
-use Rattle.turn.specs.Promises.{Ready, endBy, endOf, continued, BlockRan}
+use Rattle.turn.specs.Promises.{Ready, endBy, endOf, continued, BlockRan, traceAfter, BlockRecorded}
 use Rattle.run.specs.declared.Thread.{Thread}
 use Rattle.run.specs.declared.Shared.{Shared}
 use Rattle.run.specs.declared.Moved.{Moved}
 use Rattle.run.specs.RunState.{none, threadAt, turnOf, turnAt, listFrom, restAt, stateOf}
-use Rattle.run.specs.Promises.{RunReady, BlockReady, MovedBy, BlockAt, resumed, outcomeFrom, Played}
+use Rattle.run.specs.Promises.{RunReady, BlockReady, BlockTraced, MovedBy, BlockAt, resumed, outcomeFrom, Played}
 
 module _ {A : Type 0} where
   pub listFrom-at : (f : ℕ → A) (i many j : ℕ) (d : A) → j < many → getD (listFrom f i many) j d ≡ f (i + j)
@@ -52,8 +56,15 @@ others-same : (t : ℕ) (threads after : List Thread) → after ≡ set threads 
 others-same t threads after others u other =
     ap (λ (x : List Thread). threadAt x u) others ∙ getD-set-other threads t u (threadAt after t) none other
 
-module _ (bytes givens lengths : List ℕ) (i : ℕ) (threads after : List Thread) (shared last : Shared) (some : 0 < threadCount bytes)
-    (b : BlockAt bytes givens lengths i threads shared after last)
+-- a run that still goes on did so before
+was-running : (bytes : List ℕ) (stand : Stand) (turn : Turn) (next : Memory → ℕ → BlockEnd) (m : Memory) (note : ℕ)
+    → continued (endBy bytes stand turn) next ≡ passed m note → stand ≡ Running
+was-running bytes Running turn next m note e = refl
+was-running bytes (Strayed k) turn next m note e = absurd (let z : _≡_ {A = ℕ} 0 1 = cc in omega arith)
+was-running bytes (Stopped k) turn next m note e = absurd (let z : _≡_ {A = ℕ} 0 1 = cc in omega arith)
+
+module _ (bytes givens lengths : List ℕ) (i : ℕ) (threads : List Thread) (shared : Shared) (trace : List ℕ) (after : List Thread) (last : Shared)
+    (trace' : List ℕ) (some : 0 < threadCount bytes) (b : BlockAt bytes givens lengths i threads shared trace after last trace')
   where
     abbrev steps : ℕ
     steps = getD lengths i 0
@@ -126,6 +137,32 @@ module _ (bytes givens lengths : List ℕ) (i : ℕ) (threads after : List Threa
         go (Strayed k) e = ap (λ (x : BlockEnd). afterSteps x (next later)) e
         go (Stopped k) e = ap (λ (x : BlockEnd). afterSteps x (next later)) e
 
+    -- the run still goes on
+    module _ (runs : last .stand ≡ Running) where
+      passes : continued (endOf bytes (turnAt threads t shared)) block ≡ passed (memoryOf bytes (turnAt after t last)) (last .note)
+      passes = b .ran .does ∙ ap (λ (x : Stand). endBy bytes x (turnAt after t last)) runs
+
+      runs-before : shared .stand ≡ Running
+      runs-before = was-running bytes (shared .stand) (turnAt threads t shared) block _ _ passes
+
+      memory-after : memoryOf bytes (turnAt after t last) ≡ endMemory (caseOf bytes) (givenBy givens) i steps case-state
+      memory-after =
+          passed-memory (caseOf bytes) (givenBy givens) steps (restAt bytes threads t) (memoryOf bytes (turnAt threads t shared)) (shared .note) _ (last .note)
+          (sym (ap (λ (x : Stand). continued (endBy bytes x (turnAt threads t shared)) block) runs-before) ∙ passes)
+          ∙ sym (ap₂ (memoryAfter (caseOf bytes) (givenBy givens) steps) rest-in memory-in)
+
+      state-next : stateOf bytes after (last .items) ≡ nextState (caseOf bytes) (givenBy givens) i steps case-state
+      state-next = sym (state-after runs) ∙ ap (afterBlock (caseOf bytes) i steps case-state) memory-after
+
+      trace-next : i < wordSize → (later : List ℕ)
+          → putBlocks (caseOf bytes) (givenBy givens) (suc i) later (stateOf bytes after (last .items)) trace'
+          ≡ putBlocks (caseOf bytes) (givenBy givens) i (steps ∷ later) case-state trace
+      trace-next word later =
+          ap₂ (putBlocks (caseOf bytes) (givenBy givens) (suc i) later) state-next
+          (b .traced word runs
+          ∙ ap₂ (putItems (caseOf bytes) i) (ap (λ (x : State). x .items) state-next)
+          (ap₂ (λ (x : List Line) (y : Memory). putSteps (caseOf bytes) (givenBy givens) (blockSteps (caseOf bytes) (givenBy givens) i steps x y) trace) (sym rest-in) (sym memory-in)))
+
     ready-after : RunReady bytes givens threads → RunReady bytes givens after
     ready-after ready = record {
       accepted = ready .accepted;
@@ -139,33 +176,48 @@ module _ (bytes givens lengths : List ℕ) (i : ℕ) (threads after : List Threa
         go u h (diff e q) = omega (arith, ap (λ (x : Thread). x .next) (others-same t threads after (b .others) u e), ready .within u h)
 
 -- After some of the blocks.
-pub record Playing (bytes givens lengths : List ℕ) (threads₀ : List Thread) (shared₀ : Shared) (i : ℕ) (threads : List Thread) (shared : Shared) : Type 0 where
+pub record Playing (bytes givens lengths : List ℕ) (threads₀ : List Thread) (shared₀ : Shared) (trace₀ : List ℕ) (i : ℕ)
+    (threads : List Thread) (shared : Shared) (trace : List ℕ) : Type 0 where
   pub does : outcomeFrom bytes givens i (drop i lengths) threads shared ≡ outcomeFrom bytes givens 0 lengths threads₀ shared₀
   pub ready : RunReady bytes givens threads
+  pub traced : length lengths ≤ wordSize → shared .stand ≡ Running
+      → putBlocks (caseOf bytes) (givenBy givens) i (drop i lengths) (stateOf bytes threads (shared .items)) trace
+      ≡ putBlocks (caseOf bytes) (givenBy givens) 0 lengths (stateOf bytes threads₀ (shared₀ .items)) trace₀
 
-module _ (bytes givens lengths : List ℕ) (threads₀ : List Thread) (shared₀ : Shared) where
-  pub playing-start : RunReady bytes givens threads₀ → Playing bytes givens lengths threads₀ shared₀ 0 threads₀ shared₀
-  playing-start ready = record { does = refl; ready = ready }
+module _ (bytes givens lengths : List ℕ) (threads₀ : List Thread) (shared₀ : Shared) (trace₀ : List ℕ) where
+  pub playing-start : RunReady bytes givens threads₀ → Playing bytes givens lengths threads₀ shared₀ trace₀ 0 threads₀ shared₀ trace₀
+  playing-start ready = record { does = refl; ready = ready; traced = λ _ _. refl }
 
-  module _ (i : ℕ) (threads : List Thread) (shared : Shared) (p : Playing bytes givens lengths threads₀ shared₀ i threads shared) where
-    pub playing-on : (after : List Thread) (last : Shared) → i < length lengths → BlockAt bytes givens lengths i threads shared after last
-        → Playing bytes givens lengths threads₀ shared₀ (i + 1) after last
-    playing-on after last more b =
-        let some : 0 < threadCount bytes = omega (arith, p .ready .accepted .some-threads) in
-        record {
-          does = rw (add-one i)
-              (sym (block-next bytes givens lengths i threads after shared last some b (drop (suc i) lengths))
-              ∙ ap (λ (x : List ℕ). outcomeFrom bytes givens i x threads shared) (sym (drop-cons lengths i 0 more))
-              ∙ p .does);
-          ready = ready-after bytes givens lengths i threads after shared last some b (p .ready);
-        }
+  module _ (i : ℕ) (threads : List Thread) (shared : Shared) (trace : List ℕ)
+      (p : Playing bytes givens lengths threads₀ shared₀ trace₀ i threads shared trace)
+    where
+      pub playing-on : (after : List Thread) (last : Shared) (trace' : List ℕ) → i < length lengths
+          → BlockAt bytes givens lengths i threads shared trace after last trace'
+          → Playing bytes givens lengths threads₀ shared₀ trace₀ (i + 1) after last trace'
+      playing-on after last trace' more b =
+          let some : 0 < threadCount bytes = omega (arith, p .ready .accepted .some-threads) in
+          record {
+            does = rw (add-one i)
+                (sym (block-next bytes givens lengths i threads shared trace after last trace' some b (drop (suc i) lengths))
+                ∙ ap (λ (x : List ℕ). outcomeFrom bytes givens i x threads shared) (sym (drop-cons lengths i 0 more))
+                ∙ p .does);
+            ready = ready-after bytes givens lengths i threads shared trace after last trace' some b (p .ready);
+            traced = λ numbered runs. rw (add-one i)
+                (trace-next bytes givens lengths i threads shared trace after last trace' some b runs (omega arith) (drop (suc i) lengths)
+                ∙ ap (λ (x : List ℕ). putBlocks (caseOf bytes) (givenBy givens) i x (stateOf bytes threads (shared .items)) trace) (sym (drop-cons lengths i 0 more))
+                ∙ p .traced numbered (runs-before bytes givens lengths i threads shared trace after last trace' some b runs));
+          }
 
-    pub playing-end : length lengths ≤ i → Played bytes givens lengths threads₀ shared₀ threads shared
-    unfolding runBlocks
-    playing-end over = record {
-      comes = ap (λ (x : List ℕ). outcomeFrom bytes givens i x threads shared) (sym (drop-of-length-le lengths over)) ∙ p .does;
-      ready = p .ready;
-    }
+      pub playing-end : length lengths ≤ i → Played bytes givens lengths threads₀ shared₀ trace₀ threads shared trace
+      unfolding runBlocks
+      playing-end over =
+          let none = sym (drop-of-length-le lengths over) in
+          record {
+            comes = ap (λ (x : List ℕ). outcomeFrom bytes givens i x threads shared) none ∙ p .does;
+            ready = p .ready;
+            traced = λ numbered runs.
+                ap (λ (x : List ℕ). putBlocks (caseOf bytes) (givenBy givens) i x (stateOf bytes threads (shared .items)) trace) none ∙ p .traced numbered runs;
+          }
 
 -- Block i by its thread's turn.
 module _ (bytes lengths givens : List ℕ) (thread : Thread) (shared : Shared) (i : ℕ) (turn : Turn) (is-turn : turn ≡ turnOf thread shared)
@@ -178,18 +230,24 @@ module _ (bytes lengths givens : List ℕ) (thread : Thread) (shared : Shared) (
     within = ready .within;
   })
 
-  pub moved-by : (moved : Moved) → BlockRan bytes givens t (getD lengths i 0) turn (turnOf (moved .thread) (moved .shared))
-      → MovedBy bytes givens lengths i thread shared moved
-  moved-by moved ran = record { ran = rw (is-turn, is-t) at ran }
+  pub moved-by : (number : ℕ) → (i < wordSize → number ≡ i) → (trace between : List ℕ) (moved : Moved) (trace' : List ℕ)
+      → BlockRecorded bytes givens t number (getD lengths i 0) turn (turnOf (moved .thread) (moved .shared)) trace between
+      → trace' ≡ putItems (caseOf bytes) i (itemsOf bytes (moved .shared .items)) between → MovedBy bytes givens lengths i thread shared trace moved trace'
+  moved-by number is-number trace between moved trace' recorded put =
+      let traced : BlockTraced bytes givens t i (getD lengths i 0) turn (turnOf (moved .thread) (moved .shared)) trace trace' =
+      λ word runs. put ∙ ap (putItems (caseOf bytes) i (itemsOf bytes (moved .shared .items)))
+      (recorded .traced runs ∙ ap (λ (x : ℕ). traceAfter bytes givens t x (getD lengths i 0) turn trace) (is-number word)) in
+      record { ran = rw (is-turn, is-t) at (recorded .ran); traced = rw (is-turn, is-t) at traced }
 
 -- the thread that is stored, as the list then has it
-pub stored : (bytes givens lengths : List ℕ) (i : ℕ) (threads : List Thread) (shared : Shared) (r : Moved) → i % threadCount bytes < length threads
-    → MovedBy bytes givens lengths i (threadAt threads (i % threadCount bytes)) shared r
-    → BlockAt bytes givens lengths i threads shared (set threads (i % threadCount bytes) (r .thread)) (r .shared)
-stored bytes givens lengths i threads shared r h moved =
+pub stored : (bytes givens lengths : List ℕ) (i : ℕ) (threads : List Thread) (shared : Shared) (trace : List ℕ) (r : Moved) (trace' : List ℕ)
+    → i % threadCount bytes < length threads → MovedBy bytes givens lengths i (threadAt threads (i % threadCount bytes)) shared trace r trace'
+    → BlockAt bytes givens lengths i threads shared trace (set threads (i % threadCount bytes) (r .thread)) (r .shared) trace'
+stored bytes givens lengths i threads shared trace r trace' h moved =
     let t = i % threadCount bytes in
     let there = getD-set-same threads t (r .thread) none h in
     record {
       ran = subst (λ (x : Thread). BlockRan bytes givens t (getD lengths i 0) (turnAt threads t shared) (turnOf x (r .shared))) (sym there) (moved .ran);
       others = ap (set threads t) (sym there);
+      traced = subst (λ (x : Thread). BlockTraced bytes givens t i (getD lengths i 0) (turnAt threads t shared) (turnOf x (r .shared)) trace trace') (sym there) (moved .traced);
     }

@@ -11,6 +11,7 @@ use Rattle.model.specs.Limits.{mostThreads, mostItems, localCount}
 use Rattle.model.specs.Lists.{numbersFrom}
 use Rattle.model.specs.CaseFile.{Line, records, threadCount, globalCount, mutexCount, initialValue, chains, caseOf}
 use Rattle.model.specs.Machine.{State, start, Outcome, run, runBlocks}
+use Rattle.model.specs.Fill.{putBlocks}
 use Rattle.laws.specs.Accepted.{Accepted, threadLines, linesFrom}
 use Rattle.laws.proofs.Ranges.{length-numbersFrom}
 use Rattle.case_file.specs.FirstItems.{firstItems}
@@ -19,7 +20,7 @@ use Rattle.run.specs.declared.Thread.{Thread}
 use Rattle.run.specs.declared.Shared.{Shared}
 use Rattle.run.specs.declared.Ended.{Ended}
 use Rattle.run.specs.RunState.{threadAt, listFrom, restAt, stateOf, firstThread, firstThreads, firstShared}
-use Rattle.run.specs.Promises.{RunReady, outcomeFrom, Replies}
+use Rattle.run.specs.Promises.{RunReady, outcomeFrom, Replies, AtTheEnd}
 use Rattle.run.proofs.Runs.{listFrom-same}
 
 take-zeros : (m n : ℕ) → m ≤ n → take {A = ℕ} m (replicate n 0) ≡ replicate m 0
@@ -80,10 +81,21 @@ module _ (bytes : List ℕ) where
       has-all = refl;
     }
 
-    pub run-replies : (givens lengths : List ℕ) (threads : List Thread) (shared : Shared) (e : Ended) → threads ≡ firstThreads bytes → shared ≡ firstShared bytes
-        → Replies bytes (outcomeFrom bytes givens 0 lengths threads shared) e → Replies bytes (run (caseOf bytes) lengths (givenBy givens)) e
-    unfolding run
-    run-replies givens lengths threads shared e are-threads is-shared replies =
-        subst (λ (x : Outcome). Replies bytes x e)
-        (ap₂ (outcomeFrom bytes givens 0 lengths) are-threads is-shared ∙ ap (λ (x : State). runBlocks (caseOf bytes) (givenBy givens) 0 lengths x 0) state-start)
-        replies
+    module _ (givens lengths : List ℕ) (threads : List Thread) (shared : Shared) (are-threads : threads ≡ firstThreads bytes) (is-shared : shared ≡ firstShared bytes) where
+      comes-from-start : outcomeFrom bytes givens 0 lengths threads shared ≡ run (caseOf bytes) lengths (givenBy givens)
+      unfolding run
+      comes-from-start =
+          ap₂ (outcomeFrom bytes givens 0 lengths) are-threads is-shared ∙ ap (λ (x : State). runBlocks (caseOf bytes) (givenBy givens) 0 lengths x 0) state-start
+
+      pub run-replies : (e : Ended) → Replies bytes (outcomeFrom bytes givens 0 lengths threads shared) e → Replies bytes (run (caseOf bytes) lengths (givenBy givens)) e
+      run-replies e replies = subst (λ (x : Outcome). Replies bytes x e) comes-from-start replies
+
+      pub run-traced : (trace trace' : List ℕ)
+          → AtTheEnd (outcomeFrom bytes givens 0 lengths threads shared)
+          (trace' ≡ putBlocks (caseOf bytes) (givenBy givens) 0 lengths (stateOf bytes threads (shared .items)) trace)
+          → AtTheEnd (run (caseOf bytes) lengths (givenBy givens)) (trace' ≡ putBlocks (caseOf bytes) (givenBy givens) 0 lengths (start (caseOf bytes)) trace)
+      run-traced trace trace' traced =
+          let from-start : stateOf bytes threads (shared .items) ≡ start (caseOf bytes) =
+          ap₂ (λ (x : List Thread) (y : Shared). stateOf bytes x (y .items)) are-threads is-shared ∙ state-start in
+          subst (λ (x : State). AtTheEnd (run (caseOf bytes) lengths (givenBy givens)) (trace' ≡ putBlocks (caseOf bytes) (givenBy givens) 0 lengths x trace)) from-start
+          (subst (λ (x : Outcome). AtTheEnd x (trace' ≡ putBlocks (caseOf bytes) (givenBy givens) 0 lengths (stateOf bytes threads (shared .items)) trace)) comes-from-start traced)

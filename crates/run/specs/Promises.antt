@@ -6,15 +6,18 @@ use mathlib.Core.Bool.{cond}
 use mathlib.Core.List.{List, []}
 use lib.Dec.{eqb}
 use lib.ListN.{getD, length, set}
-use Rattle.model.specs.Limits.{mostThreads}
+use Rattle.model.specs.Word.{wordSize}
+use Rattle.model.specs.Limits.{mostThreads, mostItems, mostVariables}
 use Rattle.model.specs.CaseFile.{records, threadCount, caseOf}
-use Rattle.model.specs.Machine.{Outcome, refused14, cutOff, violated, clean, runBlocks}
+use Rattle.model.specs.Machine.{start, Outcome, refused14, cutOff, violated, clean, runBlocks, run}
+use Rattle.model.specs.Fill.{putItems, putBlocks}
 use Rattle.model.specs.Answers.{answerOfRun}
 use Rattle.laws.specs.Accepted.{Accepted}
 use Rattle.turn.specs.declared.Stand.{Stand}
 use Rattle.turn.specs.declared.Stand.the-variants.{Running, Strayed, Stopped}
+use Rattle.turn.specs.declared.Turn.{Turn}
 use Rattle.turn.specs.TurnState.{itemsOf, givenBy}
-use Rattle.turn.specs.Promises.{BlockRan}
+use Rattle.turn.specs.Promises.{BlockRan, traceAfter}
 use Rattle.run.specs.declared.Thread.{Thread}
 use Rattle.run.specs.declared.Shared.{Shared}
 use Rattle.run.specs.declared.Moved.{Moved}
@@ -51,14 +54,28 @@ pub record BlockReady (bytes lengths givens : List ℕ) (thread : Thread) (i : �
   pub within : thread .next ≤ records bytes
   pub is-block : i < length lengths
 
+-- So many items, and where their places start.
+pub record ItemsReady (count from : ℕ) : Type 0 where
+  pub few : count ≤ mostItems
+  pub low : from ≤ mostVariables
+
+-- The trace of block i, of thread t, with so many steps, where its number is one that a trace can hold and the run still goes on: the
+-- numbers of its lines and the items where it ends.
+abbrev pub BlockTraced : List ℕ → List ℕ → ℕ → ℕ → ℕ → Turn → Turn → List ℕ → List ℕ → Type 0
+BlockTraced bytes givens t i steps turn after trace trace' = i < wordSize → after .stand ≡ Running
+    → trace' ≡ putItems (caseOf bytes) i (itemsOf bytes (after .items)) (traceAfter bytes givens t i steps turn trace)
+
 -- Block i, by its thread: the turn has run it.
-pub record MovedBy (bytes givens lengths : List ℕ) (i : ℕ) (thread : Thread) (shared : Shared) (r : Moved) : Type 0 where
+pub record MovedBy (bytes givens lengths : List ℕ) (i : ℕ) (thread : Thread) (shared : Shared) (trace : List ℕ) (r : Moved) (trace' : List ℕ) : Type 0 where
   pub ran : BlockRan bytes givens (i % threadCount bytes) (getD lengths i 0) (turnOf thread shared) (turnOf (r .thread) (r .shared))
+  pub traced : BlockTraced bytes givens (i % threadCount bytes) i (getD lengths i 0) (turnOf thread shared) (turnOf (r .thread) (r .shared)) trace trace'
 
 -- Block i: its thread and what is shared have run it, and no other thread moves.
-pub record BlockAt (bytes givens lengths : List ℕ) (i : ℕ) (threads : List Thread) (shared : Shared) (after : List Thread) (last : Shared) : Type 0 where
+pub record BlockAt (bytes givens lengths : List ℕ) (i : ℕ) (threads : List Thread) (shared : Shared) (trace : List ℕ)
+    (after : List Thread) (last : Shared) (trace' : List ℕ) : Type 0 where
   pub ran : BlockRan bytes givens (i % threadCount bytes) (getD lengths i 0) (turnAt threads (i % threadCount bytes) shared) (turnAt after (i % threadCount bytes) last)
   pub others : after ≡ set threads (i % threadCount bytes) (threadAt after (i % threadCount bytes))
+  pub traced : BlockTraced bytes givens (i % threadCount bytes) i (getD lengths i 0) (turnAt threads (i % threadCount bytes) shared) (turnAt after (i % threadCount bytes) last) trace trace'
 
 -- The outcome of the blocks that follow, unless the run has ended.
 abbrev pub resumed : Stand → List ℕ → Outcome → Outcome
@@ -72,10 +89,13 @@ outcomeFrom bytes givens i lengths threads shared =
     resumed (shared .stand) (itemsOf bytes (shared .items))
     (runBlocks (caseOf bytes) (givenBy givens) i lengths (stateOf bytes threads (shared .items)) (shared .note))
 
--- The blocks with these lengths have been run, and no block is left.
-pub record Played (bytes givens lengths : List ℕ) (threads : List Thread) (shared : Shared) (after : List Thread) (last : Shared) : Type 0 where
+-- The blocks with these lengths have been run, and no block is left; their trace, where they have numbers that it can hold.
+pub record Played (bytes givens lengths : List ℕ) (threads : List Thread) (shared : Shared) (trace : List ℕ)
+    (after : List Thread) (last : Shared) (trace' : List ℕ) : Type 0 where
   pub comes : outcomeFrom bytes givens 0 [] after last ≡ outcomeFrom bytes givens 0 lengths threads shared
   pub ready : RunReady bytes givens after
+  pub traced : length lengths ≤ wordSize → last .stand ≡ Running
+      → trace' ≡ putBlocks (caseOf bytes) (givenBy givens) 0 lengths (stateOf bytes threads (shared .items)) trace
 
 -- How a run stands after its last step, where this is the first record that strays among the lines that are left, or 0.
 abbrev pub standAfter : ℕ → Stand → Stand
@@ -103,3 +123,16 @@ EndState bytes (clean s) threads items = stateOf bytes threads items ≡ s
 pub record Replies (bytes : List ℕ) (outcome : Outcome) (e : Ended) : Type 0 where
   pub reply : e .reply ≡ answerOfRun outcome
   pub left : EndState bytes outcome (e .threads) (e .items)
+
+-- What holds of the trace of a run that comes to its last block's end.
+abbrev pub AtTheEnd : Outcome → Type 0 → Type 0
+AtTheEnd (refused14 k) traced = Unit {0}
+AtTheEnd (cutOff k items) traced = Unit {0}
+AtTheEnd (violated k s) traced = traced
+AtTheEnd (clean s) traced = traced
+
+-- The run of a case in blocks with these lengths, and its trace.
+pub record Traced (bytes givens lengths trace : List ℕ) (e : Ended) (trace' : List ℕ) : Type 0 where
+  pub replies : Replies bytes (run (caseOf bytes) lengths (givenBy givens)) e
+  pub traced : length lengths ≤ wordSize
+      → AtTheEnd (run (caseOf bytes) lengths (givenBy givens)) (trace' ≡ putBlocks (caseOf bytes) (givenBy givens) 0 lengths (start (caseOf bytes)) trace)

@@ -1,17 +1,20 @@
 // The run of an accepted case: its threads stand in a lent slice, and each block moves one of them.
 ghost use mathlib.Core.Path.{_≡_};
-ghost use Prim.Native.Nat.{ℕ, _%_, _≤_};
+ghost use Prim.Native.Nat.{ℕ, _%_, _≤_, _<_};
 ghost use mathlib.Core.List.{List};
-ghost use lib.ListN.{length};
+ghost use lib.ListN.{set, length, take};
+ghost use lib.Seq.{sets};
+ghost use Rattle.model.specs.Word.{wordSize};
 ghost use Rattle.model.specs.Limits.{mostThreads, headerBytes};
 ghost use Rattle.model.specs.CaseFile.{threadCount, kindOf, caseOf};
 ghost use Rattle.model.specs.Line.{unrunStray};
 ghost use Rattle.model.specs.Machine as machine;
+ghost use Rattle.model.specs.Fill.{putItems};
 ghost use Rattle.laws.specs.Accepted.{Accepted, linesFrom};
 ghost use Rattle.case_file.specs.Present.{InHeader};
-ghost use Rattle.turn.specs.TurnState.{givenBy};
+ghost use Rattle.turn.specs.TurnState.{itemsOf, givenBy};
 ghost use Rattle.run.specs.RunState.{turnOf, restsOf, firstThread, firstThreads, firstShared};
-ghost use Rattle.run.specs.Promises.{AllGiven, BlockReady, RestReady, RunReady, RunAtBlock, BlockAt, MovedBy, Played, lookedAt, outcomeOf, Replies};
+ghost use Rattle.run.specs.Promises.{AllGiven, BlockReady, RestReady, RunReady, RunAtBlock, ItemsReady, BlockAt, MovedBy, Played, lookedAt, outcomeOf, Replies, Traced};
 use model::ITEMS;
 use model::LOCALS;
 use model::Replayed;
@@ -51,14 +54,15 @@ pub struct Ended {
     pub items: [u16; ITEMS],
 }
 
-// The run of a case in blocks with these lengths, from its start.
-pub fn run_case(case: &[u8], lengths: &[u16], given: &[u16]) -> Ended
+// The run of a case in blocks with these lengths, from its start. What its lines and its blocks come to goes to their places in the trace,
+// where it has them.
+pub fn run_case(case: &[u8], lengths: &[u16], given: &[u16], trace: &mut [u16]) -> Ended
     requires { ⌜ AllGiven (now case) (now given) ⌝ }
-    ensures { λ r. ⌜ Replies (now (case .entry)) (machine.run (caseOf (now (case .entry))) (now (lengths .entry)) (givenBy (now (given .entry)))) r ⌝ }
+    ensures { λ r. ⌜ Traced (now (case .entry)) (now (given .entry)) (now (lengths .entry)) (now (trace .entry)) r (now (trace .exit)) ⌝ }
 {
     let first = first_threads(case);
     let shared = first_shared(case);
-    let all = lend(first, case, lengths, given, shared);
+    let all = lend(first, case, lengths, given, shared, trace);
     let threads = all.threads;
     let last = look_left(threads, all.shared, case, given);
     end_of(threads, last)
@@ -106,12 +110,13 @@ fn lend(
     lengths: &[u16],
     given: &[u16],
     shared: Shared,
+    trace: &mut [u16],
 ) -> AllMoved
     requires { ⌜ RunReady (now case) (now given) threads ⌝ }
-    ensures { λ r. ⌜ Played (now (case .entry)) (now (given .entry)) (now (lengths .entry)) threads shared (r .threads) (r .shared) ⌝ }
+    ensures { λ r. ⌜ Played (now (case .entry)) (now (given .entry)) (now (lengths .entry)) threads shared (now (trace .entry)) (r .threads) (r .shared) (now (trace .exit)) ⌝ }
 {
     let mut ts = threads;
-    let last = blocks_at(&mut ts, case, lengths, given, shared);
+    let last = blocks_at(&mut ts, case, lengths, given, shared, trace);
     AllMoved {
         threads: ts,
         shared: last,
@@ -125,14 +130,15 @@ fn blocks_at(
     lengths: &[u16],
     given: &[u16],
     shared: Shared,
+    trace: &mut [u16],
 ) -> Shared
     requires { ⌜ RunReady (now case) (now given) (now threads) ⌝ }
-    ensures { λ r. ⌜ Played (now (case .entry)) (now (given .entry)) (now (lengths .entry)) (now (threads .entry)) shared (now (threads .exit)) r ⌝ }
+    ensures { λ r. ⌜ Played (now (case .entry)) (now (given .entry)) (now (lengths .entry)) (now (threads .entry)) shared (now (trace .entry)) (now (threads .exit)) r (now (trace .exit)) ⌝ }
 {
     let mut last = shared;
     let mut i = 0;
     while i < lengths.len() {
-        last = block_at(threads, case, lengths, given, i, last);
+        last = block_at(threads, case, lengths, given, i, last, trace);
         i += 1;
     }
     last
@@ -146,12 +152,13 @@ fn block_at(
     given: &[u16],
     i: usize,
     shared: Shared,
+    trace: &mut [u16],
 ) -> Shared
     requires { ⌜ RunAtBlock (now case) (now lengths) (now given) (now threads) i ⌝ }
-    ensures { λ r. ⌜ BlockAt (now (case .entry)) (now (given .entry)) (now (lengths .entry)) i (now (threads .entry)) shared (now (threads .exit)) r ⌝ }
+    ensures { λ r. ⌜ BlockAt (now (case .entry)) (now (given .entry)) (now (lengths .entry)) i (now (threads .entry)) shared (now (trace .entry)) (now (threads .exit)) r (now (trace .exit)) ⌝ }
 {
     let t = thread_of(case, i);
-    let moved = block_of(threads[t], shared, case, lengths, given, i);
+    let moved = block_of(threads[t], shared, case, lengths, given, i, trace);
     threads[t] = moved.thread;
     moved.shared
 }
@@ -164,6 +171,51 @@ fn thread_of(case: &[u8], i: usize) -> usize
     i % case_file::threads(case) as usize
 }
 
+// Block i as a number of the trace: no case has more blocks than there are numbers.
+fn number_of(i: usize) -> u16
+    ensures { λ r. ⌜ (i < wordSize → r ≡ i) ⌝ }
+{
+    if i < 65536 { i as u16 } else { 0 }
+}
+
+// A number goes to its place, if the trace has it.
+fn put_at(trace: &mut [u16], at: usize, value: u16)
+    ensures { λ r. ⌜ now (trace .exit) ≡ set (now (trace .entry)) at value ⌝ }
+{
+    if at < trace.len() {
+        trace[at] = value;
+    }
+}
+
+// The first so many values go to the places from a place on.
+fn put_values(values: [u16; ITEMS], count: usize, start: usize, trace: &mut [u16])
+    requires { ⌜ ItemsReady count start ⌝ }
+    ensures { λ r. ⌜ now (trace .exit) ≡ sets (now (trace .entry)) start (take count values) ⌝ }
+{
+    let mut g = 0;
+    while g < count {
+        put_at(trace, start + g, values[g]);
+        g += 1;
+    }
+}
+
+// The items where block i ends go to its places; the last block has none.
+fn put_items(case: &[u8], i: usize, values: [u16; ITEMS], trace: &mut [u16])
+    requires { ⌜ Accepted (now case) ⌝ }
+    ensures { λ r. ⌜ now (trace .exit) ≡ putItems (caseOf (now (case .entry))) i (itemsOf (now (case .entry)) values) (now (trace .entry)) ⌝ }
+{
+    let n = case_file::switches(case) as usize;
+    if n <= i {
+        return;
+    }
+    let count = case_file::items(case);
+    let start = 2 * case_file::records(case) + i * count;
+    if trace.len() <= start {
+        return;
+    }
+    put_values(values, count, start, trace);
+}
+
 // Block i of a run, by the thread that it belongs to.
 fn block_of(
     thread: Thread,
@@ -172,15 +224,17 @@ fn block_of(
     lengths: &[u16],
     given: &[u16],
     i: usize,
+    trace: &mut [u16],
 ) -> Moved
     requires { ⌜ BlockReady (now case) (now lengths) (now given) thread i ⌝ }
-    ensures { λ r. ⌜ MovedBy (now (case .entry)) (now (given .entry)) (now (lengths .entry)) i thread shared r ⌝ }
+    ensures { λ r. ⌜ MovedBy (now (case .entry)) (now (given .entry)) (now (lengths .entry)) i thread shared (now (trace .entry)) r (now (trace .exit)) ⌝ }
 {
     let t = thread_of(case, i) as u16;
     let turn = turn_of(thread, shared);
-    let after = turn.block(t, case, given, lengths[i]);
+    let after = turn.block(t, case, given, lengths[i], number_of(i), trace);
     let locals = after.locals;
     let items = after.items;
+    put_items(case, i, items, trace);
     let stand = after.stand;
     let thread = Thread {
         next: after.next,
