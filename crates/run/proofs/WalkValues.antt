@@ -1,4 +1,4 @@
--- What the walks over the lent threads have in common: the machine values that they pass, and the case, the lengths and the given values, which each sees and hands on. What the three slices own is one, and is had twice.
+-- What the walks over the lent threads have in common: the machine values that they pass, the trace, which each hands on, and the case, the lengths and the given values, which each sees and hands on. What the three slices own is one, and is had twice.
 -- Assumes nothing.
 use Prim.Native.Nat.{ℕ}
 use mathlib.Core.List.{[], _∷_, List}
@@ -13,7 +13,7 @@ use ghost.Atoms.{Atoms, sem}
 use types.Kit.{Given, ‵, _⊛_, _$_, _∵_, !, qed, move, use1, split, fsplit, fjoin, frame, done}
 use denote.Builtin.{u8, u16}
 use denote.Ref.{RefT}
-use denote.Slice.{sliceVal, ShrSlice, shr-slice-copy}
+use denote.Slice.{sliceVal, MutSlice, ShrSlice, shr-slice-copy}
 use denote.Struct.Laws as LL
 use Rattle.run.specs.declared.Thread.{Thread}
 use Rattle.run.specs.declared.Shared.{Shared}
@@ -22,7 +22,7 @@ use Rattle.run.proofs.Thread.Laws as T′
 use Rattle.run.proofs.Shared as S
 use Rattle.run.proofs.Shared.Laws as S′
 
--- the machine values of a shared slice, a thread, and what the threads share
+-- the machine values of a slice, a thread, and what the threads share
 abbrev pub valOf : RefT (List ℕ) → Val
 valOf x = sliceVal (x .ptr) (length (x .now))
 
@@ -31,6 +31,10 @@ threadVal th = LL.tuple-val T.the-type T′.the-laws (T.the-type .to th)
 
 abbrev pub sharedVal : Shared → Val
 sharedVal x = LL.tuple-val S.the-type S′.the-laws (S.the-type .to x)
+
+-- what the trace owns
+abbrev pub OfTrace : Lft → RefT (List ℕ) → Fml
+OfTrace κt tr = MutSlice (named 0) κt u16 .own tr (valOf tr ∷ [])
 
 module _ (κc κl κg : Lft) (c l v : RefT (List ℕ)) where
   abbrev pub OfCase : Fml
