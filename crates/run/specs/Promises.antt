@@ -124,6 +124,11 @@ pub record Replies (bytes : List ℕ) (outcome : Outcome) (e : Ended) : Type 0 w
   pub reply : e .reply ≡ answerOfRun outcome
   pub left : EndState bytes outcome (e .threads) (e .items)
 
+-- The reply to a run that has come to its end in these threads.
+pub record Closed (threads : List Thread) (shared : Shared) (e : Ended) : Type 0 where
+  pub replies : (bytes : List ℕ) → Replies bytes (outcomeOf bytes threads shared) e
+  pub same : e .threads ≡ threads
+
 -- What holds of the trace of a run that comes to its last block's end.
 abbrev pub AtTheEnd : Outcome → Type 0 → Type 0
 AtTheEnd (refused14 k) traced = Unit {0}
@@ -131,8 +136,10 @@ AtTheEnd (cutOff k items) traced = Unit {0}
 AtTheEnd (violated k s) traced = traced
 AtTheEnd (clean s) traced = traced
 
--- The run of a case in blocks with these lengths, and its trace.
+-- The run of a case in blocks with these lengths: its reply, its threads, each at a record or at its end, and its trace, where the blocks
+-- have numbers that it can hold.
 pub record Traced (bytes givens lengths trace : List ℕ) (e : Ended) (trace' : List ℕ) : Type 0 where
   pub replies : Replies bytes (run (caseOf bytes) lengths (givenBy givens)) e
+  pub within : (t : ℕ) → t < threadCount bytes → threadAt (e .threads) t .next ≤ records bytes
   pub traced : length lengths ≤ wordSize
       → AtTheEnd (run (caseOf bytes) lengths (givenBy givens)) (trace' ≡ putBlocks (caseOf bytes) (givenBy givens) 0 lengths (start (caseOf bytes)) trace)

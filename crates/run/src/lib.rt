@@ -1,7 +1,6 @@
 // The run of an accepted case: its threads stand in a lent slice, and each block moves one of them.
 ghost use mathlib.Core.Path.{_≡_};
 ghost use Prim.Native.Nat.{ℕ, _%_, _≤_, _<_};
-ghost use mathlib.Core.List.{List};
 ghost use lib.ListN.{set, length, take};
 ghost use lib.Seq.{sets};
 ghost use Rattle.model.specs.Word.{wordSize};
@@ -14,7 +13,7 @@ ghost use Rattle.laws.specs.Accepted.{Accepted, linesFrom};
 ghost use Rattle.case_file.specs.Present.{InHeader};
 ghost use Rattle.turn.specs.TurnState.{itemsOf, givenBy};
 ghost use Rattle.run.specs.RunState.{turnOf, restsOf, firstThread, firstThreads, firstShared};
-ghost use Rattle.run.specs.Promises.{AllGiven, BlockReady, RestReady, RunReady, RunAtBlock, ItemsReady, BlockAt, MovedBy, Played, lookedAt, outcomeOf, Replies, Traced};
+ghost use Rattle.run.specs.Promises.{AllGiven, BlockReady, RestReady, RunReady, RunAtBlock, ItemsReady, BlockAt, MovedBy, Played, lookedAt, Closed, Traced};
 use model::ITEMS;
 use model::LOCALS;
 use model::Replayed;
@@ -333,7 +332,7 @@ fn look_left(threads: [Thread; THREADS], shared: Shared, case: &[u8], given: &[u
 
 // What a run has come to.
 fn end_of(threads: [Thread; THREADS], shared: Shared) -> Ended
-    ensures { λ r. ⌜ ((bytes : List ℕ) → Replies bytes (outcomeOf bytes threads shared) r) ⌝ }
+    ensures { λ r. ⌜ Closed threads shared r ⌝ }
 {
     let items = shared.items;
     let stand = shared.stand;

@@ -31,7 +31,8 @@ returns c =
     let entry = threads .before .before .before .before .before in
     record {
       replies = run-replies _ (entry .pre .accepted) (entry .args .given .now) (entry .args .lengths .now) _ _ (threads .first-threads .ensures) (shared .first-shared .ensures) _
-          (comes _ _ _ _ _ _ _ _ _ (ran .lend .ensures) _ _ (c .before .look-left .ensures) (c .end-of .ensures));
+          (comes _ _ _ _ _ _ _ _ _ (ran .lend .ensures) _ _ (c .before .look-left .ensures) (c .end-of .ensures .replies));
+      within = rw (c .end-of .ensures .same) (ran .lend .ensures .ready .within);
       traced = λ numbered. run-traced _ (entry .pre .accepted) (entry .args .given .now) (entry .args .lengths .now) _ _ (threads .first-threads .ensures) (shared .first-shared .ensures) _ _
           (traced-at-the-end _ _ _ _ _ _ _ _ _ (ran .lend .ensures) numbered);
     }
