@@ -216,13 +216,13 @@ module _ {M : Type 1} (𝓤 : URA M) (H : Heap 𝓤) (A : Atoms 𝓤) (W : Given
         move ! (2 ∷ 0 ∷ []) $ fjoin ! $ move ! (1 ∷ 0 ∷ []) $ fjoin ! $ move ! (1 ∷ 0 ∷ []) $ fjoin ! $ move ! (2 ∷ 0 ∷ []) $ fjoin ! $
         move ! (2 ∷ 0 ∷ []) $ use2 W (raw (Block 𝓤 H A mem run .pre (to ν μ δ τ))) (qed W (tokens-at ν μ ∷ ‵ (Owns ν μ δ τ) ∷ []) ∵ says ! (record { ready = x .plays .ready; is-block = more }) $ frame ! $ done !) $ frame ! $ done !
 
-    -- what is had of the two slices and of those that are seen
-    abbrev Had : List (Item 𝓤)
-    Had = ‵ (Lent κ γ (x .zs) (length ys)) ∷ ‵ (flft κ q) ∷ ‵ (Traced κt (tr .name) (x .ts) (length (tr .now))) ∷ ‵ (flft κt qt) ∷ seen-tokens ∷ ‵ seen ∷ []
+    -- what is had between the turns: the two slices at the lists so far, the tokens, and the three slices that are seen; and more
+    abbrev Had : List (Item 𝓤) → List (Item 𝓤)
+    Had more = ‵ (Lent κ γ (x .zs) (length ys)) ∷ ‵ (flft κ q) ∷ ‵ (Traced κt (tr .name) (x .ts) (length (tr .now))) ∷ ‵ (flft κt qt) ∷ seen-tokens ∷ ‵ seen ∷ more
 
-    exits : length (l .now) ≤ x .i → Is S.the-row shared (sharedVal shared ∷ []) → ent 𝓤 (⋆ 𝓤 H A Had) (Post (sharedVal (x .sh)))
+    exits : length (l .now) ≤ x .i → Is S.the-row shared (sharedVal shared ∷ []) → ent 𝓤 (⋆ 𝓤 H A (Had [])) (Post (sharedVal (x .sh)))
     exits over gs =
-        qed W Had ∵
+        qed W (Had []) ∵
         suffices ! _ (ends-at 𝓤 H A blocks-at.ended stayed (blocks-at.clauses 𝓤 H A mem run) W ((κs, (q, (qc, (ql, (qg, (qt, tt))))), tt, a, vals), tt) (sharedVal (x .sh)) (x .sh) (x .zs, (tt, (tt, (tt, (tt, (x .ts, tt)))))) (x .long, (tt, (tt, (tt, (tt, (x .trace-long, tt))))))) $
         says ! (playing-end (c .now) (v .now) (l .now) ys shared (tr .now) (x .i) (x .zs) (x .sh) (x .ts) (x .plays) over) $
         move ! (4 ∷ 3 ∷ []) $ use2 W (tokens κt qt) (token-in κt qt) $ move ! (2 ∷ 0 ∷ []) $ join ! $ frame ! $
@@ -249,23 +249,22 @@ module _ {M : Type 1} (𝓤 : URA M) (H : Heap 𝓤) (A : Atoms 𝓤) (W : Given
   abbrev trace-of : Lasts → List ℕ
   trace-of ws = ws .1 .1 .1 .1 .1 .1 .0
 
-  -- the invariant: the two slices at the lists so far, the tokens, the three slices that are seen, `last`, `i`, the parameters, and room for the rest
+  -- the invariant: what is had between the turns, `last`, `i`, the parameters, and room for the rest
   abbrev Inv : (l0 l1 l2 l3 l4 l5 l6 l7 l8 l9 l10 l11 l12 l13 l14 : ℕ) → Place → List (Item 𝓤)
   Inv l0 l1 l2 l3 l4 l5 l6 l7 l8 l9 l10 l11 l12 l13 l14 x =
-      ‵ (Lent κ γ (x .zs) (length ys)) ∷ ‵ (flft κ q) ∷ ‵ (Traced κt (tr .name) (x .ts) (length (tr .now))) ∷ ‵ (flft κt qt) ∷ seen-tokens ∷ ‵ seen
-      ∷ ‵ (fat fullShare S′.mir l7 0 (sharedVal (x .sh))) ∷ ‵ (fdies S′.mir l7) ∷ ‵ (fat fullShare (tyInt w64) l8 0 (vint w64 (x .i))) ∷ ‵ (fdies (tyInt w64) l8)
+      Had x (‵ (fat fullShare S′.mir l7 0 (sharedVal (x .sh))) ∷ ‵ (fdies S′.mir l7) ∷ ‵ (fat fullShare (tyInt w64) l8 0 (vint w64 (x .i))) ∷ ‵ (fdies (tyInt w64) l8)
       ∷ ‵ (fat fullShare (sliceTy (tyRef (named 0) mut pointed)) l1 0 s) ∷ ‵ (fdies (sliceTy (tyRef (named 0) mut pointed)) l1)
       ∷ ‵ (fat fullShare (sliceTy (tyRef (named 1) imm (tyInt w8))) l2 0 (valOf c)) ∷ ‵ (fdies (sliceTy (tyRef (named 1) imm (tyInt w8))) l2) ∷ ‵ (fat fullShare (sliceTy (tyRef (named 2) imm (tyInt w16))) l3 0 (valOf l)) ∷ ‵ (fdies (sliceTy (tyRef (named 2) imm (tyInt w16))) l3)
       ∷ ‵ (fat fullShare (sliceTy (tyRef (named 3) imm (tyInt w16))) l4 0 (valOf v)) ∷ ‵ (fdies (sliceTy (tyRef (named 3) imm (tyInt w16))) l4) ∷ ‵ (fat fullShare S′.mir l5 0 (sharedVal shared)) ∷ ‵ (fdies S′.mir l5)
       ∷ ‵ (fat fullShare (sliceTy (tyRef (named 4) mut (tyInt w16))) l6 0 (valOf tr)) ∷ ‵ (fdies (sliceTy (tyRef (named 4) mut (tyInt w16))) l6)
       ∷ ‵ (froom S′.mir l0 0) ∷ ‵ (fdies S′.mir l0) ∷ ‵ (froom (tyInt w64) l9 0) ∷ ‵ (fdies (tyInt w64) l9) ∷ ‵ (froom tyBool l10 0) ∷ ‵ (fdies tyBool l10)
       ∷ ‵ (froom (tyRef erased mut pointed) l11 0) ∷ ‵ (fdies (tyRef erased mut pointed) l11) ∷ ‵ (froom (sliceTy (tyRef erased mut pointed)) l12 0) ∷ ‵ (fdies (sliceTy (tyRef erased mut pointed)) l12)
-      ∷ ‵ (froom (tyRef erased mut (tyInt w16)) l13 0) ∷ ‵ (fdies (tyRef erased mut (tyInt w16)) l13) ∷ ‵ (froom (sliceTy (tyRef erased mut (tyInt w16))) l14 0) ∷ ‵ (fdies (sliceTy (tyRef erased mut (tyInt w16))) l14) ∷ []
+      ∷ ‵ (froom (tyRef erased mut (tyInt w16)) l13 0) ∷ ‵ (fdies (tyRef erased mut (tyInt w16)) l13) ∷ ‵ (froom (sliceTy (tyRef erased mut (tyInt w16))) l14 0) ∷ ‵ (fdies (sliceTy (tyRef erased mut (tyInt w16))) l14) ∷ [])
 
   module _ (𝓣 : Tables 𝓤 H) (fm : FmC 𝓤 H (W .laws) (𝓣 .C)) (known : Triple 𝓤 (𝓣 .C #run·block-at) (Block 𝓤 H A mem run)) where
     -- the walk, to any postcondition that what is had at the end of the loop gives
     walk : Room T.the-row (length ys) → Is (ShrSlice (named 1) κc u8) c (valOf c ∷ []) → Is (ShrSlice (named 2) κl u16) l (valOf l ∷ []) → Is (ShrSlice (named 3) κg u16) v (valOf v ∷ []) → Is S.the-row shared (sharedVal shared ∷ []) → Room u16 (length (tr .now))
-        → (Kf : Val → SProp 𝓤) → ((x : Place) → length (l .now) ≤ x .i → ent 𝓤 (⋆ 𝓤 H A (Had x)) (Kf (sharedVal (x .sh))))
+        → (Kf : Val → SProp 𝓤) → ((x : Place) → length (l .now) ≤ x .i → ent 𝓤 (⋆ 𝓤 H A (Had x [])) (Kf (sharedVal (x .sh))))
         → ent 𝓤 (onEntry 𝓤 H A blocks-at.signature κs (q, (qc, (ql, (qg, (qt, tt))))) a vals) (WpFn 𝓤 H (𝓣 .C) (𝓣 .Λ) code.function (s ∷ valOf c ∷ valOf l ∷ valOf v ∷ sharedVal shared ∷ valOf tr ∷ []) Kf)
     unfolding afterTurn next start
     walk room is-c is-l is-v gs trace-room Kf ends =
