@@ -1,54 +1,35 @@
 -- The replayer's answers, by what the code finds.
 -- Assumes nothing.
-use mathlib.Core.Path.{_≡_, refl, sym, ap, _∙_, fun-ext}
-use Prim.Native.Nat.{ℕ, suc, _+_, _≤_, _<_}
-use mathlib.Core.Bool.{Bool, true, false}
-use mathlib.Core.List.{List, [], _∷_, _++_, append-assoc}
+use mathlib.Core.Path.{_≡_, refl, sym, ap, _∙_}
+use mathlib.Core.Logic.{_≢_}
+use Prim.Native.Nat.{ℕ, _+_, _≤_, _<_}
+use mathlib.Core.List.{List}
 use native.Mathlib.Omega.{arith}
-use native.Mathlib.Numerals.{add-one}
-use lib.ListN.{getD, set, length, take, drop, length-set}
-use lib.Seq.{set-at, drop-cons, take-suc, length-take-le}
-use borrow.Author.Tests.{le-leb, lt-leb, eq-eqb, ne-eqb}
+use lib.ListN.{length, take}
+use lib.Seq.{length-take-le}
+use borrow.Author.Tests.{le-leb, lt-leb}
 use Rattle.model.specs.Limits.{mostItems}
 use Rattle.model.specs.Lists.{writtenOver}
 use Rattle.model.specs.CaseFile.{switchCount, caseOf, itemCount}
 use Rattle.model.specs.Accept.{verdict}
-use Rattle.model.specs.Machine.{State, Outcome, refused14, cutOff, violated, clean, run}
-use Rattle.model.specs.Schedule.{allInputLines, scheduleSize, blockLengths, valueGiven, lengthsFit, runOf}
+use Rattle.model.specs.Machine.{State, Outcome, refused14, cutOff, violated, clean}
+use Rattle.model.specs.Schedule.{runOf}
 use Rattle.model.specs.Answers.{answerOfRun, itemsAfter, afterReplayed, replayed, replayedInto}
 use Rattle.model.specs.declared.Verdict.the-variants as verdicts
 use Rattle.model.specs.declared.Replayed.{Replayed}
 use Rattle.model.specs.declared.Replayed.the-variants.{Violated, Clean, CutOff, Refused}
-use Rattle.laws.proofs.Accepted.{accepted-of}
 use Rattle.laws.proofs.OnCase.{on-accepted, on-refused}
-use Rattle.turn.specs.TurnState.{itemsOf, givenBy}
+use Rattle.turn.specs.TurnState.{itemsOf}
 use Rattle.run.specs.declared.Ended.{Ended}
 use Rattle.run.specs.Promises.{EndState, Replies}
-use Rattle.replayer.specs.InputValues.{Inputs, putThreads, noInputs}
+use Rattle.schedule_check.specs.Refusals.{Looked}
+use Rattle.schedule_check.proofs.Refusals.{refused-by, passed-by, run-is}
 use Rattle.replayer.specs.Promises.{outcomeIn, Ran, Answered}
 use Rattle.replayer.specs.Ready.{ItemsFit}
-use Rattle.replayer.proofs.Values.{used-is, value-is}
 
--- The first g values are written.
-pub record ItemsWritten (values slice : List ℕ) (count : ℕ) (items : List ℕ) (g : ℕ) : Type 0 where
-  pub upto : g ≤ count
-  pub size : length items ≡ length slice
-  pub written : items ≡ take g values ++ drop g slice
-
-module _ {values slice : List ℕ} {count : ℕ} (fits : ItemsFit count slice) (all : length values ≡ mostItems) {items : List ℕ} {g : ℕ}
-    (v : ItemsWritten values slice count items g) where
-  pub items-more : g < count → ItemsWritten values slice count (set items g (getD values g 0)) (g + 1)
-  items-more h = record {
-    upto = omega arith;
-    size = length-set items g (getD values g 0) ∙ v .size;
-    written = rw (v .written, drop-cons slice g 0 (omega arith), add-one g, take-suc values g 0 (omega arith))
-        (set-at (take g values) (getD slice g 0) (drop (suc g) slice) (getD values g 0) g (length-take-le g values (omega arith))
-        ∙ sym (append-assoc (take g values) (getD values g 0 ∷ []) (drop (suc g) slice)));
-  }
-
-  pub items-end : count ≤ g → items ≡ writtenOver (take count values) slice
-  unfolding writtenOver
-  items-end h = let e : g ≡ count = omega arith in rw (length-take-le count values (omega arith), ← e) (v .written)
+-- The values of the items have a place in the slice.
+pub first-fit : (values slice : List ℕ) (count : ℕ) → ItemsFit count slice → length values ≡ mostItems → length (take count values) ≤ length slice
+first-fit values slice count fits all = omega (arith, length-take-le count values (omega (arith, fits .few)), fits .room)
 
 -- The replies with which the items are written.
 abbrev pub Writes : Replayed → Type 0
@@ -96,74 +77,31 @@ module _ (bytes schedule slice : List ℕ) where
   unfolding replayed
   answers-refused number place e = answers (Refused number place) slice (rw (on-refused _ _ _ number place e)) refl
 
-  module _ (accepted : verdict bytes ≡ verdicts.Accepted) {switches count : ℕ}
-      (is-switches : switches ≡ switchCount bytes) (is-count : count ≡ itemCount (caseOf bytes))
-    where
-      pub answers-10 : length slice < count → Answered bytes schedule slice slice (Refused 10 0)
+  module _ (accepted : verdict bytes ≡ verdicts.Accepted) {count : ℕ} (is-count : count ≡ itemCount (caseOf bytes)) where
+    pub answers-10 : length slice < count → Answered bytes schedule slice slice (Refused 10 0)
+    unfolding replayed
+    answers-10 short =
+        answers (Refused 10 0) slice
+        (rw (on-accepted _ _ _ accepted, lt-leb (itemCount (caseOf bytes)) (length slice) (omega (arith, short, is-count)))) refl
+
+    module _ (room : count ≤ length slice) {refusal : ℕ} {givens : List ℕ} (looked : Looked bytes schedule refusal givens) where
+      enough : itemCount (caseOf bytes) ≤ length slice
+      enough = omega (arith, room, is-count)
+
+      pub answers-looked : refusal ≢ 0 → Answered bytes schedule slice slice (Refused refusal 0)
       unfolding replayed
-      answers-10 short =
-          answers (Refused 10 0) slice
-          (rw (on-accepted _ _ _ accepted, lt-leb (itemCount (caseOf bytes)) (length slice) (omega (arith, short, is-count)))) refl
+      answers-looked some =
+          answers (Refused refusal 0) slice
+          (rw (on-accepted _ _ _ accepted, le-leb (itemCount (caseOf bytes)) (length slice) enough)
+          (refused-by (caseOf bytes) schedule (λ number. Refused number 0) (answerOfRun (runOf (caseOf bytes) schedule)) refusal (looked .refuses) some)) refl
 
-      module _ (room : count ≤ length slice) {f : Inputs}
-          (is-spread : f ≡ putThreads schedule (caseOf bytes .threads) (noInputs (switches + 1)))
-        where
-          enough : itemCount (caseOf bytes) ≤ length slice
-          enough = omega (arith, room, is-count)
-
-          size-is : f .used ≡ scheduleSize (caseOf bytes)
-          size-is = ap (λ (x : Inputs). x .used) is-spread ∙ used-is bytes schedule (switches + 1)
-              ∙ ap (λ (x : ℕ). x + length (allInputLines (caseOf bytes .threads))) (let e : switches + 1 ≡ suc (switchCount bytes) = omega arith in e)
-
-          pub answers-12 : (length schedule ≡ f .used → ⊥) → Answered bytes schedule slice slice (Refused 12 0)
-          unfolding replayed
-          answers-12 differ =
-              answers (Refused 12 0) slice
-              (rw (
-                on-accepted _ _ _ accepted,
-                le-leb (itemCount (caseOf bytes)) (length slice) enough,
-                ne-eqb (length schedule) (scheduleSize (caseOf bytes)) (λ e. differ (e ∙ sym size-is)),
-              )) refl
-
-          module _ (whole : length schedule ≡ f .used) {fit : Bool} (is-fit : fit ≡ lengthsFit (caseOf bytes) (take (switches + 1) schedule)) where
-            blocks : switches + 1 ≡ suc (switchCount bytes)
-            blocks = omega arith
-
-            fit-is : fit ≡ lengthsFit (caseOf bytes) (blockLengths (caseOf bytes) schedule)
-            fit-is = is-fit ∙ ap (λ (x : ℕ). lengthsFit (caseOf bytes) (take x schedule)) blocks
-
-            pub answers-13 : fit ≡ false → Answered bytes schedule slice slice (Refused 13 0)
-            unfolding replayed
-            answers-13 fail =
-                answers (Refused 13 0) slice
-                (rw (
-                  on-accepted _ _ _ accepted,
-                  le-leb (itemCount (caseOf bytes)) (length slice) enough,
-                  eq-eqb (length schedule) (scheduleSize (caseOf bytes)) (whole ∙ size-is),
-                  ← fit-is,
-                  fail,
-                )) refl
-
-            same-run : run (caseOf bytes) (take (switches + 1) schedule) (givenBy (f .given)) ≡ runOf (caseOf bytes) schedule
-            unfolding runOf
-            same-run =
-                ap (λ (x : ℕ). run (caseOf bytes) (take x schedule) (givenBy (f .given))) blocks
-                ∙ ap (run (caseOf bytes) (blockLengths (caseOf bytes) schedule))
-                (fun-ext (λ k. ap (λ (x : Inputs). getD (x .given) k 0) is-spread
-                ∙ value-is bytes schedule (switches + 1) (accepted-of bytes accepted) (whole ∙ ap (λ (x : Inputs). x .used) is-spread ∙ used-is bytes schedule (switches + 1)) k
-                ∙ ap (λ (x : ℕ). valueGiven (allInputLines (caseOf bytes .threads)) (drop x schedule) k) blocks))
-
-            pub answers-run : {r : Replayed} {after : List ℕ} → fit ≡ true → Ran bytes (take (switches + 1) schedule) (f .given) slice r after
-                → Answered bytes schedule slice after r
-            unfolding replayed
-            answers-run {r} {after} pass ran =
-                answers r after
-                (rw (
-                  on-accepted _ _ _ accepted,
-                  le-leb (itemCount (caseOf bytes)) (length slice) enough,
-                  eq-eqb (length schedule) (scheduleSize (caseOf bytes)) (whole ∙ size-is),
-                  ← fit-is,
-                  pass,
-                )
-                (ran .answer ∙ ap answerOfRun same-run))
-                (ran .written ∙ ap (λ (x : Outcome). afterReplayed r (itemsAfter x) slice) same-run)
+      pub answers-run : {switches : ℕ} {r : Replayed} {after : List ℕ} → switches ≡ switchCount bytes → refusal ≡ 0
+          → Ran bytes (take (switches + 1) schedule) givens slice r after → Answered bytes schedule slice after r
+      unfolding replayed
+      answers-run {switches} {r} {after} is-switches none ran =
+          let same-run = run-is bytes schedule givens refusal looked none is-switches in
+          answers r after
+          (rw (on-accepted _ _ _ accepted, le-leb (itemCount (caseOf bytes)) (length slice) enough)
+          (ran .answer ∙ ap answerOfRun same-run
+          ∙ passed-by (caseOf bytes) schedule (λ number. Refused number 0) (answerOfRun (runOf (caseOf bytes) schedule)) refusal (looked .refuses) none))
+          (ran .written ∙ ap (λ (x : Outcome). afterReplayed r (itemsAfter x) slice) same-run)

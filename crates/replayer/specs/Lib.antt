@@ -1,3 +1,2 @@
-pub mod InputValues
 pub mod Promises
 pub mod Ready

@@ -1,13 +1,13 @@
--- `replayer::put_thread` meets its contract. The invariant: the lines that are left decide. Assumes nothing.
+-- `schedule_check::put_thread` meets its contract. The invariant: the lines that are left decide. Assumes nothing.
 use mathlib.Core.Logic.{⊎-elim}
 use native.Mathlib.Omega.{arith}
 use lib.ListN.{length}
 use Rattle.laws.specs.Accepted.{linesFrom}
-use Rattle.replayer.specs.InputValues.{inputs}
-use Rattle.replayer.proofs.InputLoops.{Putting, putting-start, putting-few, putting-more, putting-end, fewer-lines, next-is-input, next-is-other}
+use Rattle.schedule_check.specs.InputValues.{inputs}
+use Rattle.schedule_check.proofs.InputLoops.{Putting, putting-start, putting-few, putting-more, putting-end, fewer-lines, next-is-input, next-is-other}
 use borrow.Author.Needs.{needs}
-use Rattle.replayer.proofs.put_thread.Statement.{statement}
-use Rattle.replayer.proofs.put_thread.Tie as tie
+use Rattle.schedule_check.proofs.put_thread.Statement.{statement}
+use Rattle.schedule_check.proofs.put_thread.Tie as tie
 
 abbrev Inv-loop : tie.InvT-loop
 Inv-loop case schedule t start given₀ k₀ used₀ lines₀ given k used lines = Putting case schedule t (inputs given₀ start) k (inputs given used) lines

@@ -15,8 +15,8 @@ use Rattle.laws.proofs.Chains.{threads-are, linesFrom-end}
 use Rattle.laws.proofs.Views.{EqView, same, diff, eq-view}
 use Rattle.laws.proofs.Lines.{few-lines-from}
 use Rattle.line.proofs.KindNumbers.{input-other}
-use Rattle.replayer.specs.InputValues.{Inputs, putNext, putLines, putThreads, ThreadPut, AllPut}
-use Rattle.replayer.specs.Ready.{InputsReady}
+use Rattle.schedule_check.specs.InputValues.{Inputs, putNext, putLines, putThreads, ThreadPut, AllPut}
+use Rattle.schedule_check.specs.Ready.{InputsReady}
 
 module _ (schedule : List ℕ) (kind k : ℕ) (f f' : Inputs) where
   pub next-is-input : (v : ℕ) → kind ≡ 4 → v ≡ getD schedule (f .used) 0 → f' .given ≡ set (f .given) k v → f' .used ≡ f .used + 1

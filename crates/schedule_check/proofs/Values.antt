@@ -16,7 +16,7 @@ use Rattle.model.specs.Schedule.{inputLines, allInputLines, valueGiven}
 use Rattle.laws.specs.Accepted.{Accepted}
 use Rattle.laws.proofs.Views.{EqView, same, diff, eq-view, LtView, below, above, lt-view}
 use Rattle.laws.proofs.Lines.{numbers-within, numbers-once}
-use Rattle.replayer.specs.InputValues.{Inputs, putNext, putLines, putThreads, noInputs}
+use Rattle.schedule_check.specs.InputValues.{Inputs, putNext, putLines, putThreads, noInputs}
 
 -- the next value goes to record k
 abbrev put : List ℕ → ℕ → Inputs → Inputs
@@ -151,6 +151,11 @@ module _ (bytes schedule : List ℕ) (lengths : ℕ) where
   pub used-is : spread .used ≡ lengths + length lines
   used-is = ap (λ (x : Inputs). x .used) (threads-put schedule (caseOf bytes .threads) (noInputs lengths)) ∙ puts-used schedule lines (noInputs lengths)
 
+  pub places-are : length (spread .given) ≡ recordPlaces
+  places-are =
+      ap (λ (x : Inputs). length (x .given)) (threads-put schedule (caseOf bytes .threads) (noInputs lengths))
+      ∙ puts-places schedule lines (noInputs lengths) ∙ length-replicate {A = ℕ} recordPlaces 0
+
   pub value-is : Accepted bytes → length schedule ≡ lengths + length lines → (k : ℕ)
       → getD (spread .given) k 0 ≡ valueGiven lines (drop lengths schedule) k
   value-is ok enough k =
@@ -162,19 +167,3 @@ module _ (bytes schedule : List ℕ) (lengths : ℕ) where
       (omega (arith, numbers-once bytes ok k, among k))
       ∙ ap (valueOr lines (drop lengths schedule) k) (no-value k)
       ∙ value-or-none lines (drop lengths schedule) k
-
--- A schedule with a number for each use has its block lengths.
-pub has-lengths : (bytes schedule : List ℕ) (lengths : ℕ) (f : Inputs) → f ≡ putThreads schedule (caseOf bytes .threads) (noInputs lengths)
-    → length schedule ≡ f .used → lengths ≤ length schedule
-has-lengths bytes schedule lengths f is whole = omega (arith, whole, ap (λ (x : Inputs). x .used) is, used-is bytes schedule lengths)
-
--- Every record number has a place among the values.
-pub places : (bytes schedule : List ℕ) (lengths : ℕ) (f : Inputs) → f ≡ putThreads schedule (caseOf bytes .threads) (noInputs lengths)
-    → length (f .given) ≡ recordPlaces
-places bytes schedule lengths f is =
-    ap (λ (x : Inputs). length (x .given)) (is ∙ threads-put schedule (caseOf bytes .threads) (noInputs lengths))
-    ∙ puts-places schedule (allInputLines (caseOf bytes .threads)) (noInputs lengths) ∙ length-replicate {A = ℕ} recordPlaces 0
-
-pub records-have-places : (bytes schedule : List ℕ) (lengths : ℕ) (f : Inputs) → Accepted bytes
-    → f ≡ putThreads schedule (caseOf bytes .threads) (noInputs lengths) → records bytes < length (f .given)
-records-have-places bytes schedule lengths f ok is = omega (arith, ok .few-records, places bytes schedule lengths f is)

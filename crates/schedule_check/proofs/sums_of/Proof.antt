@@ -1,12 +1,12 @@
--- `replayer::sums_of` meets its contract. The invariant: the sums so far and the lengths that are left. Assumes nothing.
+-- `schedule_check::sums_of` meets its contract. The invariant: the sums so far and the lengths that are left. Assumes nothing.
 use mathlib.Core.Path.{refl}
 use Prim.Native.Nat.{_-_, _%_}
 use native.Mathlib.Omega.{arith}
 use lib.ListN.{length}
-use Rattle.replayer.proofs.Sums.{Adding, adding-start, adding-more, adding-end, belongs}
+use Rattle.schedule_check.proofs.Sums.{Adding, adding-start, adding-more, adding-end, belongs}
 use borrow.Author.Needs.{needs}
-use Rattle.replayer.proofs.sums_of.Statement.{statement}
-use Rattle.replayer.proofs.sums_of.Tie as tie
+use Rattle.schedule_check.proofs.sums_of.Statement.{statement}
+use Rattle.schedule_check.proofs.sums_of.Tie as tie
 
 abbrev Inv-loop : tie.InvT-loop
 Inv-loop case lengths threads sums₀ i₀ sums i = Adding case lengths i sums

@@ -1,10 +1,10 @@
--- `replayer::lengths_fit` meets its contract. The invariant: the threads that are left decide. Assumes nothing.
+-- `schedule_check::lengths_fit` meets its contract. The invariant: the threads that are left decide. Assumes nothing.
 use Prim.Native.Nat.{_-_}
 use native.Mathlib.Omega.{arith}
-use Rattle.replayer.proofs.Sums.{Comparing, comparing-start, comparing-more, comparing-fails, comparing-end}
+use Rattle.schedule_check.proofs.Sums.{Comparing, comparing-start, comparing-more, comparing-fails, comparing-end}
 use borrow.Author.Needs.{needs}
-use Rattle.replayer.proofs.lengths_fit.Statement.{statement}
-use Rattle.replayer.proofs.lengths_fit.Tie as tie
+use Rattle.schedule_check.proofs.lengths_fit.Statement.{statement}
+use Rattle.schedule_check.proofs.lengths_fit.Tie as tie
 
 abbrev Inv-loop : tie.InvT-loop
 Inv-loop case lengths lines threads sums t₀ t = Comparing case lengths threads t

@@ -1,11 +1,11 @@
--- `replayer::inputs_of` meets its contract. The invariant: the threads that are left decide. Assumes nothing.
+-- `schedule_check::inputs_of` meets its contract. The invariant: the threads that are left decide. Assumes nothing.
 use Prim.Native.Nat.{_-_}
 use native.Mathlib.Omega.{arith}
-use Rattle.replayer.specs.InputValues.{inputs}
-use Rattle.replayer.proofs.InputLoops.{Spreading, spreading-start, spreading-more, spreading-end}
+use Rattle.schedule_check.specs.InputValues.{inputs}
+use Rattle.schedule_check.proofs.InputLoops.{Spreading, spreading-start, spreading-more, spreading-end}
 use borrow.Author.Needs.{needs}
-use Rattle.replayer.proofs.inputs_of.Statement.{statement}
-use Rattle.replayer.proofs.inputs_of.Tie as tie
+use Rattle.schedule_check.proofs.inputs_of.Statement.{statement}
+use Rattle.schedule_check.proofs.inputs_of.Tie as tie
 
 abbrev Inv-loop : tie.InvT-loop
 Inv-loop case schedule lengths given₀ threads lines₀ used₀ t₀ given lines used t = Spreading case schedule (inputs given₀ lengths) t (inputs given used) lines

@@ -1,0 +1,4 @@
+pub mod InputLoops
+pub mod Values
+pub mod Sums
+pub mod Refusals

@@ -1,0 +1,3 @@
+pub mod InputValues
+pub mod Ready
+pub mod Refusals
