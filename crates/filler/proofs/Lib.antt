@@ -1,0 +1,2 @@
+pub mod Unrun
+pub mod Lateness

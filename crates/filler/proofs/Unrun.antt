@@ -1,0 +1,47 @@
+-- The lines that a run leaves get the numbers of lines that were not run: what is left decides.
+-- Assumes nothing.
+use mathlib.Core.Path.{_≡_, refl, sym, ap, _∙_}
+use mathlib.Core.Logic.{_≢_}
+use Prim.Native.Nat.{ℕ, suc, _+_, _≤_}
+use mathlib.Core.List.{List}
+use native.Mathlib.Omega.{arith}
+use lib.ListN.{set, length, length-set}
+use Rattle.model.specs.CaseFile.{Line, records, switchCount, nextRecord, recordField, kindOf, caseOf}
+use Rattle.model.specs.Line.{unrunValue}
+use Rattle.model.specs.Assignment.{blockPlace, valuePlace}
+use Rattle.model.specs.Fill.{putRecord, putUnrun}
+use Rattle.laws.specs.Accepted.{linesFrom}
+use Rattle.laws.proofs.Following.{lines-end, lines-more, next-low}
+use Rattle.filler.specs.Ready.{ChainReady}
+
+pub length-put-record : (k block value : ℕ) (xs : List ℕ) → length (putRecord k block value xs) ≡ length xs
+length-put-record k block value xs = length-set (set xs (blockPlace k) block) (valuePlace k) value ∙ length-set xs (blockPlace k) block
+
+-- Within a chain, at record `at`.
+pub record Leaving (bytes : List ℕ) (k : ℕ) (xs₀ : List ℕ) (at : ℕ) (xs : List ℕ) : Type 0 where
+  pub low : at ≤ records bytes
+  pub size : length xs ≡ length xs₀
+  pub does : (t : ℕ) → putUnrun (caseOf bytes) (linesFrom bytes t at) xs ≡ putUnrun (caseOf bytes) (linesFrom bytes t k) xs₀
+
+module _ {bytes : List ℕ} {k : ℕ} (ready : ChainReady bytes k) (xs₀ : List ℕ) where
+  pub leaving-start : Leaving bytes k xs₀ k xs₀
+  leaving-start = record { low = ready .within; size = refl; does = λ t. refl }
+
+  module _ {at : ℕ} {xs : List ℕ} (v : Leaving bytes k xs₀ at xs) where
+    pub leaving-end : at ≡ 0 → (t : ℕ) → xs ≡ putUnrun (caseOf bytes) (linesFrom bytes t k) xs₀
+    leaving-end e t = sym (ap (λ (ls : List Line). putUnrun (caseOf bytes) ls xs) (lines-end bytes t at e)) ∙ v .does t
+
+    pub leaving-more : at ≢ 0 → {kind switches next : ℕ} {xs' : List ℕ} → switches ≡ switchCount bytes → kind ≡ recordField bytes at 1
+        → next ≡ nextRecord bytes at → {value : ℕ} → value ≡ unrunValue (kindOf kind) → xs' ≡ putRecord at (switches + 1) value xs
+        → Leaving bytes k xs₀ next xs'
+    leaving-more some {kind} {switches} {next} {xs'} is-switches is-kind is-next {value} is-value is-put =
+        let block : switches + 1 ≡ suc (switchCount bytes) = omega arith in
+        let put : xs' ≡ putRecord at (suc (switchCount bytes)) (unrunValue (kindOf (recordField bytes at 1))) xs =
+        is-put ∙ ap (λ (b : ℕ). putRecord at b value xs) block
+        ∙ ap (λ (v : ℕ). putRecord at (suc (switchCount bytes)) v xs) (is-value ∙ ap (λ (x : ℕ). unrunValue (kindOf x)) is-kind) in
+        rw is-next (record {
+          low = next-low bytes (ready .accepted) 0 at some (v .low);
+          size = ap length is-put ∙ length-put-record at (switches + 1) value xs ∙ v .size;
+          does = λ t. ap (putUnrun (caseOf bytes) (linesFrom bytes t (nextRecord bytes at))) put
+              ∙ sym (ap (λ (ls : List Line). putUnrun (caseOf bytes) ls xs) (lines-more bytes (ready .accepted) t at some (v .low))) ∙ v .does t;
+        })
