@@ -1,4 +1,4 @@
--- Every number that a run or a decoded schedule has is below 65,536: the values of lines, the events, the items where blocks end.
+-- Every number that a run, a filled assignment or a decoded schedule has is below 65,536.
 -- Assumes nothing. Met again in Demand3, which speaks of 16-bit numbers only.
 use mathlib.Core.Path.{_≡_}
 use Prim.Native.Nat.{ℕ, zero, suc, _+_, _-_, _*_, _%_, _<_}
@@ -9,22 +9,21 @@ use native.Mathlib.Nat.{mod-lt}
 use lib.Dec.{ltb, eqb}
 use lib.Bits.{and-lt, or-lt}
 use lib.ListN.{getD, set, length, drop, replicate}
+use lib.Seq.{sets}
 use Rattle.laws.proofs.Below.{below-at, all-below-set, all-below-append, all-below-replicate, all-below-numbersFrom}
 use Rattle.model.specs.Word.{wordSize, AllBelow, bit, nonzero}
 use Rattle.model.specs.Limits.{localCount}
-use Rattle.model.specs.Lists.{numbersFrom}
-use Rattle.model.specs.CaseFile.{Kind, compute, store, load, input, assert, assume, lock, unlock, Line, Case, linesOf, itemCount}
-use Rattle.model.specs.Line.{operandA, operandB, targetName, Reads, guardTrue, apply, expression, guardedInValue, guardedOutValue, valueBy, valueOf, isInput}
-use Rattle.model.specs.Assignment.{Assignment, assignmentOf, wasRun}
+use Rattle.model.specs.CaseFile.{Kind, compute, store, load, input, assert, assume, lock, unlock, Line, Case, linesOf}
+use Rattle.model.specs.Line.{operandA, operandB, targetName, Reads, guardTrue, apply, expression, guardedInValue, guardedOutValue, valueBy, valueOf, unrunValue, isInput}
+use Rattle.model.specs.Assignment.{Assignment, variables, blockPlace, valuePlace, itemsPlace, assignmentOf, wasRun}
 use Rattle.model.specs.Copies.{readsAfter}
 use Rattle.model.specs.Machine.{Memory, State, look, putLocal, putItem, readsIn, stepped, start, restIn, memoryIn}
-use Rattle.model.specs.Schedule.{allInputLines, valueGiven, countedLengths, decodedValues, allDecodedValues, decode}
+use Rattle.model.specs.Schedule.{allInputLines, blockLengths, inputValues, valueGiven, givenIn, countedLengths, decodedValues, allDecodedValues, decode}
 use Rattle.laws.specs.Order.{AllLines}
 use Rattle.correspondence.specs.Meaning.{SmallLine, WellFormed}
-use Rattle.model.specs.Runs.{memoryAfter, endMemory, nextState}
-use Rattle.correspondence.specs.Trace.{Event, blockEvents, leftEvents, allLeftEvents, events, snapshots}
+use Rattle.model.specs.Runs.{blockSteps, memoryAfter, endMemory, nextState, linesLeft}
+use Rattle.model.specs.Fill.{putRecord, putSteps, putBlocks, putUnrun, putAllUnrun, fill}
 use Rattle.laws.proofs.Schedules.{lines-in-block-few}
-use Rattle.correspondence.specs.Fill.{blockIn, valueIn, traced, recordNumbers, blockNumbers, numbersOfAssignment, tracedRun}
 use Rattle.laws.proofs.AllLines.{all-dropped, each-after-set}
 use Rattle.laws.proofs.Unrun.{unrun-small}
 use Rattle.correspondence.proofs.Blocks.{turn}
@@ -126,21 +125,23 @@ small-put-item on name x xs h small =
 abbrev SmallLines : List Line → Type 0
 SmallLines ls = AllLines SmallLine ls
 
-abbrev SmallEvents : List Event → Type 0
-SmallEvents [] = Unit
-SmallEvents (e ∷ es) = (e .block < wordSize) × (e .value < wordSize) × SmallEvents es
+-- Numbers that are written.
+small-record : (k block value : ℕ) (xs : List ℕ) → block < wordSize → value < wordSize → Small xs → Small (putRecord k block value xs)
+small-record k block value xs few small h =
+    all-below-set wordSize (set xs (blockPlace k) block) (valuePlace k) value (all-below-set wordSize xs (blockPlace k) block h few) small
 
-small-events-append : (es fs : List Event) → SmallEvents es → SmallEvents fs → SmallEvents (es ++ fs)
-small-events-append [] fs h g = g
-small-events-append (e ∷ es) fs h g = (h .0, h .1, small-events-append es fs (h .2) g)
+small-sets : (xs : List ℕ) (at : ℕ) (vs : List ℕ) → Small vs → Small xs → Small (sets xs at vs)
+small-sets xs at [] small h = h
+small-sets xs at (v ∷ vs) small h = small-sets (set xs at v) (suc at) vs (small .1) (all-below-set wordSize xs at v h (small .0))
 
-small-left : (i : ℕ) (ls : List Line) → i < wordSize → SmallEvents (leftEvents i ls)
-small-left i [] h = tt
-small-left i (l ∷ ls) h = (h, unrun-small (l .kind), small-left i ls h)
+module _ (case : Case) (few : suc (case .n) < wordSize) where
+  small-unrun : (ls : List Line) (xs : List ℕ) → Small xs → Small (putUnrun case ls xs)
+  small-unrun [] xs h = h
+  small-unrun (l ∷ ls) xs h = small-unrun ls _ (small-record (l .number) (suc (case .n)) (unrunValue (l .kind)) xs few (unrun-small (l .kind)) h)
 
-small-all-left : (i : ℕ) (rests : List (List Line)) → i < wordSize → SmallEvents (allLeftEvents i rests)
-small-all-left i [] h = tt
-small-all-left i (ls ∷ rests) h = small-events-append (leftEvents i ls) (allLeftEvents i rests) (small-left i ls h) (small-all-left i rests h)
+  small-all-unrun : (rests : List (List Line)) (xs : List ℕ) → Small xs → Small (putAllUnrun case rests xs)
+  small-all-unrun [] xs h = h
+  small-all-unrun (ls ∷ rests) xs h = small-all-unrun rests (putUnrun case ls xs) (small-unrun ls xs h)
 
 record SmallState (s : State) : Type 0 where
   lines : (j : ℕ) → SmallLines (getD (s .rests) j [])
@@ -167,12 +168,13 @@ module _ (case : Case) (given : ℕ → ℕ) (small-given : (k : ℕ) → given 
   small-steps (suc steps) [] m c h = h
   small-steps (suc steps) (l ∷ ls) m c h = small-steps steps ls (stepped case given l m) (c .1) (small-step l m (c .0) h)
 
-  small-block : (i steps : ℕ) (ls : List Line) (m : Memory) → i < wordSize → SmallLines ls → SmallMemory m
-      → SmallEvents (blockEvents case given i steps ls m)
-  small-block i zero ls m few c h = tt
-  small-block i (suc steps) [] m few c h = tt
-  small-block i (suc steps) (l ∷ ls) m few c h =
-      (few, below-line l m (c .0) h, small-block i steps ls (stepped case given l m) few (c .1) (small-step l m (c .0) h))
+  small-block : (i steps : ℕ) (ls : List Line) (m : Memory) (xs : List ℕ) → i < wordSize → SmallLines ls → SmallMemory m → Small xs
+      → Small (putSteps case given (blockSteps case given i steps ls m) xs)
+  small-block i zero ls m xs few c h small = small
+  small-block i (suc steps) [] m xs few c h small = small
+  small-block i (suc steps) (l ∷ ls) m xs few c h small =
+      small-block i steps ls (stepped case given l m) _ few (c .1) (small-step l m (c .0) h)
+      (small-record (l .number) i (valueOf l (readsIn case given l m)) xs few (below-line l m (c .0) h) small)
 
   small-memory : (i : ℕ) (s : State) → SmallState s → SmallMemory (memoryIn case i s)
   small-memory i s h = record { locals = h .locals (i % case .T); items = h .items }
@@ -187,47 +189,14 @@ module _ (case : Case) (given : ℕ → ℕ) (small-given : (k : ℕ) → given 
         items = end .items;
       }
 
-  small-events : (i : ℕ) (lens : List ℕ) (s : State) → i + length lens < wordSize → SmallState s → SmallEvents (events case given i lens s)
-  small-events i [] s few h = small-all-left i (s .rests) (omega arith)
-  small-events i (len ∷ lens) s few h =
-      small-events-append (blockEvents case given i len (restIn case i s) (memoryIn case i s)) (events case given (suc i) lens (nextState case given i len s))
-      (small-block i len (restIn case i s) (memoryIn case i s) (omega arith) (h .lines (i % case .T)) (small-memory i s h))
-      (small-events (suc i) lens (nextState case given i len s) (omega arith) (small-next i len s h))
-
-  small-snapshots : (i : ℕ) (lens : List ℕ) (s : State) → SmallState s → EachSmall (snapshots case given i lens s)
-  small-snapshots i [] s h j = tt
-  small-snapshots i (len ∷ lens) s h zero = small-next i len s h .items
-  small-snapshots i (len ∷ lens) s h (suc j) = small-snapshots (suc i) lens (nextState case given i len s) (small-next i len s h) j
-
--- The assignment of a run.
-below-block-in : (k : ℕ) (es : List Event) → SmallEvents es → blockIn k es < wordSize
-below-block-in k [] h = omega arith
-below-block-in k (e ∷ es) h = either IsWord (eqb (e .line .number) k) (e .block) (blockIn k es) (h .0) (below-block-in k es (h .2))
-
-below-value-in : (k : ℕ) (es : List Event) → SmallEvents es → valueIn k es < wordSize
-below-value-in k [] h = omega arith
-below-value-in k (e ∷ es) h = either IsWord (eqb (e .line .number) k) (e .value) (valueIn k es) (h .1) (below-value-in k es (h .2))
-
-record SmallAssignment (α : Assignment) : Type 0 where
-  block : (k : ℕ) → α .block k < wordSize
-  value : (k : ℕ) → α .value k < wordSize
-  blockValue : (i g : ℕ) → α .blockValue i g < wordSize
-
-small-traced : (es : List Event) (items : List (List ℕ)) → SmallEvents es → EachSmall items → SmallAssignment (traced es items)
-small-traced es items h g = record {
-  block = λ k. below-block-in k es h;
-  value = λ k. below-value-in k es h;
-  blockValue = λ i j. below-at wordSize (getD items i []) (omega arith) (g i) j;
-}
-
-below-records : (α : Assignment) (k many : ℕ) → SmallAssignment α → Small (recordNumbers α k many)
-below-records α k zero h = tt
-below-records α k (suc many) h = (h .block k, (h .value k, below-records α (suc k) many h))
-
-below-blocks : (case : Case) (α : Assignment) (i many : ℕ) → SmallAssignment α → Small (blockNumbers case α i many)
-below-blocks case α i zero h = tt
-below-blocks case α i (suc many) h = all-below-append wordSize (numbersFrom (α .blockValue i) 0 (itemCount case)) (blockNumbers case α (suc i) many)
-    (all-below-numbersFrom wordSize (α .blockValue i) 0 (itemCount case) (λ g. h .blockValue i g)) (below-blocks case α (suc i) many h)
+  small-blocks : (i : ℕ) (lens : List ℕ) (s : State) (xs : List ℕ) → i + length lens < wordSize → SmallState s → Small xs
+      → Small (putBlocks case given i lens s xs)
+  small-blocks i [] s xs few h small = small
+  small-blocks i (len ∷ lens) s xs few h small =
+      let next = small-next i len s h in
+      let steps = small-block i len (restIn case i s) (memoryIn case i s) xs (omega arith) (h .lines (i % case .T)) (small-memory i s h) small in
+      small-blocks (suc i) lens (nextState case given i len s) _ (omega arith) next
+      (either Small (ltb i (case .n)) _ _ (small-sets _ (itemsPlace case i) (nextState case given i len s .items) (next .items) steps) steps)
 
 below-given : (ls : List Line) (values : List ℕ) (k : ℕ) → Small values → valueGiven ls values k < wordSize
 unfolding valueGiven
@@ -237,21 +206,20 @@ below-given (l ∷ ls) (x ∷ values) k h = either IsWord (eqb (l .number) k) x 
 
 -- Decoding.
 module _ (case : Case) (wf : WellFormed case) where
-  pub filled-below : (values lens : List ℕ) → AllBelow wordSize values → length lens ≡ suc (case .n)
-      → AllBelow wordSize (numbersOfAssignment case (tracedRun case lens (valueGiven (allInputLines (case .threads)) values)))
-  filled-below values lens h all =
-      let given = valueGiven (allInputLines (case .threads)) values in
-      let small-given : (k : ℕ) → given k < wordSize = λ k. below-given (allInputLines (case .threads)) values k h in
+  pub filled-below : (schedule : List ℕ) → AllBelow wordSize (inputValues case schedule) → length (blockLengths case schedule) ≡ suc (case .n)
+      → AllBelow wordSize (fill case schedule)
+  unfolding fill
+  filled-below schedule h all =
+      let given = givenIn case schedule in
+      let lens = blockLengths case schedule in
       let begin : SmallState (start case) = record {
         lines = wf .small-lines;
         locals = each-small-replicate (case .T) (replicate localCount 0) (all-below-replicate wordSize localCount 0 (omega arith));
         items = wf .small-initial;
       } in
-      let small = small-traced (events case given 0 lens (start case)) (snapshots case given 0 lens (start case))
-      (small-events case given small-given 0 lens (start case) (omega (arith, all, wf .few-blocks)) begin)
-      (small-snapshots case given small-given 0 lens (start case) begin) in
-      all-below-append wordSize (recordNumbers (tracedRun case lens given) 1 (case .R)) (blockNumbers case (tracedRun case lens given) 0 (case .n))
-      (below-records (tracedRun case lens given) 1 (case .R) small) (below-blocks case (tracedRun case lens given) 0 (case .n) small)
+      small-all-unrun case (omega (arith, wf .few-blocks)) (linesLeft case schedule) _
+      (small-blocks case given (λ k. below-given (allInputLines (case .threads)) (inputValues case schedule) k h) 0 lens (start case)
+      (replicate (variables case) 0) (omega (arith, all, wf .few-blocks)) begin (all-below-replicate wordSize (variables case) 0 (omega arith)))
 
   module _ (α : Assignment) (small : (k : ℕ) → α .value k < wordSize) where
     below-decoded : (earlier ls : List Line) → Small (decodedValues case α earlier ls)

@@ -2,23 +2,25 @@
 -- violate, each the other's. `decode-of-fill` and `fill-of-decode` are the two laws of the filled assignment.
 -- Assumes nothing. Met again in Demand3.
 use mathlib.Core.Path.{_≡_, sym, ap₂, _∙_}
-use Prim.Native.Nat.{ℕ, suc, _+_}
+use Prim.Native.Nat.{ℕ, suc, _+_, _<_}
 use mathlib.Core.Bool.{Bool}
 use mathlib.Core.List.{List, _++_}
 use native.Mathlib.Omega.{arith}
-use lib.ListN.{length, length-append, length-drop, take-append-drop}
+use native.Mathlib.Nat.{zero-add}
+use lib.ListN.{length, replicate, length-append, length-drop, length-replicate, take-append-drop}
 use lib.Seq.{take-at, drop-at, length-take-le}
-use Rattle.model.specs.CaseFile.{Line, Case, hasNumber}
+use Rattle.model.specs.CaseFile.{Line, Case, sumOfThreads, hasNumber}
+use Rattle.laws.specs.RecordNumber.{RecordNumber}
 use Rattle.model.specs.Machine.{start}
 use Rattle.model.specs.Assignment.{Assignment, variables, assignmentOf}
 use Rattle.model.specs.Schedule.{allInputLines, blockLengths, inputValues, givenIn, scheduleSize, countedLengths, allDecodedValues, decode}
 use Rattle.correspondence.specs.Meaning.{WellFormed, Meets, DecodesTo, breakCount}
 use Rattle.correspondence.specs.Trace.{Event, events, snapshots}
-use Rattle.correspondence.specs.Agreement.{brokenIn, Finishes, Agrees, AgreesItems}
-use Rattle.correspondence.specs.Fill.{tracedRun, fill}
-use Rattle.correspondence.proofs.Runs.{sound, complete, traced-agrees, counted, same-records, same-blocks}
-use Rattle.correspondence.proofs.Traces.{agrees-transfer, items-transfer}
-use Rattle.correspondence.proofs.Numbers.{record-of-numbers, block-value-of-numbers, numbers-of-own, numbers-same}
+use Rattle.correspondence.specs.Agreement.{brokenIn, sumOfEvents, Finishes, Agrees, AgreesItems}
+use Rattle.model.specs.Fill.{fill}
+use Rattle.correspondence.proofs.Runs.{sound, complete, counted, same-records, same-blocks}
+use Rattle.correspondence.proofs.Numbers.{numbers-of-own, numbers-same}
+use Rattle.correspondence.proofs.Filling.{length-of-filled, filled-agrees-from, filled-agrees-items-from}
 use Rattle.laws.proofs.Schedules.{length-of-decoded}
 use Rattle.correspondence.proofs.Inputs.{counted-lengths, only-counted, length-of-counted, inputs-of-decoded, decoded-of-inputs}
 
@@ -72,17 +74,25 @@ module _ (case : Case) (wf : WellFormed case) where
     all-values : length (inputValues case schedule) ≡ length (allInputLines (case .threads))
     all-values = omega (arith, length-drop (suc (case .n)) schedule, sized)
 
+    last : 0 + length (blockLengths case schedule) ≡ suc (case .n)
+    last = zero-add (length (blockLengths case schedule)) ∙ all-blocks
+
+    all-zeros : length (replicate {A = ℕ} (variables case) 0) ≡ variables case
+    all-zeros = length-replicate (variables case) 0
+
+    pub filled-length : length (fill case schedule) ≡ variables case
+    unfolding fill
+    filled-length = length-of-filled case (givenIn case schedule) 0 (blockLengths case schedule) (start case) (replicate (variables case) 0) last ∙ all-zeros
+
     filled-agrees : Agrees filled (eventsOf case schedule) × AgreesItems case filled 0 (snapshotsOf case schedule)
     unfolding fill
     filled-agrees =
-        let α = tracedRun case (blockLengths case schedule) (givenIn case schedule) in
-        let agrees = traced-agrees case wf (blockLengths case schedule) (givenIn case schedule) in (
-          agrees-transfer α filled (eventsOf case schedule)
-              (λ k some. let w = wf .within k (rw (counted case wf (hasNumber k) (blockLengths case schedule) (givenIn case schedule)) at some) in
-              let own = record-of-numbers case α k (w .some) (w .low) in
-              (sym (own .0), sym (own .1)))
-              (agrees .0),
-          items-transfer α filled case 0 (snapshotsOf case schedule) (λ i g hi hg. sym (block-value-of-numbers case α i g hi hg)) (agrees .1),
+        let lens = blockLengths case schedule in
+        let given = givenIn case schedule in
+        let all : (k : ℕ) → sumOfEvents (hasNumber k) (eventsOf case schedule) ≡ sumOfThreads (hasNumber k) (case .threads) = λ k. counted case wf (hasNumber k) lens given in
+        let within : (k : ℕ) → 0 < sumOfEvents (hasNumber k) (eventsOf case schedule) → RecordNumber (case .R) k = λ k some. wf .within k (rw (all k) at some) in (
+          filled-agrees-from case given 0 lens (start case) (replicate (variables case) 0) last within (λ k. omega (arith, wf .once k, all k)) (omega (arith, all-zeros)),
+          filled-agrees-items-from case given 0 lens (start case) (replicate (variables case) 0) last within (wf .item-count) (omega (arith, all-zeros)),
         )
 
     -- The filled assignment of a run that finishes meets constraints 1 to 6,
@@ -102,15 +112,16 @@ module _ (case : Case) (wf : WellFormed case) where
 
   -- Filling a decoded assignment restores it.
   pub fill-of-decode : (xs : List ℕ) → length xs ≡ variables case → Meets case (assignmentOf case xs) → fill case (decode case (assignmentOf case xs)) ≡ xs
-  unfolding fill
   fill-of-decode xs sized m =
       let α = assignmentOf case xs in
       let schedule = decode case α in
       let lens = blockLengths case schedule in
       let given = givenIn case schedule in
       let run = run-of-meets α m in
-      let traced = traced-agrees case wf lens given in
-      numbers-same case (tracedRun case lens given) α
-      (λ k h h'. same-records case wf (tracedRun case lens given) α lens given (traced .0) (run .1) k (wf .known k h h'))
-      (same-blocks case wf (tracedRun case lens given) α lens given (all-blocks schedule (size-of-decode α)) (traced .1) (run .2))
+      let own = size-of-decode α in
+      let agrees = filled-agrees schedule own in
+      sym (numbers-of-own case (fill case schedule) (filled-length schedule own))
+      ∙ numbers-same case (filled schedule own) α
+      (λ k h h'. same-records case wf (filled schedule own) α lens given (agrees .0) (run .1) k (wf .known k h h'))
+      (same-blocks case wf (filled schedule own) α lens given (all-blocks schedule own) (agrees .1) (run .2))
       ∙ numbers-of-own case xs sized

@@ -27,7 +27,7 @@ use Rattle.laws.proofs.Accepted.{accepted-of}
 use Rattle.laws.proofs.Below.{all-below-drop}
 use Rattle.correspondence.specs.Meaning.{WellFormed, everyLine}
 use Rattle.correspondence.specs.Meaning as meaning
-use Rattle.correspondence.specs.Fill.{fill}
+use Rattle.model.specs.Fill.{fill}
 use Rattle.laws.specs.AllHold.{AllHold}
 use Rattle.correspondence.specs.ReadBack.{rowsOf}
 use Rattle.correspondence.specs.Agreement.{brokenIn}
@@ -39,9 +39,8 @@ use Rattle.correspondence.proofs.Rows.{meets-of-table, stays-of-table, 
 use Rattle.laws.proofs.AllHold.{none-fails, all-hold-none-fails}
 use Rattle.laws.proofs.WithoutEights.{all-hold-without}
 use Rattle.correspondence.proofs.FirstFailing.{checker-names-the-first, fails-of-first, rows-of-numbers}
-use Rattle.correspondence.proofs.Numbers.{length-of-assignment}
 use Rattle.correspondence.proofs.Bounds.{filled-below, decoded-below, values-below}
-use Rattle.correspondence.proofs.Claims.{eventsOf, FinishesRun, size-of-decode, values-of-decode, run-of-meets, meets-of-run, decode-of-fill, fill-of-decode}
+use Rattle.correspondence.proofs.Claims.{eventsOf, FinishesRun, size-of-decode, values-of-decode, run-of-meets, meets-of-run, filled-length, decode-of-fill, fill-of-decode}
 use Rattle.correspondence.proofs.Courses.{up-to-none}
 use Rattle.correspondence.proofs.Endings.{no-stray-of-left, few-steps, lengths-fit, legal-of-finished, left-of-finished, few-steps-of-finished, broken-of-steps, first-of-some, some-of-first}
 use Rattle.correspondence.proofs.RunEnds.{finished-run, first-lines-of-legal}
@@ -174,20 +173,15 @@ module _ (bytes : List ℕ) (small : AllBelow 256 bytes) (accepted : verdict byt
 
   -- ---- From violated to yes.
   filled-small : (schedule : List ℕ) → Breaking case schedule → AllBelow wordSize (fill case schedule)
-  unfolding fill
   filled-small schedule run =
-      filled-below case wf (inputValues case schedule) (blockLengths case schedule) (all-below-drop wordSize (suc (case .n)) schedule (run .numbers))
+      filled-below case wf schedule (all-below-drop wordSize (suc (case .n)) schedule (run .numbers))
       (length-take-le (suc (case .n)) schedule (omega (arith, run .has-size)))
-
-  filled-length : (schedule : List ℕ) → length (fill case schedule) ≡ variables case
-  unfolding fill
-  filled-length schedule = length-of-assignment case _
 
   yes-of-run : (schedule : List ℕ) → Breaking case schedule → KeepsRule case schedule → Yes bytes (fill case schedule)
   yes-of-run schedule run keeps =
       let found = meets-of-run case wf schedule (run .has-size) (run .finished) in (
         filled-small schedule run,
-        meets-of-passes bytes (fill case schedule) (passes-of-rows (fill case schedule) (filled-length schedule)
+        meets-of-passes bytes (fill case schedule) (passes-of-rows (fill case schedule) (filled-length case wf schedule (run .has-size))
             (table-of-meets case wf (assigned (fill case schedule)) (found .0) (stays-of-keeps case wf schedule (run .has-size) (run .finished) keeps)
             (rw (found .2 everyLine) (run .some-broken)))),
       )

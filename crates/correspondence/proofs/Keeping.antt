@@ -19,7 +19,7 @@ use Rattle.laws.proofs.Views.{LtView, below, above, lt-view}
 use Rattle.laws.proofs.Unrun.{run-within-blocks, unrun-past-blocks}
 use Rattle.laws.proofs.AllLines.{each-thread}
 use Rattle.correspondence.specs.Meaning.{WellFormed, Meets, AllStay}
-use Rattle.correspondence.specs.Fill.{fill}
+use Rattle.model.specs.Fill.{fill}
 use Rattle.correspondence.proofs.Order.{HasBlock, NextIn}
 use Rattle.correspondence.proofs.Blocks.{BlocksNext}
 use Rattle.correspondence.proofs.Runs.{RunsAs, run-of-assignment}

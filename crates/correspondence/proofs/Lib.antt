@@ -16,6 +16,7 @@ pub mod Endings
 -- Assignments and schedules as lists of numbers
 pub mod Numbers
 pub mod Inputs
+pub mod Filling
 pub mod Bounds
 -- The rows of the table
 pub mod ValueRows

@@ -24,7 +24,7 @@ use Rattle.laws.proofs.Copies.{readName-no-name}
 use Rattle.correspondence.specs.Meaning.{WellFormed, LinesMet, Meets, AllStay, breaksIn, breakCount}
 use Rattle.correspondence.specs.Trace.{Event}
 use Rattle.correspondence.specs.Agreement.{sumOfEvents, Agrees}
-use Rattle.correspondence.specs.Fill.{blockIn, traced}
+use Rattle.correspondence.specs.Traced.{blockIn, traced}
 use Rattle.correspondence.proofs.Sums.{sumBelow-same}
 use Rattle.correspondence.proofs.Order.{ordered-weakened}
 use Rattle.correspondence.proofs.Traces.{agrees-first, agrees-second, sumOfEvents-append, traced-agrees-with}
@@ -342,8 +342,8 @@ module _ (case : Case) (wf : WellFormed case) (α : Assignment) (meets : Meets c
 
   moves : (t : ℕ) → Moves case (α .block) movedBlock (firstBlock case (α .block) (linesOf case t)) (linesOf case t)
   moves t =
-      all-moves case (α .block) (traced events []) (case .threads)
-      (traced-agrees-with [] events [] events refl (λ k. omega (arith, wf .once k, sum-of-all-new case (α .block) (hasNumber k) (case .threads)))) t
+      all-moves case (α .block) (traced events) (case .threads)
+      (traced-agrees-with events [] events refl (λ k. omega (arith, wf .once k, sum-of-all-new case (α .block) (hasNumber k) (case .threads)))) t
 
   along-thread : (t : ℕ) → t < case .T → Along case (α .block) movedBlock t 0 (linesOf case t)
   along-thread t few = from-first case (α .block) movedBlock t (linesOf case t) (meets .order t few) (moves t)

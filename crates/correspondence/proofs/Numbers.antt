@@ -11,7 +11,7 @@ use Rattle.laws.proofs.Ranges.{length-numbersFrom, numbers-at, same-numbers}
 use Rattle.model.specs.Lists.{numbersFrom}
 use Rattle.model.specs.CaseFile.{Case, itemCount}
 use Rattle.model.specs.Assignment.{Assignment, variables, assignmentOf}
-use Rattle.correspondence.specs.Fill.{recordNumbers, blockNumbers, numbersOfAssignment}
+use Rattle.correspondence.specs.Traced.{recordNumbers, blockNumbers, numbersOfAssignment}
 
 numbers-append : (f : ℕ → ℕ) (i many more : ℕ) → numbersFrom f i (many + more) ≡ numbersFrom f i many ++ numbersFrom f (i + many) more
 unfolding numbersFrom
@@ -27,96 +27,6 @@ numbers-of-list xs =
     let read : ℕ → ℕ = λ j. getD xs j 0 in
     ext-getD 0 (numbersFrom read 0 (length xs)) xs (length-numbersFrom read 0 (length xs))
     (λ i h. numbers-at read 0 (length xs) i (rw (length-numbersFrom read 0 (length xs)) at h) ∙ ap read (zero-add i))
-
--- Lengths.
-length-of-records : (α : Assignment) (k many : ℕ) → length (recordNumbers α k many) ≡ 2 * many
-length-of-records α k zero = refl
-length-of-records α k (suc many) = omega (arith, length-of-records α (suc k) many)
-
-length-of-blocks : (case : Case) (α : Assignment) (i many : ℕ) → length (blockNumbers case α i many) ≡ many * itemCount case
-length-of-blocks case α i zero = sym (zero-mul (itemCount case))
-length-of-blocks case α i (suc many) =
-    omega (
-      arith,
-      length-append (numbersFrom (α .blockValue i) 0 (itemCount case)) (blockNumbers case α (suc i) many),
-      length-numbersFrom (α .blockValue i) 0 (itemCount case),
-      length-of-blocks case α (suc i) many,
-      suc-mul many (itemCount case),
-    )
-
-pub length-of-assignment : (case : Case) (α : Assignment) → length (numbersOfAssignment case α) ≡ variables case
-length-of-assignment case α =
-    omega (
-      arith,
-      length-append (recordNumbers α 1 (case .R)) (blockNumbers case α 0 (case .n)),
-      length-of-records α 1 (case .R),
-      length-of-blocks case α 0 (case .n),
-    )
-
--- Each number is where the variable is.
-record-at : (α : Assignment) (k many j : ℕ) → j < many
-    → (getD (recordNumbers α k many) (2 * j) 0 ≡ α .block (k + j)) × (getD (recordNumbers α k many) (2 * j + 1) 0 ≡ α .value (k + j))
-record-at α k zero j h = absurd (omega arith)
-record-at α k (suc many) zero h = (ap (α .block) (sym (add-zero k)), ap (α .value) (sym (add-zero k)))
-record-at α k (suc many) (suc j) h =
-    let later = record-at α (suc k) many j (omega arith) in (
-      ap (λ (x : ℕ). getD (recordNumbers α k (suc many)) x 0) past ∙ later .0 ∙ ap (α .block) up,
-      ap (λ (x : ℕ). getD (recordNumbers α k (suc many)) x 0) past-too ∙ later .1 ∙ ap (α .value) up,
-    )
-  where
-    past : 2 * suc j ≡ suc (suc (2 * j))
-    past = omega arith
-
-    past-too : 2 * suc j + 1 ≡ suc (suc (2 * j + 1))
-    past-too = omega arith
-
-    up : suc k + j ≡ k + suc j
-    up = omega arith
-
-block-value-at : (case : Case) (α : Assignment) (i many j g : ℕ) → j < many → g < itemCount case
-    → getD (blockNumbers case α i many) (j * itemCount case + g) 0 ≡ α .blockValue (i + j) g
-block-value-at case α i zero j g h few = absurd (omega arith)
-block-value-at case α i (suc many) zero g h few =
-    ap (λ (x : ℕ). getD (blockNumbers case α i (suc many)) x 0) here
-    ∙ List·getD-append (numbersFrom (α .blockValue i) 0 (itemCount case)) (blockNumbers case α (suc i) many) 0 g
-    (omega (arith, length-numbersFrom (α .blockValue i) 0 (itemCount case)))
-    ∙ numbers-at (α .blockValue i) 0 (itemCount case) g few
-    ∙ ap₂ (α .blockValue) (sym (add-zero i)) (zero-add g)
-  where
-    here : 0 * itemCount case + g ≡ g
-    here = omega (arith, zero-mul (itemCount case))
-block-value-at case α i (suc many) (suc j) g h few =
-    ap (λ (x : ℕ). getD (blockNumbers case α i (suc many)) x 0) past
-    ∙ getD-append-add (numbersFrom (α .blockValue i) 0 (itemCount case)) (blockNumbers case α (suc i) many) (j * itemCount case + g) 0
-    ∙ block-value-at case α (suc i) many j g (omega arith) few
-    ∙ ap (λ (x : ℕ). α .blockValue x g) (omega arith)
-  where
-    past : suc j * itemCount case + g ≡ length (numbersFrom (α .blockValue i) 0 (itemCount case)) + (j * itemCount case + g)
-    past = omega (arith, suc-mul j (itemCount case), length-numbersFrom (α .blockValue i) 0 (itemCount case))
-
-module _ (case : Case) (α : Assignment) where
-  pub record-of-numbers : (k : ℕ) → 0 < k → k ≤ case .R
-      → (assignmentOf case (numbersOfAssignment case α) .block k ≡ α .block k) × (assignmentOf case (numbersOfAssignment case α) .value k ≡ α .value k)
-  unfolding assignmentOf
-  record-of-numbers k low high =
-      let records = recordNumbers α 1 (case .R) in
-      let blocks = blockNumbers case α 0 (case .n) in
-      let there = record-at α 1 (case .R) (k - 1) (omega arith) in
-      let own : 1 + (k - 1) ≡ k = omega arith in (
-        List·getD-append records blocks 0 (2 * (k - 1)) (omega (arith, length-of-records α 1 (case .R))) ∙ there .0 ∙ ap (α .block) own,
-        List·getD-append records blocks 0 (2 * (k - 1) + 1) (omega (arith, length-of-records α 1 (case .R))) ∙ there .1 ∙ ap (α .value) own,
-      )
-
-  pub block-value-of-numbers : (i g : ℕ) → i < case .n → g < itemCount case
-      → assignmentOf case (numbersOfAssignment case α) .blockValue i g ≡ α .blockValue i g
-  unfolding assignmentOf
-  block-value-of-numbers i g h few =
-      ap (λ (x : ℕ). getD (numbersOfAssignment case α) x 0) past
-      ∙ getD-append-add (recordNumbers α 1 (case .R)) (blockNumbers case α 0 (case .n)) (i * itemCount case + g) 0
-      ∙ block-value-at case α 0 (case .n) i g h few ∙ ap (λ (x : ℕ). α .blockValue x g) (zero-add i)
-    where
-      past : 2 * case .R + i * itemCount case + g ≡ length (recordNumbers α 1 (case .R)) + (i * itemCount case + g)
-      past = omega (arith, length-of-records α 1 (case .R))
 
 -- A list of the right length is what its own assignment writes.
 module _ (case : Case) (xs : List ℕ) where

@@ -16,11 +16,10 @@ use Rattle.model.specs.Copies.{latest, valueBefore, readLocal}
 use Rattle.correspondence.specs.Meaning.{WellFormed, Meets, DecodesTo, breakCount}
 use Rattle.correspondence.specs.Trace.{events, snapshots}
 use Rattle.correspondence.specs.Agreement.{brokenIn, sumOfEvents, Finishes, Agrees, AgreesItems}
-use Rattle.correspondence.specs.Fill.{tracedRun}
 use Rattle.correspondence.proofs.Blocks.{BlocksNext, blocks-of-order, order-of-blocks}
 use Rattle.correspondence.proofs.Values.{Invariant, BlocksRun, blocks-run, decoded-of-run}
 use Rattle.correspondence.proofs.Breaks.{run-breaks-alike}
-use Rattle.correspondence.proofs.Traces.{run-agrees, run-agrees-items, run-finishes, agreed-run, sum-of-run, traced-agrees-with, traced-agrees-with-items, length-of-snapshots, agreeing-records-are-same, agreeing-blocks-are-same}
+use Rattle.correspondence.proofs.Traces.{run-agrees, run-agrees-items, run-finishes, agreed-run, sum-of-run, length-of-snapshots, agreeing-records-are-same, agreeing-blocks-are-same}
 
 -- At the start no thread has run a line.
 abbrev pub noneRun : ℕ → List Line
@@ -103,17 +102,7 @@ module _ (case : Case) (wf : WellFormed case) where
       → sumOfEvents weight (events case given 0 lens (start case)) ≡ sumOfThreads weight (case .threads)
   counted weight lens given = sum-of-run weight case wf given 0 lens (start case) (wf .thread-count)
 
-  -- The traced assignment has the numbers of its run.
-  pub traced-agrees : (lens : List ℕ) (given : ℕ → ℕ) → Agrees (tracedRun case lens given) (events case given 0 lens (start case))
-      × AgreesItems case (tracedRun case lens given) 0 (snapshots case given 0 lens (start case))
-  traced-agrees lens given =
-      let es = events case given 0 lens (start case) in
-      let items = snapshots case given 0 lens (start case) in (
-        traced-agrees-with items es [] es refl (λ k. omega (arith, wf .once k, counted (hasNumber k) lens given)),
-        traced-agrees-with-items case es items 0 items (λ j. ap (λ (x : ℕ). getD items x []) (sym (zero-add j))),
-      )
-
-  -- It is the only one.
+  -- The trace determines the assignment.
   pub same-records : (α β : Assignment) (lens : List ℕ) (given : ℕ → ℕ) → Agrees α (events case given 0 lens (start case))
       → Agrees β (events case given 0 lens (start case)) → (k : ℕ) → 0 < sumOfThreads (hasNumber k) (case .threads)
       → (α .block k ≡ β .block k) × (α .value k ≡ β .value k)

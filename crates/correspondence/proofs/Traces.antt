@@ -1,5 +1,5 @@
 -- Traces: an assignment agrees with the trace of a run that finishes just where the blocks run with its numbers; every line has one
--- event; the traced assignment agrees, and it is the only one.
+-- event; an assignment that agrees is the only one.
 -- Assumes nothing. Met again in Runs.
 use mathlib.Core.Path.{_≡_, refl, sym, ap, _∙_}
 use Prim.Native.Nat.{ℕ, zero, suc, _+_, _%_, _≤_, _<_}
@@ -18,7 +18,7 @@ use Rattle.laws.specs.Order.{AllLines, AllThreads}
 use Rattle.correspondence.specs.Meaning.{WellFormed}
 use Rattle.correspondence.specs.Trace.{Event, blockEvents, leftEvents, allLeftEvents, events, snapshots}
 use Rattle.correspondence.specs.Agreement.{sumOfEvents, FinishesBlock, MayBeLeft, Finishes, Agrees, AgreesItems}
-use Rattle.correspondence.specs.Fill.{blockIn, valueIn, traced}
+use Rattle.correspondence.specs.Traced.{blockIn, valueIn, traced}
 use Rattle.laws.proofs.AllLines.{all-lines-map}
 use Rattle.correspondence.proofs.Order.{HasBlock, NextIn}
 use Rattle.correspondence.proofs.Block.{BlockRuns, Unrun}
@@ -176,11 +176,10 @@ in-events-past-others k (e ∷ before) es none =
     let ih = in-events-past-others k before (e ∷ es) (omega (arith, none)) in
     (ih .0 ∙ rw other, ih .1 ∙ rw other)
 
-pub traced-agrees-with : (items : List (List ℕ)) (all before es : List Event) → all ≡ reverseAux before es
-    → ((k : ℕ) → sumOfEvents (hasNumber k) all ≤ 1)
-    → Agrees (traced all items) es
-traced-agrees-with items all before [] split once = tt
-traced-agrees-with items all before (e ∷ es) split once =
+pub traced-agrees-with : (all before es : List Event) → all ≡ reverseAux before es → ((k : ℕ) → sumOfEvents (hasNumber k) all ≤ 1)
+    → Agrees (traced all) es
+traced-agrees-with all before [] split once = tt
+traced-agrees-with all before (e ∷ es) split once =
     let k = e .line .number in
     let none : sumOfEvents (hasNumber k) before ≡ 0 =
     omega (
@@ -193,24 +192,13 @@ traced-agrees-with items all before (e ∷ es) split once =
     let found = in-events-past-others k before (e ∷ es) none in (
       ap (blockIn k) split ∙ found .0 ∙ rw (eq-eqb k k refl),
       ap (valueIn k) split ∙ found .1 ∙ rw (eq-eqb k k refl),
-      traced-agrees-with items all (e ∷ before) es split once,
+      traced-agrees-with all (e ∷ before) es split once,
     )
 
 pub length-of-snapshots : (case : Case) (given : ℕ → ℕ) (i : ℕ) (lens : List ℕ) (s : State)
     → length (snapshots case given i lens s) ≡ length lens
 length-of-snapshots case given i [] s = refl
 length-of-snapshots case given i (len ∷ lens) s = ap suc (length-of-snapshots case given (suc i) lens (nextState case given i len s))
-
-pub traced-agrees-with-items : (case : Case) (es : List Event) (all : List (List ℕ)) (i : ℕ) (items : List (List ℕ))
-    → ((j : ℕ) → getD items j [] ≡ getD all (i + j) []) → AgreesItems case (traced es all) i items
-traced-agrees-with-items case es all i [] from = tt
-traced-agrees-with-items case es all i (x ∷ items) from = (
-  (λ few g hg. ap (λ (y : List ℕ). getD y g 0) (ap (λ (j : ℕ). getD all j []) here ∙ sym (from 0))),
-  traced-agrees-with-items case es all (suc i) items (λ j. from (suc j) ∙ ap (λ (y : ℕ). getD all y []) (omega arith)),
-)
-  where
-    here : i ≡ i + 0
-    here = omega arith
 
 -- Two assignments that agree with the same events have the same numbers, and one with the same numbers agrees too.
 module _ (α β : Assignment) where
@@ -244,10 +232,3 @@ module _ (α β : Assignment) where
       let k = e .line .number in
       let numbers = alike k (omega (arith, own-number-counts (e .line))) in
       (sym (numbers .0) ∙ a .0, sym (numbers .1) ∙ a .1, agrees-transfer es (λ j h. alike j (omega arith)) (a .2))
-
-  pub items-transfer : (case : Case) (i : ℕ) (items : List (List ℕ))
-      → ((j g : ℕ) → j < case .n → g < itemCount case → α .blockValue j g ≡ β .blockValue j g)
-      → AgreesItems case α i items → AgreesItems case β i items
-  items-transfer case i [] alike a = tt
-  items-transfer case i (x ∷ items) alike a =
-      ((λ few g hg. sym (alike i g few hg) ∙ a .0 few g hg), items-transfer case (suc i) items alike (a .1))

@@ -26,7 +26,7 @@ use Rattle.model.specs.declared.Replayed.the-variants as replayeds
 use Rattle.laws.specs.AllHold.{AllHold}
 use Rattle.correspondence.specs.ReadBack.{rowsOf, FirstFails}
 use Rattle.correspondence.specs.KindByKind.{StepsAsSaid}
-use Rattle.correspondence.specs.Fill.{fill}
+use Rattle.model.specs.Fill.{fill}
 
 -- How many numbers the slices lent to the encoder, the decoder and the replayer must hold.
 abbrev pub tableRoom : List ℕ → ℕ

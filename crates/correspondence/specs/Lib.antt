@@ -1,7 +1,7 @@
 pub mod Meaning
 pub mod Trace
 pub mod Agreement
-pub mod Fill
+pub mod Traced
 pub mod KindByKind
 pub mod ReadBack
 pub mod Demand3
