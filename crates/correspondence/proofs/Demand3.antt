@@ -18,20 +18,23 @@ use Rattle.model.specs.Machine.{start}
 use Rattle.model.specs.Assignment.{Assignment, variables, assignmentOf}
 use Rattle.model.specs.Table.{table, numbersOf}
 use Rattle.model.specs.Schedule.{scheduleSize, blockLengths, inputValues, givenIn, decode}
-use Rattle.model.specs.Runs.{courseOf, KeepsRule, ends, BrokenAt, Takes}
-use Rattle.model.specs.Answers.{checked}
+use Rattle.model.specs.Runs.{courseOf, KeepsRule, FirstLate, ends, BrokenAt, Violates, InBlocks, Takes}
+use Rattle.model.specs.Answers.{checked, lateRecord, filled, filledInto}
 use Rattle.model.specs.declared.Verdict.the-variants.{Accepted}
 use Rattle.model.specs.declared.Checked.the-variants.{Meets}
 use Rattle.model.specs.declared.Decoded.the-variants as decodeds
+use Rattle.model.specs.declared.Replayed.{Replayed}
+use Rattle.model.specs.declared.Filled.the-variants as filleds
 use Rattle.laws.proofs.Accepted.{accepted-of}
 use Rattle.laws.proofs.Below.{all-below-drop}
+use Rattle.laws.proofs.Views.{LtView, below, above, lt-view}
 use Rattle.correspondence.specs.Meaning.{WellFormed, everyLine}
 use Rattle.correspondence.specs.Meaning as meaning
 use Rattle.model.specs.Fill.{fill}
 use Rattle.laws.specs.AllHold.{AllHold}
 use Rattle.correspondence.specs.ReadBack.{rowsOf}
 use Rattle.correspondence.specs.Agreement.{brokenIn}
-use Rattle.correspondence.specs.Demand3.{tableRoom, scheduleRoom, itemRoom, writtenRows, Yes, DecodedAs, counted, AnsweredViolated, ViolatingRun, MeetsWithoutEights, Demand3, ForEveryAcceptedCase}
+use Rattle.correspondence.specs.Demand3.{tableRoom, scheduleRoom, itemRoom, assignmentRoom, writtenRows, Yes, DecodedAs, FilledAs, counted, AnsweredViolated, ViolatingRun, MeetsWithoutEights, Demand3, ForEveryAcceptedCase}
 use Rattle.correspondence.proofs.KindByKind.{steps-as-said}
 use Rattle.correspondence.proofs.WellFormed.{well-formed}
 use Rattle.correspondence.proofs.Replies.{PassesCheck, passes-of-meets, meets-of-passes, encoded-with-room, encoded-short, encoded-into, decoded-with-room, decoded-short, decoded-into, replayed-short}
@@ -45,6 +48,8 @@ use Rattle.correspondence.proofs.Courses.{up-to-none}
 use Rattle.correspondence.proofs.Endings.{no-stray-of-left, few-steps, lengths-fit, legal-of-finished, left-of-finished, few-steps-of-finished, broken-of-steps, first-of-some, some-of-first}
 use Rattle.correspondence.proofs.RunEnds.{finished-run, first-lines-of-legal}
 use Rattle.correspondence.proofs.Keeping.{keeps-of-stays, stays-of-keeps}
+use Rattle.correspondence.proofs.Late.{breaks-of-late, none-of-keeps, keeps-of-none, first-of-late, late-of-first, late-of-breaks}
+use Rattle.correspondence.proofs.FillReplies.{OfViolation, alike, violatingIn, filled-short, filled-like-replayed, refused-16, no-violation-of-16, filled-of-violated, violated-of-filled, filled-of-none, refused-17, none-of-filled, late-of-17}
 use Rattle.correspondence.proofs.Moved.{movedAssignment, moved-stays, moved-meets, moved-breaks, moved-values}
 use Rattle.correspondence.proofs.RunReplies.{takes-of-answered, answered-of-takes, run-of-violated, violated-of-run, run-of-clean, clean-of-run, run-of-cut-off, cut-off-of-run, run-of-14, refused-14-of-run, values-of-cut-off, values-of-legal, takes-of-in-blocks}
 
@@ -191,6 +196,73 @@ module _ (bytes : List ℕ) (small : AllBelow 256 bytes) (accepted : verdict byt
       subst (DecodedAs bytes (fill case schedule)) (decode-of-fill case wf schedule (run .has-size) (run .finished))
       (decoded-as (fill case schedule) (yes-of-run schedule run keeps))
 
+  -- ---- Six: what the filler writes.
+  -- The replayer's answer to a schedule that the filler answers so, and the run that it has.
+  run-of-filled : (schedule : List ℕ) (room : ℕ) → assignmentRoom bytes ≤ room → OfViolation (filled bytes schedule room)
+      → Takes case schedule × Violates case schedule
+  run-of-filled schedule room h told =
+      let all = le-refl (itemRoom bytes) in
+      let reply = violated-of-filled bytes accepted schedule room (itemRoom bytes) h all told in
+      let run = run-of-violated bytes accepted wf schedule (itemRoom bytes) all (reply .0) (reply .1) in
+      (run .0, run .1)
+
+  filled-of-run : (schedule : List ℕ) (room : ℕ) → assignmentRoom bytes ≤ room → Takes case schedule → Violates case schedule
+      → filled bytes schedule room ≡ violatingIn case schedule
+  filled-of-run schedule room h takes violates =
+      let all = le-refl (itemRoom bytes) in
+      let first = violates .some-broken in
+      filled-of-violated bytes accepted schedule room (itemRoom bytes) h all (first .0)
+      (violated-of-run bytes accepted wf schedule (itemRoom bytes) all (first .0) takes (violates .legal) (first .1))
+
+  late-is : (schedule : List ℕ) (room : ℕ) → assignmentRoom bytes ≤ room → (k : ℕ) → filled bytes schedule room ≡ filleds.Refused 17 k
+      → Takes case schedule × Violates case schedule × FirstLate case schedule k
+  late-is schedule room h k told =
+      let run = run-of-filled schedule room h (subst OfViolation (sym told) (omega arith)) in
+      let late = late-of-17 (lateRecord case schedule) (variables case) k (sym (filled-of-run schedule room h (run .0) (run .1)) ∙ told) in
+      let first = first-of-late case wf schedule (run .0 .not-12) (finished-run case wf schedule (run .0) (run .1 .legal)) (late .0) in
+      (run .0, run .1, subst (FirstLate case schedule) (late .1) first)
+
+  refused-17-of : (schedule : List ℕ) (room : ℕ) → assignmentRoom bytes ≤ room → (k : ℕ) → Takes case schedule → Violates case schedule
+      → FirstLate case schedule k → filled bytes schedule room ≡ filleds.Refused 17 k
+  refused-17-of schedule room h k takes violates first =
+      let late = late-of-first case wf schedule (takes .not-12) (finished-run case wf schedule takes (violates .legal)) k first in
+      filled-of-run schedule room h takes violates ∙ refused-17 (lateRecord case schedule) (variables case) (late .0) ∙ ap (filleds.Refused 17) (late .1)
+
+  -- A schedule that violates and keeps the rule is filled with its own assignment, and only such a one is filled.
+  filled-as : (schedule : List ℕ) → Takes case schedule → Violates case schedule → KeepsRule case schedule → FilledAs bytes schedule (fill case schedule)
+  unfolding filledInto
+  filled-as schedule takes violates keeps slice h =
+      let none = none-of-keeps case wf schedule (takes .not-12) (finished-run case wf schedule takes (violates .legal)) keeps in
+      let answer = filled-of-run schedule (length slice) h takes violates ∙ filled-of-none (lateRecord case schedule) (variables case) none in
+      (answer ∙ ap filleds.Assignment (sym (filled-length case wf schedule (takes .not-12))), rw answer)
+
+  keeps-of-filled : (schedule : List ℕ) (room : ℕ) → assignmentRoom bytes ≤ room → (numbers : ℕ) → filled bytes schedule room ≡ filleds.Assignment numbers
+      → Takes case schedule × Violates case schedule × KeepsRule case schedule
+  keeps-of-filled schedule room h numbers told =
+      let run = run-of-filled schedule room h (subst OfViolation (sym told) tt) in
+      let none = none-of-filled (lateRecord case schedule) (variables case) numbers (sym (filled-of-run schedule room h (run .0) (run .1)) ∙ told) in
+      (run .0, run .1, keeps-of-none case wf schedule (run .0 .not-12) (finished-run case wf schedule (run .0) (run .1 .legal)) none)
+
+  -- A slice that is answered with an assignment has room for it.
+  room-of-filled : (schedule : List ℕ) (room numbers : ℕ) → filled bytes schedule room ≡ filleds.Assignment numbers → assignmentRoom bytes ≤ room
+  room-of-filled schedule room numbers told = go (lt-view room (assignmentRoom bytes))
+    where
+      go : LtView room (assignmentRoom bytes) → assignmentRoom bytes ≤ room
+      go (below less _) =
+          let other : filleds.Refused 10 0 ≡ filleds.Assignment numbers = sym (filled-short bytes accepted schedule room less) ∙ told in
+          absurd (let z : _≡_ {A = ℕ} 0 1 = cc in omega arith)
+      go (above more _) = more
+
+  -- What is filled in is one assignment.
+  filling-of : (schedule xs zs : List ℕ) → FilledAs bytes schedule xs → FilledAs bytes schedule zs → length xs ≡ variables case → xs ≡ zs
+  filling-of schedule xs zs x-written z-written sized =
+      let slice : List ℕ = replicate (assignmentRoom bytes) 0 in
+      let room : length slice ≡ assignmentRoom bytes = length-replicate {A = ℕ} (assignmentRoom bytes) 0 in
+      let x-given = x-written slice (omega (arith, room)) in
+      let z-given = z-written slice (omega (arith, room)) in
+      let same : length xs ≡ length zs = cc (x-given .0, z-given .0) in
+      sym (written-whole xs slice (sized ∙ sym room)) ∙ sym (x-given .1) ∙ z-given .1 ∙ written-whole zs slice (sym same ∙ sized ∙ sym room)
+
   -- ---- Five: the schedule with invisible lines moved.
   record KeptOf (schedule : List ℕ) : Type 0 where
     kept : List ℕ
@@ -245,19 +317,25 @@ module _ (bytes : List ℕ) (small : AllBelow 256 bytes) (accepted : verdict byt
       breaking-of-meets (assigned xs) (values-below case wf xs (told .0)) (found .0) (found .1)
 
   -- ---- The machine under "Runs".
+  takes-of-violated : (schedule : List ℕ) → AnsweredViolated bytes schedule → Takes case schedule × Violates case schedule
+  takes-of-violated schedule answered =
+      let reply = answered .1 .1 (itemRoom bytes) (le-refl (itemRoom bytes)) in
+      let run = run-of-violated bytes accepted wf schedule (itemRoom bytes) (le-refl (itemRoom bytes)) (answered .1 .0) reply in
+      (run .0, run .1)
+
+  in-blocks-of : (schedule : List ℕ) → AllBelow wordSize schedule → Takes case schedule → InBlocks case schedule
+  in-blocks-of schedule numbers takes = record {
+    numbers = numbers;
+    has-size = takes .not-12;
+    few-steps = few-steps case (blockLengths case schedule) (takes .not-13);
+    none-strays = takes .not-14;
+    none-left = takes .nor-after;
+  }
+
   run-of-answered : (schedule : List ℕ) → AnsweredViolated bytes schedule → ViolatingRun bytes schedule
   run-of-answered schedule answered =
-      let reply = answered .1 .1 (itemRoom bytes) (le-refl (itemRoom bytes)) in
-      let run = run-of-violated bytes accepted wf schedule (itemRoom bytes) (le-refl (itemRoom bytes)) (answered .1 .0) reply in (
-        record {
-          numbers = answered .0;
-          has-size = run .0 .not-12;
-          few-steps = few-steps case (blockLengths case schedule) (run .0 .not-13);
-          none-strays = run .0 .not-14;
-          none-left = run .0 .nor-after;
-        },
-        run .1,
-      )
+      let run = takes-of-violated schedule answered in
+      (in-blocks-of schedule (answered .0) (run .0), run .1)
 
   answered-of-run : (schedule : List ℕ) → ViolatingRun bytes schedule → AnsweredViolated bytes schedule
   answered-of-run schedule run =
@@ -270,6 +348,27 @@ module _ (bytes : List ℕ) (small : AllBelow 256 bytes) (accepted : verdict byt
 
   yes-of-violated : (schedule : List ℕ) → AnsweredViolated bytes schedule → (xs : List ℕ) × Yes bytes xs
   yes-of-violated schedule answered = yes-of-breaking schedule (breaking-of-violated schedule answered)
+
+  -- Filling a decoded assignment restores it, and decoding a filled one restores the schedule.
+  fills-back : (xs : List ℕ) → Yes bytes xs → FilledAs bytes (counted bytes xs) xs
+  fills-back xs told =
+      let run = takes-of-violated (counted bytes xs) (violated-of-yes xs told) in
+      subst (FilledAs bytes (counted bytes xs)) (filling-is xs (counted bytes xs) told (decoded-as xs told))
+      (filled-as (counted bytes xs) (run .0) (run .1) (keeps-of-yes xs told))
+
+  inverse-of-decoded : (xs schedule : List ℕ) → Yes bytes xs → DecodedAs bytes xs schedule
+      → AnsweredViolated bytes schedule × KeepsRule case schedule × FilledAs bytes schedule xs
+  inverse-of-decoded xs schedule told written =
+      subst (λ (x : List ℕ). AnsweredViolated bytes x × KeepsRule case x × FilledAs bytes x xs) (decoding-is xs schedule told written)
+      (violated-of-yes xs told, keeps-of-yes xs told, fills-back xs told)
+
+  inverse-of-filled : (xs schedule : List ℕ) → AnsweredViolated bytes schedule → KeepsRule case schedule → FilledAs bytes schedule xs
+      → Yes bytes xs × DecodedAs bytes xs schedule
+  inverse-of-filled xs schedule answered keeps written =
+      let run = breaking-of-violated schedule answered in
+      let own = takes-of-violated schedule answered in
+      let is-fill = filling-of schedule (fill case schedule) xs (filled-as schedule (own .0) (own .1) keeps) written (filled-length case wf schedule (run .has-size)) in
+      subst (λ (x : List ℕ). Yes bytes x × DecodedAs bytes x schedule) is-fill (yes-of-run schedule run keeps, fill-decoded-as schedule run keeps)
 
   corresponds : Demand3 bytes
   corresponds = record {
@@ -294,6 +393,28 @@ module _ (bytes : List ℕ) (small : AllBelow 256 bytes) (accepted : verdict byt
     one-to-one = λ xs zs schedule yes-x yes-z x-written z-written. sym (filling-is xs schedule yes-x x-written) ∙ filling-is zs schedule yes-z z-written;
     onto = λ schedule answered keeps.
         let run = breaking-of-violated schedule answered in (yes-of-run schedule run keeps, fill-decoded-as schedule run keeps);
+    fill-and-decode-are-inverse = λ xs schedule. (
+      (λ both. inverse-of-decoded xs schedule (both .0) (both .1)),
+      (λ all. inverse-of-filled xs schedule (all .0) (all .1) (all .2)),
+    );
+    filled-decodes-back = λ schedule numbers-small slice numbers told.
+        let room = room-of-filled schedule (length slice) numbers told in
+        let own = keeps-of-filled schedule (length slice) room numbers told in
+        let run = breaking-of-violated schedule (answered-of-run schedule (in-blocks-of schedule numbers-small (own .0), own .1)) in
+        (fill case schedule, yes-of-run schedule run (own .2), fill-decoded-as schedule run (own .2), filled-as schedule (own .0) (own .1) (own .2) slice room .1);
+    decoded-fills-back = fills-back;
+    refused-like-replay = λ schedule room items h h' number place reply.
+        filled-like-replayed bytes accepted schedule room items h h' ∙ ap (λ (r : Replayed). alike r (violatingIn case schedule)) reply;
+    refused-16-is-no-violation = λ schedule room items h h'. (no-violation-of-16 bytes accepted schedule room items h h', refused-16 bytes accepted schedule room items h h');
+    refused-17-breaks-the-rule = λ schedule room h. (
+      (λ found.
+          let late = late-is schedule room h (found .0) (found .1) in
+          (late .0, late .1, breaks-of-late case schedule (found .0) (late .2))),
+      (λ run.
+          let late = late-of-breaks case wf schedule (run .0 .not-12) (finished-run case wf schedule (run .0) (run .1 .legal)) (run .2) in
+          (late .0, refused-17-of schedule room h (late .0) (run .0) (run .1) (late .1))),
+    );
+    refused-17-names-the-first = λ schedule room h k. (late-is schedule room h k, (λ run. refused-17-of schedule room h k (run .0) (run .1) (run .2)));
     same-without-8s = λ slice h. (
       (λ some. (some .0, without-of-yes slice (some .0) h (some .1))),
       (λ some. yes-of-breaking _ (breaking-of-without slice (some .0) h (some .1))),
@@ -334,6 +455,7 @@ module _ (bytes : List ℕ) (small : AllBelow 256 bytes) (accepted : verdict byt
     short-table = encoded-short bytes accepted;
     long-table = encoded-with-room bytes accepted;
     short-schedule = λ xs told. decoded-short bytes accepted xs (passes-of-meets bytes xs (told .1));
+    short-assignment = filled-short bytes accepted;
     short-items = replayed-short bytes accepted;
   }
 

@@ -1,6 +1,6 @@
 -- Five: a schedule keeps the rule just where the invisible lines of its assignment stay in the blocks of the lines before them.
 -- Assumes nothing. Met again in Demand3.
-use mathlib.Core.Path.{_≡_, refl, sym, _∙_, subst}
+use mathlib.Core.Path.{_≡_, refl, sym, ap, _∙_, subst}
 use Prim.Native.Nat.{ℕ, zero, suc, _+_, _%_, _≤_}
 use mathlib.Core.Bool.{Bool, true, false, cond, not, _&&_, true≢false}
 use mathlib.Core.List.{List, [], _∷_, _++_, map}
@@ -9,25 +9,36 @@ use native.Mathlib.Nat.{zero-add, add-zero}
 use lib.Dec.{ltb, eqb}
 use lib.ListN.{getD, length}
 use Rattle.model.specs.CaseFile.{Line, Case, linesOf}
-use Rattle.model.specs.Line.{visible}
+use Rattle.model.specs.Line.{visible, late}
 use Rattle.model.specs.Assignment.{Assignment, assignmentOf}
 use Rattle.model.specs.Machine.{Memory, State, stepped, start, restIn, memoryIn}
 use Rattle.model.specs.Schedule.{scheduleSize, blockLengths, givenIn, decode}
-use Rattle.model.specs.Runs.{Step, blockSteps, nextState, course, lastState, threadSteps, NoneLate, KeepsRule}
-use Rattle.laws.specs.Order.{AllLines, AllThreads, Ordered, Stays}
+use Rattle.model.specs.Runs.{Step, blockSteps, nextState, course, lastState, courseOf, threadSteps, NoneLate, KeepsRule}
+use Rattle.laws.specs.Order.{AllLines, AllThreads, Positive, Ordered, Stays}
 use Rattle.laws.proofs.Views.{LtView, below, above, lt-view}
 use Rattle.laws.proofs.Unrun.{run-within-blocks, unrun-past-blocks}
 use Rattle.laws.proofs.AllLines.{each-thread}
 use Rattle.correspondence.specs.Meaning.{WellFormed, Meets, AllStay}
-use Rattle.model.specs.Fill.{fill}
+use Rattle.model.specs.Fill.{fill, lateAfter, lateIn}
 use Rattle.correspondence.proofs.Order.{HasBlock, NextIn}
 use Rattle.correspondence.proofs.Blocks.{BlocksNext}
 use Rattle.correspondence.proofs.Runs.{RunsAs, run-of-assignment}
 use Rattle.correspondence.proofs.Claims.{FinishesRun, decodes-to-own, meets-of-run}
 use Rattle.correspondence.proofs.RunEnds.{run-and-left}
 
-abbrev linesIn : List Step → List Line
+abbrev pub linesIn : List Step → List Line
 linesIn steps = map (λ s. s .line) steps
+
+first-lines : (P : Line → Type 0) (ls left : List Line) → AllLines P (ls ++ left) → AllLines P ls
+first-lines P [] left all = tt
+first-lines P (l ∷ ls) left all = (all .0, first-lines P ls left (all .1))
+
+-- The record of a thread's first late step; `others` where it has none.
+abbrev pub lateOf : List Step → ℕ → ℕ
+lateOf [] others = others
+lateOf (before ∷ []) others = others
+lateOf (before ∷ (s ∷ steps)) others =
+    cond (late (s .line .kind) (before .block) (s .block)) (s .line .number) (lateOf (s ∷ steps) others)
 
 module _ (case : Case) (α : Assignment) where
   -- The line of a step has the step's block as its number.
@@ -129,6 +140,29 @@ module _ (case : Case) (α : Assignment) where
   thread-keeps [] left numbered stays = tt
   thread-keeps (s ∷ steps) left numbered stays = none-late-after s [] steps left (numbered .0) (numbered .1) (stays .1)
 
+  -- ---- Six: a thread's late lines by their block numbers are its late steps; what is left of it has none.
+  late-after-left : (before : Line) (left : List Line) (others : ℕ) → AllLines (HasBlock (α .block) (suc (case .n))) left
+      → lateAfter case (α .block) before left others ≡ others
+  unfolding lateAfter
+  late-after-left before [] others unrun = refl
+  late-after-left before (l ∷ left) others unrun = rw (unrun-past-blocks case (α .block (l .number)) (unrun .0)) (late-after-left l left others (unrun .1))
+
+  late-after-steps : (before : Step) (steps : List Step) (left : List Line) (others : ℕ) → HasNumber before → AllNumbered steps
+      → AllLines (HasBlock (α .block) (suc (case .n))) left
+      → lateAfter case (α .block) (before .line) (linesIn steps ++ left) others ≡ lateOf (before ∷ steps) others
+  unfolding lateAfter
+  late-after-steps before [] left others own numbered unrun = late-after-left (before .line) left others unrun
+  late-after-steps before (s ∷ steps) left others own numbered unrun =
+      rw (own .number, numbered .0 .number, run-within-blocks case (s .block) (numbered .0 .within))
+      (ap (cond (late (s .line .kind) (before .block) (s .block)) (s .line .number)) (late-after-steps s steps left others (numbered .0) (numbered .1) unrun))
+
+  late-in-steps : (steps : List Step) (left : List Line) (others : ℕ) → AllNumbered steps → AllLines (HasBlock (α .block) (suc (case .n))) left
+      → lateIn case (α .block) (linesIn steps ++ left) others ≡ lateOf steps others
+  unfolding lateIn
+  late-in-steps [] [] others numbered unrun = refl
+  late-in-steps [] (l ∷ left) others numbered unrun = late-after-left l left others (unrun .1)
+  late-in-steps (s ∷ steps) left others numbered unrun = late-after-steps s steps left others (numbered .0) (numbered .1) unrun
+
 -- ---- The run of an assignment.
 module _ (case : Case) (wf : WellFormed case) (α : Assignment) (lens : List ℕ) (given : ℕ → ℕ) (all-blocks : length lens ≡ suc (case .n))
     (runs : RunsAs case wf α lens given) (t : ℕ) where
@@ -159,6 +193,12 @@ module _ (case : Case) (wf : WellFormed case) (α : Assignment) (lens : List ℕ
   pub none-late-of-stays : Stays case (α .block) [] (linesOf case t) → NoneLate steps
   none-late-of-stays stays = thread-keeps case α steps left numbered (subst (Stays case (α .block) []) (sym whole) stays)
 
+  pub late-in-thread : (others : ℕ) → lateIn case (α .block) (linesOf case t) others ≡ lateOf steps others
+  late-in-thread others = ap (λ (ls : List Line). lateIn case (α .block) ls others) (sym whole) ∙ late-in-steps case α steps left others numbered unrun
+
+  pub steps-positive : AllLines Positive (linesIn steps)
+  steps-positive = first-lines Positive (linesIn steps) left (subst (AllLines Positive) (sym whole) (wf .positive t))
+
 -- ---- Assignments and schedules.
 module _ (case : Case) (wf : WellFormed case) where
   pub keeps-of-stays : (α : Assignment) → Meets case α → AllStay case α → KeepsRule case (decode case α)
@@ -176,3 +216,15 @@ module _ (case : Case) (wf : WellFormed case) where
       let given = givenIn case schedule in
       let met = meets-of-run case wf schedule sized finished in
       stays-of-none-late case wf α lens given (met .1 .all-blocks) (run-of-assignment case wf α lens given (met .0) (met .1)) t (met .0 .order t few) (keeps t few)
+
+  -- Six: the late lines of a schedule's run by the block numbers that are filled in.
+  pub late-of-filled : (schedule : List ℕ) → length schedule ≡ scheduleSize case → FinishesRun case schedule → (t : ℕ)
+      → ((others : ℕ) → lateIn case (assignmentOf case (fill case schedule) .block) (linesOf case t) others ≡ lateOf (threadSteps case t (courseOf case schedule)) others)
+      × AllLines Positive (linesIn (threadSteps case t (courseOf case schedule)))
+  late-of-filled schedule sized finished t =
+      let α = assignmentOf case (fill case schedule) in
+      let lens = blockLengths case schedule in
+      let given = givenIn case schedule in
+      let met = meets-of-run case wf schedule sized finished in
+      let runs = run-of-assignment case wf α lens given (met .0) (met .1) in
+      (late-in-thread case wf α lens given (met .1 .all-blocks) runs t, steps-positive case wf α lens given (met .1 .all-blocks) runs t)

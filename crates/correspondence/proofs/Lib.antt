@@ -28,8 +28,10 @@ pub mod Replies
 pub mod Claims
 pub mod RunEnds
 pub mod Keeping
+pub mod Late
 pub mod Moved
 pub mod RunReplies
+pub mod FillReplies
 pub mod Demand3
 -- The definitions held beside document 01
 pub mod KindByKind

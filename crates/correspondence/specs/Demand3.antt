@@ -1,5 +1,5 @@
 -- Demand 3, one statement over all accepted cases, assignments and schedules: what the encoder writes, the checker's yes, the
--- decoder's schedule and the replayer's answer, by the definitions that the contracts of these calls promise to equal.
+-- decoder's schedule, the replayer's answer and what the filler fills in, by the definitions that the contracts of these calls promise to equal.
 -- It is proved in proofs/Demand3.antt.
 -- Assumes nothing.
 use mathlib.Core.Path.{_≡_}
@@ -15,20 +15,21 @@ use Rattle.model.specs.Accept.{verdict}
 use Rattle.model.specs.Assignment.{variables, assignmentOf}
 use Rattle.model.specs.Table.{Row, table, withoutEights, numbersOf}
 use Rattle.model.specs.Schedule.{scheduleSize, blockLengths, inputValues, stepsOf, lengthsFit, decode}
-use Rattle.model.specs.Runs.{Step, runSteps, linesRun, KeepsRule, Legal, Violates, InBlocks, Takes, FirstBroken, BrokenAt, NoneBroken, FirstEnding, Meets14, lastItems}
-use Rattle.model.specs.Answers.{encoded, encodedInto, checked, decoded, decodedInto, replayed, replayedInto}
+use Rattle.model.specs.Runs.{Step, runSteps, linesRun, KeepsRule, FirstLate, Legal, Violates, InBlocks, Takes, FirstBroken, BrokenAt, NoneBroken, FirstEnding, Meets14, lastItems}
+use Rattle.model.specs.Answers.{encoded, encodedInto, checked, decoded, decodedInto, replayed, replayedInto, filled, filledInto}
 use Rattle.model.specs.declared.Verdict.the-variants.{Accepted}
 use Rattle.model.specs.declared.Encoded.the-variants as encodeds
 use Rattle.model.specs.declared.Checked.the-variants.{Meets, Fails}
 use Rattle.model.specs.declared.Decoded.the-variants as decodeds
 use Rattle.model.specs.declared.Replayed.{Replayed}
 use Rattle.model.specs.declared.Replayed.the-variants as replayeds
+use Rattle.model.specs.declared.Filled.the-variants as filleds
 use Rattle.laws.specs.AllHold.{AllHold}
 use Rattle.correspondence.specs.ReadBack.{rowsOf, FirstFails}
 use Rattle.correspondence.specs.KindByKind.{StepsAsSaid}
 use Rattle.model.specs.Fill.{fill}
 
--- How many numbers the slices lent to the encoder, the decoder and the replayer must hold.
+-- How many numbers the slices lent to the encoder, the decoder, the replayer and the filler must hold.
 abbrev pub tableRoom : List ℕ → ℕ
 tableRoom bytes = length (numbersOf (table (caseOf bytes)))
 
@@ -37,6 +38,9 @@ scheduleRoom bytes = scheduleSize (caseOf bytes)
 
 abbrev pub itemRoom : List ℕ → ℕ
 itemRoom bytes = itemCount (caseOf bytes)
+
+abbrev pub assignmentRoom : List ℕ → ℕ
+assignmentRoom bytes = variables (caseOf bytes)
 
 -- The table that the encoder writes, read back from the slice, six numbers a row.
 abbrev pub writtenRows : List ℕ → List ℕ → List Row
@@ -56,12 +60,25 @@ DecodedAs bytes xs schedule =
 abbrev pub counted : List ℕ → List ℕ → List ℕ
 counted bytes xs = decode (caseOf bytes) (assignmentOf (caseOf bytes) xs)
 
+-- Six, "Fill the assignment for a violating schedule": with room, the filler writes this one.
+abbrev pub FilledAs : List ℕ → List ℕ → List ℕ → Type 0
+FilledAs bytes schedule xs =
+    (slice : List ℕ) → assignmentRoom bytes ≤ length slice
+    → (filled bytes schedule (length slice) ≡ filleds.Assignment (length xs)) × (filledInto bytes schedule slice ≡ writtenOver xs slice)
+
 -- The reply is no refusal.
 abbrev pub NotRefused : Replayed → Type 0
 NotRefused (replayeds.Violated k) = Unit
 NotRefused replayeds.Clean = Unit
 NotRefused (replayeds.CutOff k) = Unit
 NotRefused (replayeds.Refused number place) = ⊥
+
+-- The reply is neither a refusal nor a violation: "a schedule whose run does not violate".
+abbrev pub NoViolation : Replayed → Type 0
+NoViolation (replayeds.Violated k) = ⊥
+NoViolation replayeds.Clean = Unit
+NoViolation (replayeds.CutOff k) = Unit
+NoViolation (replayeds.Refused number place) = ⊥
 
 -- With room for the items the replayer leaves these final values.
 abbrev pub Leaves : List ℕ → List ℕ → List ℕ → Type 0
@@ -107,6 +124,30 @@ pub record Demand3 (bytes : List ℕ) : Type 0 where
   -- and every schedule that is answered with violated and keeps the rule is the decoding of one, the filled one.
   pub onto : (schedule : List ℕ) → AnsweredViolated bytes schedule → KeepsRule (caseOf bytes) schedule
       → Yes bytes (fill (caseOf bytes) schedule) × DecodedAs bytes (fill (caseOf bytes) schedule) schedule
+  -- ---- Six: "Decoding the filled assignment restores the schedule, and filling a decoded one restores the assignment."
+  -- So filling and decoding are inverse to each other, between the assignments with yes and the schedules that are answered with violated
+  -- and keep the rule:
+  pub fill-and-decode-are-inverse : (xs schedule : List ℕ) →
+      (Yes bytes xs × DecodedAs bytes xs schedule)
+      ↔ (AnsweredViolated bytes schedule × KeepsRule (caseOf bytes) schedule × FilledAs bytes schedule xs)
+  -- what is written for a schedule that is not refused gets yes and decodes to the schedule,
+  pub filled-decodes-back : (schedule : List ℕ) → AllBelow wordSize schedule → (slice : List ℕ) (numbers : ℕ)
+      → filled bytes schedule (length slice) ≡ filleds.Assignment numbers
+      → (xs : List ℕ) × Yes bytes xs × DecodedAs bytes xs schedule × (filledInto bytes schedule slice ≡ writtenOver xs slice)
+  -- and an assignment with yes is what is written for its schedule.
+  pub decoded-fills-back : (xs : List ℕ) → Yes bytes xs → FilledAs bytes (counted bytes xs) xs
+  -- What the replayer refuses with 12 to 14 is refused alike; with 16 what it answers otherwise than with violated;
+  pub refused-like-replay : (schedule : List ℕ) (room items : ℕ) → assignmentRoom bytes ≤ room → itemRoom bytes ≤ items → (number place : ℕ)
+      → replayed bytes schedule items ≡ replayeds.Refused number place → filled bytes schedule room ≡ filleds.Refused number place
+  pub refused-16-is-no-violation : (schedule : List ℕ) (room items : ℕ) → assignmentRoom bytes ≤ room → itemRoom bytes ≤ items →
+      (filled bytes schedule room ≡ filleds.Refused 16 0) ↔ NoViolation (replayed bytes schedule items)
+  -- with 17 what violates and breaks the rule, and the record is that of the first late line by thread and chain.
+  pub refused-17-breaks-the-rule : (schedule : List ℕ) (room : ℕ) → assignmentRoom bytes ≤ room →
+      ((k : ℕ) × (filled bytes schedule room ≡ filleds.Refused 17 k))
+      ↔ (Takes (caseOf bytes) schedule × Violates (caseOf bytes) schedule × (KeepsRule (caseOf bytes) schedule → ⊥))
+  pub refused-17-names-the-first : (schedule : List ℕ) (room : ℕ) → assignmentRoom bytes ≤ room → (k : ℕ) →
+      (filled bytes schedule room ≡ filleds.Refused 17 k)
+      ↔ (Takes (caseOf bytes) schedule × Violates (caseOf bytes) schedule × FirstLate (caseOf bytes) schedule k)
   -- ---- Five: "the solver's yes or no is unchanged by the new constraint".
   -- Some assignment gets yes exactly where some assignment meets the table that the encoder writes without its 8s,
   pub same-without-8s : (slice : List ℕ) → tableRoom bytes ≤ length slice
@@ -158,6 +199,7 @@ pub record Demand3 (bytes : List ℕ) : Type 0 where
   pub short-table : (room : ℕ) → room < tableRoom bytes → encoded bytes room ≡ encodeds.Refused 10 0
   pub long-table : (room : ℕ) → tableRoom bytes ≤ room → encoded bytes room ≡ encodeds.Table (length (table (caseOf bytes))) (variables (caseOf bytes))
   pub short-schedule : (xs : List ℕ) → Yes bytes xs → (room : ℕ) → room < scheduleRoom bytes → decoded bytes xs room ≡ decodeds.Refused 10 0
+  pub short-assignment : (schedule : List ℕ) (room : ℕ) → room < assignmentRoom bytes → filled bytes schedule room ≡ filleds.Refused 10 0
   pub short-items : (schedule : List ℕ) (room : ℕ) → room < itemRoom bytes → replayed bytes schedule room ≡ replayeds.Refused 10 0
 
 -- Demand 3: for every list of bytes that no refusal from 1 to 9 meets.
