@@ -12,6 +12,7 @@ use Rattle.encoder.proofs.encode.Met as encode-met
 use Rattle.checker.proofs.check.Met as check-met
 use Rattle.decoder.proofs.decode.Met as decode-met
 use Rattle.replayer.proofs.replay.Met as replay-met
+use Rattle.filler.proofs.fill.Met as fill-met
 use Rattle.listing_text.proofs.listing_text.Met as listing-text-met
 use Rattle.smt_text.proofs.smt_length.Met as smt-length-met
 use Rattle.smt_text.proofs.smt_text.Met as smt-text-met
@@ -21,6 +22,7 @@ use Rattle.menduvo.proofs.menduvo_encode.Met as exported-encode-met
 use Rattle.menduvo.proofs.menduvo_check.Met as exported-check-met
 use Rattle.menduvo.proofs.menduvo_decode.Met as exported-decode-met
 use Rattle.menduvo.proofs.menduvo_replay.Met as exported-replay-met
+use Rattle.menduvo.proofs.menduvo_fill.Met as exported-fill-met
 use Rattle.menduvo.proofs.menduvo_listing.Met as exported-listing-met
 use Rattle.menduvo.proofs.menduvo_smt_length.Met as exported-smt-length-met
 use Rattle.menduvo.proofs.menduvo_smt_text.Met as exported-smt-text-met
@@ -35,6 +37,7 @@ delivered = record {
   check = check-met.met;
   decode = decode-met.met;
   replay = replay-met.met;
+  fill = fill-met.met;
   listing_text = listing-text-met.met;
   smt-length = smt-length-met.met;
   smt-text = smt-text-met.met;
@@ -44,6 +47,7 @@ delivered = record {
   menduvo_check = exported-check-met.met;
   menduvo_decode = exported-decode-met.met;
   menduvo_replay = exported-replay-met.met;
+  menduvo_fill = exported-fill-met.met;
   menduvo_listing = exported-listing-met.met;
   menduvo-smt-length = exported-smt-length-met.met;
   menduvo-smt-text = exported-smt-text-met.met;

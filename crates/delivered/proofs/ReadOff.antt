@@ -9,7 +9,7 @@ use native.Mathlib.Omega.{arith}
 use lib.Dec.{eqb}
 use lib.ListN.{getD}
 use Rattle.model.specs.Lists.{unless}
-use Rattle.model.specs.Answers.{verdictNumbers, encodedNumbers, checkedNumbers, decodedNumbers, replayedNumbers, checked, replayed}
+use Rattle.model.specs.Answers.{verdictNumbers, encodedNumbers, checkedNumbers, decodedNumbers, replayedNumbers, filledNumbers, checked, replayed}
 use Rattle.model.specs.Listing.{listedNumbers}
 use Rattle.model.specs.declared.Numbers.{Numbers}
 use Rattle.model.specs.declared.Verdict.{Verdict}
@@ -22,6 +22,8 @@ use Rattle.model.specs.declared.Decoded.{Decoded}
 use Rattle.model.specs.declared.Decoded.the-variants as decodeds
 use Rattle.model.specs.declared.Replayed.{Replayed}
 use Rattle.model.specs.declared.Replayed.the-variants as replayeds
+use Rattle.model.specs.declared.Filled.{Filled}
+use Rattle.model.specs.declared.Filled.the-variants as filleds
 use Rattle.model.specs.declared.Listed.{Listed}
 use Rattle.model.specs.declared.Listed.the-variants as listeds
 use Rattle.model.specs.Accept.{countsOk, fieldsOk}
@@ -78,6 +80,13 @@ replayed-is-back (replayeds.Violated k) = refl
 replayed-is-back replayeds.Clean = refl
 replayed-is-back (replayeds.CutOff k) = refl
 replayed-is-back (replayeds.Refused number place) = refl
+
+abbrev filled-back : Numbers → Filled
+filled-back x = cond (eqb (x .answer) 1) (filleds.Assignment (x .first)) (filleds.Refused (x .refusal) (x .place))
+
+filled-is-back : (r : Filled) → filled-back (filledNumbers r) ≡ r
+filled-is-back (filleds.Assignment numbers) = refl
+filled-is-back (filleds.Refused number place) = refl
 
 abbrev listed-back : Numbers → Listed
 listed-back x = cond (eqb (x .answer) 1) (listeds.Text (x .first)) (listeds.Refused (x .refusal) (x .place))
@@ -145,6 +154,8 @@ answers-told-apart = record {
   clean = λ r. told replayedNumbers replayed-back replayed-is-back r replayeds.Clean;
   cut-off = λ r k. told replayedNumbers replayed-back replayed-is-back r (replayeds.CutOff k);
   not-replayed = λ r number place. told replayedNumbers replayed-back replayed-is-back r (replayeds.Refused number place);
+  assignment = λ r numbers. told filledNumbers filled-back filled-is-back r (filleds.Assignment numbers);
+  not-filled = λ r number place. told filledNumbers filled-back filled-is-back r (filleds.Refused number place);
   text = λ r bytes. told listedNumbers listed-back listed-is-back r (listeds.Text bytes);
   not-listed = λ r number place. told listedNumbers listed-back listed-is-back r (listeds.Refused number place);
   spelled = λ r bytes some. (spelled-told r bytes some, (λ e. ap spelledNumbers e));

@@ -24,6 +24,7 @@ use Rattle.encoder.proofs.encode.Statement as encode-statement
 use Rattle.checker.proofs.check.Statement as check-statement
 use Rattle.decoder.proofs.decode.Statement as decode-statement
 use Rattle.replayer.proofs.replay.Statement as replay-statement
+use Rattle.filler.proofs.fill.Statement as fill-statement
 use Rattle.listing_text.proofs.listing_text.Statement as listing-text-statement
 use Rattle.smt_text.proofs.smt_length.Statement as smt-length-statement
 use Rattle.smt_text.proofs.smt_text.Statement as smt-text-statement
@@ -33,6 +34,7 @@ use Rattle.menduvo.proofs.menduvo_encode.Statement as exported-encode-statement
 use Rattle.menduvo.proofs.menduvo_check.Statement as exported-check-statement
 use Rattle.menduvo.proofs.menduvo_decode.Statement as exported-decode-statement
 use Rattle.menduvo.proofs.menduvo_replay.Statement as exported-replay-statement
+use Rattle.menduvo.proofs.menduvo_fill.Statement as exported-fill-statement
 use Rattle.menduvo.proofs.menduvo_listing.Statement as exported-listing-statement
 use Rattle.menduvo.proofs.menduvo_smt_length.Statement as exported-smt-length-statement
 use Rattle.menduvo.proofs.menduvo_smt_text.Statement as exported-smt-text-statement
@@ -46,6 +48,7 @@ pub record Delivered (M : Type 1) : Type 2 where
   pub check : check-statement.statement M
   pub decode : decode-statement.statement M
   pub replay : replay-statement.statement M
+  pub fill : fill-statement.statement M
   pub listing_text : listing-text-statement.statement M
   pub smt-length : smt-length-statement.statement M
   pub smt-text : smt-text-statement.statement M
@@ -56,11 +59,12 @@ pub record Delivered (M : Type 1) : Type 2 where
   pub menduvo_check : exported-check-statement.statement M
   pub menduvo_decode : exported-decode-statement.statement M
   pub menduvo_replay : exported-replay-statement.statement M
+  pub menduvo_fill : exported-fill-statement.statement M
   pub menduvo_listing : exported-listing-statement.statement M
   pub menduvo-smt-length : exported-smt-length-statement.statement M
   pub menduvo-smt-text : exported-smt-text-statement.statement M
   pub menduvo-take-line : exported-take-line-statement.statement M
-  -- demand 3 over what accept, encode, check, decode and replay answer;
+  -- demand 3 over what accept, encode, check, decode, replay and fill answer;
   pub corresponds : ForEveryAcceptedCase
   -- the text that is written, as its own reader reads it: true of an assignment exactly where the checker says yes, and of some exactly
   -- where some run violates;

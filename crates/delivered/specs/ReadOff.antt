@@ -6,7 +6,7 @@ use mathlib.Core.Logic.{_↔_, _≢_}
 use Prim.Native.Nat.{ℕ, _≤_}
 use mathlib.Core.List.{List}
 use Rattle.model.specs.Word.{wordSize, AllBelow}
-use Rattle.model.specs.Answers.{refusedNumbers, answerNumbers, verdictNumbers, encodedNumbers, checkedNumbers, decodedNumbers, replayedNumbers, checked, replayed}
+use Rattle.model.specs.Answers.{refusedNumbers, answerNumbers, verdictNumbers, encodedNumbers, checkedNumbers, decodedNumbers, replayedNumbers, filledNumbers, checked, replayed}
 use Rattle.model.specs.Listing.{listedNumbers}
 use Rattle.model.specs.declared.Verdict.{Verdict}
 use Rattle.model.specs.declared.Verdict.the-variants as verdicts
@@ -18,6 +18,8 @@ use Rattle.model.specs.declared.Decoded.{Decoded}
 use Rattle.model.specs.declared.Decoded.the-variants as decodeds
 use Rattle.model.specs.declared.Replayed.{Replayed}
 use Rattle.model.specs.declared.Replayed.the-variants as replayeds
+use Rattle.model.specs.declared.Filled.{Filled}
+use Rattle.model.specs.declared.Filled.the-variants as filleds
 use Rattle.model.specs.declared.Listed.{Listed}
 use Rattle.model.specs.declared.Listed.the-variants as listeds
 use Rattle.model.specs.Taking.{taken, takenNumbers}
@@ -44,6 +46,8 @@ pub record AnswersToldApart : Type 0 where
   pub clean : (r : Replayed) → (replayedNumbers r ≡ answerNumbers 2 0 0) ↔ (r ≡ replayeds.Clean)
   pub cut-off : (r : Replayed) (k : ℕ) → (replayedNumbers r ≡ answerNumbers 3 k 0) ↔ (r ≡ replayeds.CutOff k)
   pub not-replayed : (r : Replayed) (number place : ℕ) → (replayedNumbers r ≡ refusedNumbers number place) ↔ (r ≡ replayeds.Refused number place)
+  pub assignment : (r : Filled) (numbers : ℕ) → (filledNumbers r ≡ answerNumbers 1 numbers 0) ↔ (r ≡ filleds.Assignment numbers)
+  pub not-filled : (r : Filled) (number place : ℕ) → (filledNumbers r ≡ refusedNumbers number place) ↔ (r ≡ filleds.Refused number place)
   pub text : (r : Listed) (bytes : ℕ) → (listedNumbers r ≡ answerNumbers 1 bytes 0) ↔ (r ≡ listeds.Text bytes)
   pub not-listed : (r : Listed) (number place : ℕ) → (listedNumbers r ≡ refusedNumbers number place) ↔ (r ≡ listeds.Refused number place)
   -- No text is empty, and no refusal has number 0.

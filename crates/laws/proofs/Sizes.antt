@@ -20,11 +20,12 @@ use Rattle.model.specs.Table.{Row, row, followRow, stayRows, lineOrderRows, ord
 use Rattle.model.specs.Machine.{Outcome, refused14, cutOff, violated, clean}
 use Rattle.model.specs.Schedule.{inputLines, allInputLines, scheduleSize, blockLengths, lengthsFit, runOf}
 use Rattle.model.specs.Accept.{sizeOk, threadsOk, switchesOk, itemsOk, absentOk, linksOk, reachedOk, lengthsOk, brokenRecord, verdict}
-use Rattle.model.specs.Answers.{encoded, failedIn, decoded, answerOfRun, replayed, verdictNumbers, encodedNumbers, decodedNumbers, replayedNumbers}
+use Rattle.model.specs.Answers.{encoded, failedIn, decoded, answerOfRun, replayed, lateRecord, answerOfFill, filled, verdictNumbers, encodedNumbers, decodedNumbers, replayedNumbers, filledNumbers}
 use Rattle.model.specs.declared.Verdict.{Verdict}
 use Rattle.model.specs.declared.Verdict.the-variants as verdicts
 use Rattle.model.specs.declared.Decoded.the-variants as decodeds
 use Rattle.model.specs.declared.Replayed.the-variants as replayeds
+use Rattle.model.specs.declared.Filled.the-variants as filleds
 use Rattle.laws.specs.Accepted.{Accepted}
 use Rattle.laws.specs.RowCounts.{hasEight, orderRowCount, isFirst, valueRowCount}
 use Rattle.laws.specs.Sizes.{Sizes, LargestSizes, NeverTooShort}
@@ -293,7 +294,7 @@ verdict-below-10 bytes =
 refused-not-10 : (bytes : List ℕ) (number place : ℕ) → verdict bytes ≡ verdicts.Refused number place → number ≢ 10
 refused-not-10 bytes number place e ten = let few : number < 10 = rw e at (verdict-below-10 bytes) in omega arith
 
--- What comes after the room: 11 and 15 of the decoder, 12 and 13 of the replayer, and the run.
+-- What comes after the room: 11 and 15 of the decoder, 12 and 13 of the replayer and the filler, and the run.
 decoded-not-10 : (sized none : Bool) (failed size : ℕ)
     → decodedNumbers (unless sized (decodeds.Refused 11 0) (unless none (decodeds.Refused 15 failed) (decodeds.Schedule size))) .refusal ≢ 10
 decoded-not-10 true true failed size = λ ten. omega arith
@@ -312,12 +313,29 @@ replayed-not-10 true true outcome = run-not-10 outcome
 replayed-not-10 true false outcome = λ ten. omega arith
 replayed-not-10 false fit outcome = λ ten. omega arith
 
+fill-not-10 : (case : Case) (schedule : List ℕ) (outcome : Outcome) → filledNumbers (answerOfFill case schedule outcome) .refusal ≢ 10
+fill-not-10 case schedule (refused14 k) = λ ten. omega arith
+fill-not-10 case schedule (cutOff k items) = λ ten. omega arith
+fill-not-10 case schedule (violated k s) = go (eqb (lateRecord case schedule) 0)
+  where
+    go : (none : Bool) → filledNumbers (unless none (filleds.Refused 17 (lateRecord case schedule)) (filleds.Assignment (variables case))) .refusal ≢ 10
+    go true = λ ten. omega arith
+    go false = λ ten. omega arith
+fill-not-10 case schedule (clean s) = λ ten. omega arith
+
+filled-not-10 : (case : Case) (schedule : List ℕ) (sized fit : Bool) (outcome : Outcome)
+    → filledNumbers (unless sized (filleds.Refused 12 0) (unless fit (filleds.Refused 13 0) (answerOfFill case schedule outcome))) .refusal ≢ 10
+filled-not-10 case schedule true true outcome = fill-not-10 case schedule outcome
+filled-not-10 case schedule true false outcome = λ ten. omega arith
+filled-not-10 case schedule false fit outcome = λ ten. omega arith
+
 pub never-too-short : (bytes : List ℕ) → NeverTooShort bytes
-unfolding encoded decoded replayed
+unfolding encoded decoded replayed filled
 never-too-short bytes = record {
   table-never-short = λ room h. by-table room h (verdict bytes) refl;
   schedule-never-short = λ xs room h. by-schedule xs room h (verdict bytes) refl;
   items-never-short = λ schedule room h. by-items schedule room h (verdict bytes) refl;
+  assignment-never-short = λ schedule room h. by-assignment schedule room h (verdict bytes) refl;
 }
   where
     by-table : (room : ℕ) → mostTableNumbers ≤ room → (v : Verdict) → verdict bytes ≡ v → encodedNumbers (encoded bytes room) .refusal ≢ 10
@@ -336,3 +354,10 @@ never-too-short bytes = record {
         (replayed-not-10 (eqb (length schedule) (scheduleSize (caseOf bytes))) (lengthsFit (caseOf bytes) (blockLengths (caseOf bytes) schedule))
         (runOf (caseOf bytes) schedule))
     by-items schedule room h (verdicts.Refused number place) e = rw (on-refused _ _ _ number place e) (refused-not-10 bytes number place e)
+
+    by-assignment : (schedule : List ℕ) (room : ℕ) → mostVariables ≤ room → (v : Verdict) → verdict bytes ≡ v → filledNumbers (filled bytes schedule room) .refusal ≢ 10
+    by-assignment schedule room h verdicts.Accepted e =
+        rw (on-accepted _ _ _ e, le-leb (variables (caseOf bytes)) room (omega (arith, assignment-numbers bytes (accepted-of bytes e))))
+        (filled-not-10 (caseOf bytes) schedule (eqb (length schedule) (scheduleSize (caseOf bytes))) (lengthsFit (caseOf bytes) (blockLengths (caseOf bytes) schedule))
+        (runOf (caseOf bytes) schedule))
+    by-assignment schedule room h (verdicts.Refused number place) e = rw (on-refused _ _ _ number place e) (refused-not-10 bytes number place e)

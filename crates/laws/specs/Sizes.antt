@@ -11,7 +11,7 @@ use Rattle.model.specs.CaseFile.{caseOf, itemCount}
 use Rattle.model.specs.Assignment.{variables}
 use Rattle.model.specs.Table.{table, numbersOf}
 use Rattle.model.specs.Schedule.{scheduleSize}
-use Rattle.model.specs.Answers.{encoded, encodedNumbers, decoded, decodedNumbers, replayed, replayedNumbers}
+use Rattle.model.specs.Answers.{encoded, encodedNumbers, decoded, decodedNumbers, replayed, replayedNumbers, filled, filledNumbers}
 
 pub record Sizes (bytes : List ℕ) : Type 0 where
   pub case-bytes : length bytes ≤ mostCaseBytes
@@ -34,3 +34,4 @@ pub record NeverTooShort (bytes : List ℕ) : Type 0 where
   pub table-never-short : (room : ℕ) → mostTableNumbers ≤ room → encodedNumbers (encoded bytes room) .refusal ≢ 10
   pub schedule-never-short : (xs : List ℕ) (room : ℕ) → mostScheduleNumbers ≤ room → decodedNumbers (decoded bytes xs room) .refusal ≢ 10
   pub items-never-short : (schedule : List ℕ) (room : ℕ) → mostItems ≤ room → replayedNumbers (replayed bytes schedule room) .refusal ≢ 10
+  pub assignment-never-short : (schedule : List ℕ) (room : ℕ) → mostVariables ≤ room → filledNumbers (filled bytes schedule room) .refusal ≢ 10
