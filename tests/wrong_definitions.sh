@@ -110,7 +110,7 @@ try() {
 
 # Case A and the worked examples are left out, and in the first part the laws on sizes and on rows as
 # numbers: they too refuse many of the edits, and it is the theorem that must.
-examples=(correspondence/{NoLines,EverySchedule,CaseA,CaseBytes,Examples,StopExamples,HolderExamples,StayExamples,Refusals,Conventions,Computing})
+examples=(correspondence/{NoLines,EverySchedule,CaseA,CaseBytes,Examples,StopExamples,HolderExamples,StayExamples,FillExamples,Refusals,Conventions,Computing})
 
 # ---- Demand 3.
 fresh model laws correspondence && without "${examples[@]}" laws/{Sizes,RowNumbers,ForwardWalk,HandedOn} &&

@@ -10,7 +10,8 @@ use Rattle.model.specs.Copies.{latest, copyOf, valueBefore, readLocal, readItem
 use Rattle.model.specs.Table.{followRow, stayRows, lineOrderRows, orderRows, demandRows, valueRows, allOrderRows, allValueRows, itemRows, blockRows, runRows, table, numbersOf}
 use Rattle.model.specs.Holds.{demandMet, fromRecord, someBreaks, someThreadBreaks, holds, firstFailing}
 use Rattle.model.specs.Schedule.{inputLines, allInputLines, valueGiven, stepsOf, lengthsFit, runOf, linesInBlock, decodedValues, allDecodedValues, decode}
-use Rattle.model.specs.Answers.{onCase, encoded, encodedInto, checked, decoded, decodedInto, replayed, replayedInto}
+use Rattle.model.specs.Fill.{fill, lateAfter, lateIn, firstLate}
+use Rattle.model.specs.Answers.{onCase, encoded, encodedInto, checked, decoded, decodedInto, replayed, replayedInto, filled, filledInto}
 use Rattle.model.specs.Listing.{digitsOf, decimal, numbersLine, rowLines, listingText, listed, listedInto}
 
 unfoldable pub computing : Type 0
@@ -24,6 +25,7 @@ unfolding numbersFrom allFrom lowestFailing writtenOver
     followRow stayRows lineOrderRows orderRows demandRows valueRows allOrderRows allValueRows itemRows blockRows runRows table numbersOf
     demandMet fromRecord someBreaks someThreadBreaks holds firstFailing
     inputLines allInputLines valueGiven stepsOf lengthsFit runOf linesInBlock decodedValues allDecodedValues decode
-    onCase encoded encodedInto checked decoded decodedInto replayed replayedInto
+    fill lateAfter lateIn firstLate
+    onCase encoded encodedInto checked decoded decodedInto replayed replayedInto filled filledInto
     digitsOf decimal numbersLine rowLines listingText listed listedInto
 computing = Unit

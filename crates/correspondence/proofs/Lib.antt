@@ -44,5 +44,6 @@ pub mod Examples
 pub mod StopExamples
 pub mod HolderExamples
 pub mod StayExamples
+pub mod FillExamples
 pub mod Refusals
 pub mod Conventions
