@@ -69,7 +69,7 @@ module _ (bytes : List ℕ) (accepted : verdict bytes ≡ Accepted) (schedule : 
     pub filled-like-replayed : filled bytes schedule room ≡ alike (replayed bytes schedule items) violating
     unfolding filled replayed
     filled-like-replayed =
-        rw (on-accepted _ _ _ accepted, on-accepted _ _ _ accepted, le-leb _ _ h, le-leb _ _ h')
+        rw (on-accepted {A = Filled} _ _ _ accepted, on-accepted {A = Replayed} _ _ _ accepted, le-leb _ _ h, le-leb _ _ h')
         (go (eqb (length schedule) (scheduleSize case)) (lengthsFit case (blockLengths case schedule)))
       where
         go : (sized fit : Bool) → unless sized (Refused 12 0) (unless fit (Refused 13 0) (answerOfFill case schedule (runOf case schedule)))
