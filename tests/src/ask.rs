@@ -1,7 +1,7 @@
 //! Asking the library under test, with slices of the right size, and with
 //! marked slices that show what was touched.
 
-use crate::calls::{Calls, Checked, Decoded, Encoded, Listed, Refusal, Replayed, Spelled, Verdict};
+use crate::calls::{Calls, Checked, Decoded, Encoded, Filled, Listed, Refusal, Replayed, Spelled, Verdict};
 use crate::draft::Draft;
 use crate::report::{Outcome, Tally};
 use crate::table::{MOST_LISTING_BYTES, MOST_NUMBERS};
@@ -39,6 +39,46 @@ pub fn decode(calls: &dyn Calls, draft: &Draft, assignment: &[u16]) -> Result<Ve
     }
 }
 
+/// The assignment that a schedule is filled to.
+pub fn fill(calls: &dyn Calls, draft: &Draft, schedule: &[u16]) -> Result<Vec<u16>, String> {
+    let mut assignment = marks(draft.variables());
+    match calls.fill(&draft.bytes(), schedule, &mut assignment) {
+        Filled::Assignment { numbers } if usize::from(numbers) == assignment.len() => Ok(assignment),
+        other => Err(format!("{schedule:?} was filled as {other:?}")),
+    }
+}
+
+/// Demands that a schedule is filled to this assignment or meets this refusal, and
+/// that nothing else is touched, in a slice with room for so many numbers.
+pub fn fills_in(
+    room: usize,
+    calls: &dyn Calls,
+    draft: &Draft,
+    schedule: &[u16],
+    wanted: Result<&[u16], Refusal>,
+    tally: &mut Tally,
+) -> Outcome {
+    let about = || format!("{schedule:?} filled, room for {room}");
+    let mut assignment = marks(room);
+    let reply = calls.fill(&draft.bytes(), schedule, &mut assignment);
+    let length = wanted.map_or(0, <[u16]>::len);
+    let wanted_reply = wanted.map_or_else(Filled::from, |numbers| Filled::Assignment { numbers: numbers.len() as u16 });
+    tally.same(reply, wanted_reply, about)?;
+    tally.same_numbers(&assignment[..length], wanted.unwrap_or(&[]), about)?;
+    tally.holds(assignment[length..] == marks(room)[length..], || format!("{}: more was touched", about()))
+}
+
+/// The same in a slice with some room to spare.
+pub fn fills(
+    calls: &dyn Calls,
+    draft: &Draft,
+    schedule: &[u16],
+    wanted: Result<&[u16], Refusal>,
+    tally: &mut Tally,
+) -> Outcome {
+    fills_in(draft.variables() + 2, calls, draft, schedule, wanted, tally)
+}
+
 pub fn check(calls: &dyn Calls, draft: &Draft, assignment: &[u16]) -> Checked {
     calls.check(&draft.bytes(), assignment)
 }
@@ -54,7 +94,7 @@ pub fn listing(calls: &dyn Calls, case: &[u8]) -> Result<String, String> {
 }
 
 /// Demands that the listing of a case is one refusal, that each of the other
-/// seven calls on a case meets it, and that none of these touches what it was
+/// eight calls on a case meets it, and that none of these touches what it was
 /// lent.
 pub fn refused_by_all(calls: &dyn Calls, case: &[u8], refusal: Refusal, tally: &mut Tally) -> Outcome {
     let about = || format!("case {case:?}");
@@ -63,14 +103,16 @@ pub fn refused_by_all(calls: &dyn Calls, case: &[u8], refusal: Refusal, tally: &
     tally.same(listing(calls, case)?, line, about)?;
     tally.same(calls.smt_length(case), Spelled::from(refusal), about)?;
     for room in [0, MOST_NUMBERS] {
-        let (mut table, mut schedule, mut items) = (marks(room), marks(room), marks(room));
+        let [mut table, mut schedule, mut items, mut assignment] = [(); 4].map(|()| marks(room));
         tally.same(calls.encode(case, &mut table), Encoded::from(refusal), about)?;
         tally.same(calls.check(case, &marks(room)), Checked::from(refusal), about)?;
         let decoded = calls.decode(case, &marks(room), &mut schedule);
         tally.same(decoded, Decoded::from(refusal), about)?;
         let replayed = calls.replay(case, &marks(room), &mut items);
         tally.same(replayed, Replayed::from(refusal), about)?;
-        for slice in [table, schedule, items] {
+        let filled = calls.fill(case, &marks(room), &mut assignment);
+        tally.same(filled, Filled::from(refusal), about)?;
+        for slice in [table, schedule, items, assignment] {
             tally.holds(slice == marks(room), || format!("{}: a slice was touched", about()))?;
         }
         let mut text = byte_marks(room);

@@ -1,4 +1,4 @@
-//! The nine calls of the library and their replies.
+//! The ten calls of the library and their replies.
 //!
 //! Both the second implementation and the proved library stand behind the
 //! trait `Calls`, so that each test can be run on either of them.
@@ -60,6 +60,18 @@ pub enum Replayed {
 }
 
 #[derive(Clone, Copy, Debug, PartialEq, Eq)]
+pub enum Filled {
+    /// How many numbers were written.
+    Assignment {
+        numbers: u16,
+    },
+    Refused {
+        number: u16,
+        place: u16,
+    },
+}
+
+#[derive(Clone, Copy, Debug, PartialEq, Eq)]
 pub enum Listed {
     /// How many bytes were written.
     Text {
@@ -107,6 +119,7 @@ pub trait Calls {
     fn check(&self, case: &[u8], assignment: &[u16]) -> Checked;
     fn decode(&self, case: &[u8], assignment: &[u16], schedule: &mut [u16]) -> Decoded;
     fn replay(&self, case: &[u8], schedule: &[u16], items: &mut [u16]) -> Replayed;
+    fn fill(&self, case: &[u8], schedule: &[u16], assignment: &mut [u16]) -> Filled;
     fn listing(&self, case: &[u8], text: &mut [u8]) -> Listed;
     fn smt_length(&self, case: &[u8]) -> Spelled;
     fn smt_text(&self, case: &[u8], text: &mut [u8]) -> Spelled;
@@ -124,7 +137,7 @@ macro_rules! replies_that_can_refuse {
     )* };
 }
 
-replies_that_can_refuse!(Verdict, Encoded, Checked, Decoded, Replayed, Listed, Spelled, Taken);
+replies_that_can_refuse!(Verdict, Encoded, Checked, Decoded, Replayed, Filled, Listed, Spelled, Taken);
 
 impl Verdict {
     pub fn refusal(self) -> Option<Refusal> {

@@ -6,7 +6,7 @@
 //! on the library and in short on each deliberate mistake.
 
 use crate::ask::{byte_marks, listing, marks};
-use crate::calls::{Calls, Checked, Decoded, Encoded, Listed, Replayed, Verdict};
+use crate::calls::{Calls, Checked, Decoded, Encoded, Filled, Listed, Replayed, Verdict};
 use crate::damage::{damaged, random_bytes, scratched};
 use crate::draft::Draft;
 use crate::generate::{
@@ -17,8 +17,8 @@ use crate::line::ASSERT;
 use crate::random::Random;
 use crate::report::{Outcome, Tally};
 use crate::second;
-use crate::table::MOST_NUMBERS;
-use crate::vary::{assignments, damage_schedule, filled, schedule, some_room};
+use crate::table::{MOST_NUMBERS, MOST_VARIABLES};
+use crate::vary::{assignments, damage_schedule, schedule, seen, some_room};
 
 /// A comparison: the library under test, the number of rounds, the count.
 pub type Comparison = fn(&dyn Calls, u64, &mut Tally) -> Outcome;
@@ -52,7 +52,7 @@ pub fn tables(calls: &dyn Calls, count: u64, tally: &mut Tally) -> Outcome {
     })
 }
 
-/// The checker's answers on filled, random and damaged assignments.
+/// The checker's answers on assignments of runs, on random and damaged ones.
 pub fn checks(calls: &dyn Calls, count: u64, tally: &mut Tally) -> Outcome {
     rounds(3_000_000, count, |random, draft| {
         let case = draft.bytes();
@@ -78,15 +78,34 @@ pub fn decodings(calls: &dyn Calls, count: u64, tally: &mut Tally) -> Outcome {
 pub fn replays(calls: &dyn Calls, count: u64, tally: &mut Tally) -> Outcome {
     rounds(5_000_000, count, |random, draft| {
         for _ in 0..6 {
-            let mut schedule = schedule(random, draft);
-            if random.chance(25) {
-                damage_schedule(random, draft, &mut schedule);
-            }
+            let schedule = schedule_or_damaged(random, draft);
             let room = some_room(random, draft.items());
             same_replay(calls, &draft.bytes(), &schedule, room, tally)?;
         }
         Ok(())
     })
+}
+
+/// Fillings of such schedules, at times with too little room; and of damaged and random
+/// files.
+pub fn fillings(calls: &dyn Calls, count: u64, tally: &mut Tally) -> Outcome {
+    rounds(13_000_000, count, |random, draft| {
+        for _ in 0..6 {
+            let schedule = schedule_or_damaged(random, draft);
+            let room = some_room(random, draft.variables());
+            same_filling(calls, &draft.bytes(), &schedule, room, tally)?;
+        }
+        let schedule = schedule(random, draft);
+        files(random, draft).iter().try_for_each(|file| same_filling(calls, file, &schedule, MOST_VARIABLES, tally))
+    })
+}
+
+fn schedule_or_damaged(random: &mut Random, draft: &Draft) -> Vec<u16> {
+    let mut schedule = schedule(random, draft);
+    if random.chance(25) {
+        damage_schedule(random, draft, &mut schedule);
+    }
+    schedule
 }
 
 /// Listings of accepted, damaged and random files, with too little room, one
@@ -217,6 +236,19 @@ fn same_replay(calls: &dyn Calls, case: &[u8], schedule: &[u16], room: usize, ta
     tally.same_numbers(&got, &wanted, || format!("items, room for {room}"))
 }
 
+fn same_filling(calls: &dyn Calls, case: &[u8], schedule: &[u16], room: usize, tally: &mut Tally) -> Outcome {
+    let (mut got, mut wanted) = (marks(room), marks(room));
+    let reply = calls.fill(case, schedule, &mut got);
+    let wanted_reply = second::fill(case, schedule, &mut wanted);
+    match wanted_reply {
+        Filled::Assignment { .. } => tally.saw("filled"),
+        Filled::Refused { number, .. } => tally.saw(format!("refused {number}")),
+    }
+    let about = || format!("filling with room for {room} of {schedule:?}");
+    tally.same(reply, wanted_reply, about)?;
+    tally.same_numbers(&got, &wanted, || format!("assignment, room for {room}"))
+}
+
 fn same_listing(calls: &dyn Calls, case: &[u8], room: usize, tally: &mut Tally) -> Outcome {
     let (mut got, mut wanted) = (byte_marks(room), byte_marks(room));
     let reply = calls.listing(case, &mut got);
@@ -237,7 +269,7 @@ fn every_length(calls: &dyn Calls, random: &mut Random, draft: &Draft, tally: &m
         same_encoding(calls, &case, room, tally)?;
     }
     let needed = draft.schedule_numbers();
-    let longest = [filled(random, draft), vec![0]].concat();
+    let longest = [seen(random, draft), vec![0]].concat();
     for length in 0..=longest.len() {
         same_check(calls, &case, &longest[..length], tally)?;
         for room in [0, needed.saturating_sub(1), needed, needed + 1] {
@@ -252,6 +284,15 @@ fn every_length(calls: &dyn Calls, random: &mut Random, draft: &Draft, tally: &m
         for length in 0..=longest.len() {
             same_replay(calls, &case, &longest[..length], room, tally)?;
         }
+    }
+    let needed = draft.variables();
+    for length in 0..=longest.len() {
+        for room in [0, needed.saturating_sub(1), needed, needed + 1] {
+            same_filling(calls, &case, &longest[..length], room, tally)?;
+        }
+    }
+    for room in 0..=needed + 1 {
+        same_filling(calls, &case, &longest[..draft.schedule_numbers()], room, tally)?;
     }
     let number = random.between(1, 9);
     let refused = damaged(random, number, None).bytes;

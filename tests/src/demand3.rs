@@ -1,18 +1,17 @@
 //! Demand 3 on one case, by trying everything, inputs with some values: the
 //! violating schedules that keep the rule of the 8s are exactly those decoded from
-//! the assignments that meet the table, each from one assignment. All violating
-//! schedules are those of the assignments that meet the table without its 8s, and
-//! each has one that keeps the rule.
+//! the assignments that meet the table, each from one assignment, to which it is
+//! filled. All violating schedules are those of the assignments that meet the table
+//! without its 8s, and each has one that keeps the rule.
 
 use std::collections::BTreeSet;
 
-use crate::ask::{check, decode, marks, replay};
-use crate::calls::{Calls, Checked, Decoded, Replayed};
+use crate::ask::{check, decode, fill, fills, marks, replay};
+use crate::calls::{Calls, Checked, Decoded, Refusal, Replayed};
 use crate::compare_text::script_of;
 use crate::determined::Determined;
 use crate::draft::Draft;
 use crate::enumerate::{runs_all_lines, schedules, with_each};
-use crate::fill::{fill, watch};
 use crate::generate::{accepted, Shape};
 use crate::random::Random;
 use crate::report::{Outcome, Tally};
@@ -20,6 +19,7 @@ use crate::rule::{first_late, keeps_rule, moved};
 use crate::script::Script;
 use crate::search::block_numbers;
 use crate::table::{table_of, Row, Table};
+use crate::watch::{watch, written_down};
 
 /// A random case with few enough inputs to try several values for each.
 pub fn small_case(random: &mut Random, shape: Shape) -> Draft {
@@ -46,16 +46,21 @@ fn compare_case(calls: &dyn Calls, draft: &Draft, input_values: &[u16], random: 
     let violating = violating_schedules(calls, draft, &written, input_values, tally)?;
     let keeping: Vec<Vec<u16>> = violating.iter().filter(|schedule| keeps_rule(draft, schedule)).cloned().collect();
     let Meeting { with_eights, without } = meeting_assignments(calls, draft, &written, input_values, tally)?;
-    let decoded: Result<Vec<Vec<u16>>, String> = with_eights.iter().map(|numbers| decode(calls, draft, numbers)).collect();
-    let mut decoded = decoded?;
+    let mut decoded = Vec::new();
+    for numbers in &with_eights {
+        let schedule = decode(calls, draft, numbers)?;
+        // "filling a decoded one restores the assignment"
+        tally.same(&fill(calls, draft, &schedule)?, numbers, || format!("{schedule:?}, decoded, filled"))?;
+        decoded.push(schedule);
+    }
     decoded.sort();
     // Sorted lists, not sets: a schedule decoded from two assignments is found.
     tally.same(&decoded, &keeping, || "decoded schedules, and those that violate and keep the rule".into())?;
     // "the solver's yes or no is unchanged by the new constraint"
     tally.same(with_eights.is_empty(), without.is_empty(), || "nothing meets the table, with and without its 8s".into())?;
-    let filled = |schedules: &[Vec<u16>]| schedules.iter().map(|schedule| fill(draft, schedule)).collect::<BTreeSet<_>>();
-    tally.same(&filled(&keeping), &with_eights, || "filled schedules that keep the rule".into())?;
-    tally.same(&filled(&violating), &without, || "filled schedules, and what meets the table without its 8s".into())?;
+    let seen = |schedules: &[Vec<u16>]| schedules.iter().map(|schedule| written_down(draft, schedule)).collect::<BTreeSet<_>>();
+    tally.same(&seen(&keeping), &with_eights, || "what is seen of schedules that keep the rule".into())?;
+    tally.same(&seen(&violating), &without, || "what is seen, and what meets the table without its 8s".into())?;
     tally.same(without.len(), violating.len(), || "assignments and schedules".into())?;
     if keeping.len() < violating.len() {
         tally.saw("a case whose violating schedules do not all keep the rule");
@@ -108,10 +113,10 @@ fn violating_schedules(
     Ok(violating)
 }
 
-/// Replays one schedule, and demands that checker, decoder and text see its filled
-/// assignment in the same way, but for the 8s where it does not keep the rule; and
-/// that the schedule which keeps it in its place has the same outcome. Gives the
-/// reply.
+/// Replays one schedule, and demands that checker, decoder and text see its assignment
+/// in the same way, but for the 8s where it does not keep the rule; that it is filled
+/// just where it violates and keeps it; and that the schedule which keeps it in its
+/// place has the same outcome. Gives the reply.
 pub fn seen_alike(
     calls: &dyn Calls,
     draft: &Draft,
@@ -138,6 +143,7 @@ pub fn seen_alike(
         _ => false,
     };
     tally.holds(agrees, || format!("{schedule:?}: {reply:?}, but constraint {failed:?} fails"))?;
+    fills(calls, draft, schedule, filled_or_refused(draft, schedule, reply, numbers), tally)?;
     let checked = seen_by_checker(calls, draft, written, schedule, (numbers, failed), tally)?;
     if let Replayed::Violated(_) = reply {
         seen_by_decoder(calls, draft, schedule, numbers, checked, tally)?;
@@ -154,6 +160,22 @@ pub fn seen_alike(
         Replayed::Refused { .. } => "refused 14",
     });
     Ok(reply)
+}
+
+/// What a schedule with this reply is filled to: the assignment, where it violates and
+/// keeps the rule. Else the refusal that the replayer gives, or 16 where the run does
+/// not violate, or 17 and the first line that is late.
+pub fn filled_or_refused<'a>(
+    draft: &Draft,
+    schedule: &[u16],
+    reply: Replayed,
+    numbers: &'a [u16],
+) -> Result<&'a [u16], Refusal> {
+    match reply {
+        Replayed::Violated(_) => first_late(draft, schedule).map_or(Ok(numbers), |place| Err(Refusal { number: 17, place })),
+        Replayed::Clean | Replayed::CutOff(_) => Err(Refusal { number: 16, place: 0 }),
+        Replayed::Refused { number, place } => Err(Refusal { number, place }),
+    }
 }
 
 /// The checker names the first constraint that fails: where the schedule does not
@@ -175,7 +197,7 @@ fn seen_by_checker(
         None => failed,
     };
     let wanted = failed.map_or(Checked::Meets, |place| Checked::Fails(place as u16));
-    tally.same(check(calls, draft, numbers), wanted, || format!("{schedule:?} filled, {numbers:?}"))?;
+    tally.same(check(calls, draft, numbers), wanted, || format!("{schedule:?} written down, {numbers:?}"))?;
     Ok(wanted)
 }
 
@@ -189,7 +211,7 @@ fn seen_by_decoder(
     checked: Checked,
     tally: &mut Tally,
 ) -> Outcome {
-    let about = || format!("{schedule:?} filled, {numbers:?}");
+    let about = || format!("{schedule:?} written down, {numbers:?}");
     let Checked::Fails(place) = checked else {
         return tally.same(decode(calls, draft, numbers)?.as_slice(), schedule, about);
     };
@@ -230,7 +252,9 @@ fn same_when_moved(
         lines.sort();
         lines
     };
-    tally.same(in_order(watch(draft, &moved).violations), in_order(violations.to_vec()), about)?;
+    let watched = watch(draft, &moved);
+    fills(calls, draft, &moved, filled_or_refused(draft, &moved, moved_reply, &watched.assignment), tally)?;
+    tally.same(in_order(watched.violations.clone()), in_order(violations.to_vec()), about)?;
     let place = match (moved == schedule, violates(reply)) {
         (true, true) => 0,
         (true, false) => 1,

@@ -21,7 +21,6 @@ mod demand3;
 mod determined;
 mod draft;
 mod enumerate;
-mod fill;
 mod generate;
 mod groups;
 mod line;
@@ -39,6 +38,7 @@ mod second;
 mod solver;
 mod table;
 mod vary;
+mod watch;
 mod write_source;
 
 use std::process::{exit, ExitCode};

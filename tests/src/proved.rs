@@ -1,6 +1,6 @@
 //! The proved library, through its safe wrapper in `bindings/rust`.
 
-use crate::calls::{Calls, Checked, Decoded, Encoded, Listed, Replayed, Spelled, Taken, Verdict, NAMES};
+use crate::calls::{Calls, Checked, Decoded, Encoded, Filled, Listed, Replayed, Spelled, Taken, Verdict, NAMES};
 
 pub struct Proved;
 
@@ -40,6 +40,13 @@ impl Calls for Proved {
             menduvo::Replayed::Clean => Replayed::Clean,
             menduvo::Replayed::CutOff(record) => Replayed::CutOff(record),
             menduvo::Replayed::Refused { number, place } => Replayed::Refused { number, place },
+        }
+    }
+
+    fn fill(&self, case: &[u8], schedule: &[u16], assignment: &mut [u16]) -> Filled {
+        match menduvo::fill(case, schedule, assignment) {
+            menduvo::Filled::Assignment { numbers } => Filled::Assignment { numbers },
+            menduvo::Filled::Refused { number, place } => Filled::Refused { number, place },
         }
     }
 

@@ -8,6 +8,9 @@ pub type Row = [u16; 6];
 /// The most numbers that a table has: 1,457 constraints.
 pub const MOST_NUMBERS: usize = 6 * 1_457;
 
+/// The most variables that a case has: 256 records, 15 switches, 12 items.
+pub const MOST_VARIABLES: usize = 2 * 256 + 15 * 12;
+
 /// More bytes than any listing has, 52,464: a number takes at most five digits and
 /// the blank or line end after it, and the two counts stand before the table.
 pub const MOST_LISTING_BYTES: usize = 6 * (MOST_NUMBERS + 2);

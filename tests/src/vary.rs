@@ -1,11 +1,11 @@
-//! Assignments and schedules of all sorts for a case: filled, random and
+//! Assignments and schedules of all sorts for a case: those of runs, random and
 //! damaged ones.
 
 use crate::draft::Draft;
 use crate::enumerate::lines_run;
-use crate::fill::fill;
 use crate::random::Random;
 use crate::rule::moved;
+use crate::watch::written_down;
 
 /// A random schedule that refusals 12 and 13 do not meet. Half of them run all
 /// lines of the threads that have a block; in the others each thread may stop. Half
@@ -57,19 +57,19 @@ pub fn damage_schedule(random: &mut Random, draft: &Draft, schedule: &mut Vec<u1
     }
 }
 
-/// The filled assignment of a random schedule.
-pub fn filled(random: &mut Random, draft: &Draft) -> Vec<u16> {
+/// The assignment of a random schedule, be its run legal or not.
+pub fn seen(random: &mut Random, draft: &Draft) -> Vec<u16> {
     let schedule = schedule(random, draft);
-    fill(draft, &schedule)
+    written_down(draft, &schedule)
 }
 
 /// Assignments of all sorts for one case.
 pub fn assignments(random: &mut Random, draft: &Draft) -> Vec<Vec<u16>> {
     let mut all = vec![random.words(draft.variables())];
     for _ in 0..8 {
-        let filled = filled(random, draft);
-        all.push(damaged_assignment(random, draft, &filled));
-        all.push(filled);
+        let seen = seen(random, draft);
+        all.push(damaged_assignment(random, draft, &seen));
+        all.push(seen);
     }
     let other_length = random.below(2 * draft.variables() + 2);
     all.push(random.words(other_length));

@@ -12,12 +12,12 @@ use crate::calls::{Calls, Replayed};
 use crate::command::PROGRAM;
 use crate::draft::Draft;
 use crate::enumerate::schedules;
-use crate::fill::watch;
 use crate::generate::{accepted, Shape, BUSY, FOUR_HOLDERS, FOUR_THREADS, HOLDERS, SMALL};
 use crate::program;
 use crate::random::Random;
 use crate::report::{Outcome, Report, Tally};
 use crate::second;
+use crate::watch::watch;
 
 pub fn run(_: &dyn Calls, report: &mut Report) {
     report.check("small cases", |tally| {

@@ -6,7 +6,6 @@ use crate::ask::reply;
 use crate::calls::{Calls, Replayed};
 use crate::draft::Draft;
 use crate::enumerate::{block_lengths, schedules_with_all_values};
-use crate::fill::watch;
 use crate::generate::{accepted, Shape, BUSY, FOUR_THREADS, HOLDERS, SMALL, TINY_WITH_INPUTS};
 use crate::groups::answers::{lines_that_can_violate, program, write_all, Folder, Legal};
 use crate::line::{assert, compute, constant, input, load, store, CONSTANT, LESS, OR};
@@ -14,6 +13,7 @@ use crate::program;
 use crate::random::Random;
 use crate::report::{Outcome, Report, Tally};
 use crate::second;
+use crate::watch::watch;
 
 /// The n up to which the smallest is looked for.
 const MOST: u16 = 4;

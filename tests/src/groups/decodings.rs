@@ -1,6 +1,6 @@
 //! Decodings worked out by hand.
 
-use crate::ask::{check, decode, marks, reply};
+use crate::ask::{check, decode, fills, marks, reply};
 use crate::calls::{Calls, Checked, Decoded, Replayed};
 use crate::draft::Draft;
 use crate::line::*;
@@ -81,12 +81,13 @@ fn late_inputs() -> Draft {
     Draft::new(2, 2).with_globals(&[8]).with_thread(0, &lines).with_thread(1, &[input(0)])
 }
 
-/// Demands that the assignment meets the table, decodes to the schedule, and
-/// that the schedule violates.
+/// Demands that the assignment meets the table and decodes to the schedule, and
+/// that the schedule violates and is filled to the assignment.
 fn decodes(calls: &dyn Calls, draft: &Draft, numbers: &[u16], schedule: &[u16], tally: &mut Tally) -> Outcome {
     tally.same(check(calls, draft, numbers), Checked::Meets, || format!("{numbers:?}"))?;
     let decoded = decode(calls, draft, numbers)?;
     tally.same(decoded.as_slice(), schedule, || format!("{numbers:?}"))?;
     let reply = reply(calls, draft, schedule);
-    tally.holds(matches!(reply, Replayed::Violated(_)), || format!("{schedule:?}: {reply:?}"))
+    tally.holds(matches!(reply, Replayed::Violated(_)), || format!("{schedule:?}: {reply:?}"))?;
+    fills(calls, draft, schedule, Ok(numbers), tally)
 }

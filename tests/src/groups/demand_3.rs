@@ -3,7 +3,6 @@
 
 use crate::calls::Calls;
 use crate::demand3::{compare, seen_alike, Written, MOVED};
-use crate::fill::{of_several, UNLOCKS, VIOLATIONS};
 use crate::generate::{accepted, Shape};
 use crate::generate::{
     ANY, BUSY, BUSY_WITH_INPUTS, FOUR_HOLDERS, FOUR_THREADS, FULL, HOLDERS, HOLDERS_WITH_INPUTS, LONG, LONG_STRETCHES,
@@ -12,6 +11,7 @@ use crate::generate::{
 use crate::random::Random;
 use crate::report::{Outcome, Report, Tally};
 use crate::vary::schedule;
+use crate::watch::{of_several, UNLOCKS, VIOLATIONS};
 
 /// How many large cases are taken.
 const LARGE_CASES: u64 = 1_200;

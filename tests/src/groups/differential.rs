@@ -2,7 +2,7 @@
 //! demands that every reply was met often.
 
 use crate::calls::Calls;
-use crate::compare::{checks, decodings, lengths, listings, replays, tables, verdicts, Comparison};
+use crate::compare::{checks, decodings, fillings, lengths, listings, replays, tables, verdicts, Comparison};
 use crate::compare_lines::single_lines;
 use crate::report::Report;
 
@@ -48,6 +48,25 @@ const REPLAYS: [&str; 8] = [
     "refused 14",
 ];
 
+const FILLINGS: [&str; 16] = [
+    "filled",
+    "refused 1",
+    "refused 2",
+    "refused 3",
+    "refused 4",
+    "refused 5",
+    "refused 6",
+    "refused 7",
+    "refused 8",
+    "refused 9",
+    "refused 10",
+    "refused 12",
+    "refused 13",
+    "refused 14",
+    "refused 16",
+    "refused 17",
+];
+
 const LISTINGS: [&str; 11] = [
     "listed",
     "refusal 1 listed",
@@ -76,15 +95,16 @@ const LINES: [&str; 11] = [
     "refused 9",
 ];
 
-const COMPARISONS: [(&str, Comparison, u64, &[&str]); 8] = [
+const COMPARISONS: [(&str, Comparison, u64, &[&str]); 9] = [
     ("verdicts", verdicts, 20_000, &VERDICTS),
     ("tables", tables, 10_000, &["encoded", "refused 6", "refused 9"]),
     ("checks", checks, 6_000, &CHECKS),
     ("decodings", decodings, 6_000, &DECODINGS),
     ("replays", replays, 30_000, &REPLAYS),
+    ("fillings", fillings, 20_000, &FILLINGS),
     ("listings", listings, 2_000, &LISTINGS),
     ("single lines", single_lines, 20_000, &LINES),
-    ("every length of every slice", lengths, 200, &["encoded", "refused 10", "decoded", "listed"]),
+    ("every length of every slice", lengths, 200, &["encoded", "refused 10", "decoded", "filled", "listed"]),
 ];
 
 pub fn run(calls: &dyn Calls, report: &mut Report) {

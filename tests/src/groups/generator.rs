@@ -7,13 +7,13 @@ use crate::calls::{Calls, Replayed, Verdict};
 use crate::compare::SHAPES;
 use crate::draft::Draft;
 use crate::enumerate::{lines_run, runs_all_lines};
-use crate::fill::{of_several, watch, UNLOCKS, VIOLATIONS};
 use crate::generate::accepted;
 use crate::line::{Line, ASSERT, ASSUME, COMPUTE, INPUT, LOAD};
 use crate::random::Random;
 use crate::report::{Outcome, Report, Tally};
 use crate::rule::first_late;
 use crate::vary::schedule;
+use crate::watch::{of_several, watch, UNLOCKS, VIOLATIONS};
 
 const CASES: u64 = 5_000;
 

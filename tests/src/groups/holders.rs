@@ -8,10 +8,10 @@ use crate::calls::{Calls, Replayed};
 use crate::compare_text::{same_truth, script_of};
 use crate::draft::Draft;
 use crate::enumerate::block_lengths;
-use crate::fill::fill;
 use crate::line::*;
 use crate::report::{Outcome, Report, Tally};
 use crate::samples::{right_release, wrong_release};
+use crate::watch::written_down;
 use Replayed::{Clean, CutOff, Violated};
 
 type Check = fn(&dyn Calls, &mut Tally) -> Outcome;
@@ -73,7 +73,7 @@ fn by_schedule(
     let items = [&[7], mutexes].concat();
     runs(calls, draft, schedule, reply, &items, tally)?;
     let script = script_of(calls, draft, tally)?;
-    same_truth(calls, draft, &script, &fill(draft, schedule), tally)
+    same_truth(calls, draft, &script, &written_down(draft, schedule), tally)
 }
 
 /// A case without lines: a global, so that the first mutex is item 1, and blocks

@@ -4,10 +4,10 @@ use crate::ask::{byte_marks, listing, marks, refused_by_all, replay};
 use crate::calls::{Calls, Checked, Encoded, Listed, Refusal, Replayed, Verdict};
 use crate::draft::Draft;
 use crate::enumerate::block_lengths;
-use crate::fill::fill;
 use crate::line::*;
 use crate::report::{Outcome, Report, Tally};
 use crate::table::{table_of, MOST_LISTING_BYTES, MOST_NUMBERS};
+use crate::watch::written_down;
 
 pub fn run(calls: &dyn Calls, report: &mut Report) {
     report.check("lengths of the file", |tally| file_lengths(calls, tally));
@@ -116,7 +116,7 @@ fn largest_case(calls: &dyn Calls, tally: &mut Tally) -> Outcome {
     // With line 17 a thread comes to its second block. Its 8 stands behind two order
     // constraints of line 1, three of each line up to 16, and its own 3.
     for (schedule, first) in [(in_first_blocks, 1_457), (vec![16; 16], 2 + 3 * 15 + 2)] {
-        let checked = calls.check(&draft.bytes(), &fill(&draft, &schedule));
+        let checked = calls.check(&draft.bytes(), &written_down(&draft, &schedule));
         tally.same(checked, Checked::Fails(first), || format!("{schedule:?} filled"))?;
         let wanted = (Replayed::Clean, at_end.clone());
         tally.same(replay(calls, &draft, &schedule), wanted, || format!("{schedule:?}"))?;
@@ -186,7 +186,7 @@ fn all_switches_used(calls: &dyn Calls, tally: &mut Tally) -> Outcome {
     schedule[15] = 5;
     let wanted = (Replayed::Violated(draft.records.len() as u16), vec![16]);
     tally.same(replay(calls, &draft, &schedule), wanted, || "in turn".into())?;
-    let numbers = fill(&draft, &schedule);
+    let numbers = written_down(&draft, &schedule);
     let checked = calls.check(&draft.bytes(), &numbers);
     tally.same(checked, Checked::Meets, || "the filled assignment".into())?;
     let mut decoded = vec![0; 16];

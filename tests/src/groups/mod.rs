@@ -12,6 +12,8 @@ mod decodings;
 mod demand_3;
 mod differential;
 mod fields;
+mod fill;
+mod fill_refusals;
 mod generator;
 mod holders;
 mod holders_in_constraints;
@@ -54,6 +56,7 @@ pub fn all() -> Vec<Group> {
         group("visible", "the 8s and the rule that they keep", visible::run),
         group("checks", "each kind of constraint fails first", checks::run),
         group("decodings", "decodings worked out by hand", decodings::run),
+        group("fill", "schedules filled, and refused", fill::run),
         group("fields", "refusal 9, field by field", fields::run),
         group("limits", "both sides of every limit", limits::run),
         group("refusals", "refusals 1 to 9 and their order", refusals::run),

@@ -1,9 +1,9 @@
 //! Deliberate mistakes in the second implementation. Each must be found by
 //! every comparison named for it; the right one must pass them all.
 
-use super::{holders, visible};
+use super::{fill, holders, visible};
 use crate::calls::Calls;
-use crate::compare::{checks, decodings, lengths, listings, replays, tables, verdicts, Comparison};
+use crate::compare::{checks, decodings, fillings, lengths, listings, replays, tables, verdicts, Comparison};
 use crate::compare_lines::{single_lines, whole_threads};
 use crate::compare_text::{texts, truths};
 use crate::demand3::compare;
@@ -15,7 +15,7 @@ use crate::second::{Second, Wrong, RIGHT};
 /// Rounds for each comparison: few, since a mistake should be found soon.
 const ROUNDS: u64 = 150;
 
-const MISTAKES: [(Wrong, &[Comparison]); 86] = [
+const MISTAKES: [(Wrong, &[Comparison]); 103] = [
     (Wrong::StrayNextUnseen, &[verdicts]),
     (Wrong::DropsA6, &[tables, demand_3]),
     (Wrong::FivesLast, &[tables]),
@@ -26,11 +26,11 @@ const MISTAKES: [(Wrong, &[Comparison]); 86] = [
     (Wrong::ValuesBeforeBlocks, &[checks]),
     (Wrong::FalseInputKept, &[decodings, demand_3_with_inputs]),
     (Wrong::GoesOnAfterAssume, &[replays, demand_3]),
-    (Wrong::ViolatedThoughCutOff, &[replays, demand_3]),
-    (Wrong::LengthsWrap, &[replays]),
-    (Wrong::LengthBeforeRoom, &[decodings, lengths]),
+    (Wrong::ViolatedThoughCutOff, &[replays, fillings, demand_3, fill_by_hand]),
+    (Wrong::LengthsWrap, &[replays, fillings, fill_by_hand]),
+    (Wrong::LengthBeforeRoom, &[decodings, fillings, lengths, fill_by_hand]),
     (Wrong::WritesThoughRefused, &[replays, lengths]),
-    (Wrong::ClearsTheTail, &[tables, decodings, replays, listings, lengths, texts]),
+    (Wrong::ClearsTheTail, &[tables, decodings, replays, fillings, listings, lengths, texts, fill_by_hand]),
     (Wrong::UnrunPastN, &[checks, texts]),
     (Wrong::UnrunTooLate, &[checks, demand_3, texts]),
     (Wrong::UnrunHasThread, &[checks, demand_3, texts]),
@@ -41,11 +41,11 @@ const MISTAKES: [(Wrong, &[Comparison]); 86] = [
     (Wrong::UnrunInputFree, &[checks, decodings, demand_3_with_inputs, texts]),
     (Wrong::UnrunCounted, &[decodings, demand_3]),
     (Wrong::NoThreadStops, &[replays, demand_3]),
-    (Wrong::MoreThanLines, &[replays]),
-    (Wrong::StrayLeftFirst, &[replays]),
+    (Wrong::MoreThanLines, &[replays, fillings, fill_by_hand]),
+    (Wrong::StrayLeftFirst, &[replays, fillings, fill_by_hand]),
     (Wrong::StrayLeftUnseen, &[replays, demand_3_with_inputs]),
-    (Wrong::StrayLeftByRecord, &[replays]),
-    (Wrong::HolderIsThread, &[checks, replays, demand_3_holders, texts, holders_by_hand]),
+    (Wrong::StrayLeftByRecord, &[replays, fill_by_hand]),
+    (Wrong::HolderIsThread, &[checks, replays, fillings, demand_3_holders, texts, holders_by_hand]),
     (Wrong::FreeIsOwn, &[checks, replays, demand_3_holders, holders_by_hand]),
     (Wrong::StrangerFreesNot, &[checks, replays, demand_3_holders, holders_by_hand]),
     (Wrong::PassedUnlockViolates, &[checks, replays, demand_3_holders, texts, holders_by_hand]),
@@ -73,6 +73,23 @@ const MISTAKES: [(Wrong, &[Comparison]); 86] = [
     (Wrong::EightLast, &[tables, texts, visible_by_hand]),
     (Wrong::LateRefused, &[replays, demand_3, visible_by_hand]),
     (Wrong::CountedWithBefore, &[decodings, demand_3, visible_by_hand]),
+    (Wrong::BlockValuesLate, &[fillings, demand_3, fill_by_hand]),
+    (Wrong::UnrunInputCopied, &[fillings, demand_3_with_inputs, fill_by_hand]),
+    (Wrong::PassedInputCopied, &[demand_3_with_inputs, fill_by_hand]),
+    (Wrong::PassedLine0, &[fillings, demand_3, fill_by_hand]),
+    (Wrong::TestHasItsExpression, &[fillings, demand_3, fill_by_hand]),
+    (Wrong::UnrunInBlockN, &[fillings, demand_3, fill_by_hand]),
+    (Wrong::UnrunFilledWith0, &[fillings, demand_3, fill_by_hand]),
+    (Wrong::CleanIsFilled, &[fillings, demand_3, fill_by_hand]),
+    (Wrong::CutOffIsFilled, &[fillings, demand_3, fill_by_hand]),
+    (Wrong::StrayAfterClean, &[fillings, demand_3_with_inputs, fill_by_hand]),
+    (Wrong::LateBeforeClean, &[fillings, demand_3, fill_by_hand]),
+    (Wrong::LineBeforeNamed, &[fillings, demand_3, fill_by_hand]),
+    (Wrong::LateByRun, &[fillings, demand_3_long, fill_by_hand]),
+    (Wrong::LateByRecord, &[fillings, demand_3_long, fill_by_hand]),
+    (Wrong::UnrunLate, &[fillings, demand_3, fill_by_hand]),
+    (Wrong::VisibleLate, &[fillings, demand_3, fill_by_hand]),
+    (Wrong::WrittenBeforeKnown, &[fillings, lengths, demand_3, fill_by_hand]),
     (Wrong::GuardedLineNotTaken, &[single_lines, whole_threads]),
     (Wrong::FirstLineStays, &[single_lines, whole_threads]),
     (Wrong::MutexAmongGlobals, &[single_lines, whole_threads]),
@@ -104,12 +121,13 @@ const MISTAKES: [(Wrong, &[Comparison]); 86] = [
     (Wrong::UnlocksBehindAsserts, &[texts, holders_by_hand]),
 ];
 
-const ALL: [Comparison; 18] = [
+const ALL: [Comparison; 20] = [
     verdicts,
     tables,
     checks,
     decodings,
     replays,
+    fillings,
     listings,
     lengths,
     single_lines,
@@ -123,6 +141,7 @@ const ALL: [Comparison; 18] = [
     demand_3_long,
     holders_by_hand,
     visible_by_hand,
+    fill_by_hand,
 ];
 
 pub fn run(_: &dyn Calls, report: &mut Report) {
@@ -164,6 +183,10 @@ fn demand_3_long(calls: &dyn Calls, rounds: u64, tally: &mut Tally) -> Outcome {
 
 fn visible_by_hand(calls: &dyn Calls, _: u64, tally: &mut Tally) -> Outcome {
     visible::all(calls, tally)
+}
+
+fn fill_by_hand(calls: &dyn Calls, _: u64, tally: &mut Tally) -> Outcome {
+    fill::all(calls, tally)
 }
 
 fn holders_by_hand(calls: &dyn Calls, _: u64, tally: &mut Tally) -> Outcome {

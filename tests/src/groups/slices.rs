@@ -4,16 +4,16 @@ use std::fmt::Debug;
 use std::ops::Not;
 
 use crate::ask::{byte_marks, marks};
-use crate::calls::{Calls, Decoded, Encoded, Listed, Replayed};
+use crate::calls::{Calls, Decoded, Encoded, Filled, Listed, Replayed};
 use crate::damage::damaged;
 use crate::demand3::small_case;
 use crate::draft::Draft;
-use crate::fill::fill;
 use crate::generate::SMALL_WITH_INPUTS;
 use crate::random::Random;
 use crate::report::{Outcome, Report, Tally};
 use crate::table::table_of;
 use crate::vary::schedule;
+use crate::watch::written_down;
 
 const CASES: u64 = 120;
 
@@ -21,6 +21,10 @@ pub fn run(calls: &dyn Calls, report: &mut Report) {
     report.check("encoding", |tally| each_case(|draft, _| encoding(calls, draft, tally)));
     report.check("decoding", |tally| each_case(|draft, random| decoding(calls, draft, random, tally)));
     report.check("replaying", |tally| each_case(|draft, random| replaying(calls, draft, random, tally)));
+    report.check("filling", |tally| {
+        each_case(|draft, random| filling(calls, draft, random, tally))?;
+        ["filled", "refused"].iter().try_for_each(|reply| tally.saw_often(reply, CASES))
+    });
     report.check("listing an accepted case", |tally| {
         each_case(|draft, _| {
             let case = draft.bytes();
@@ -98,12 +102,12 @@ fn all_or_nothing<T: Copy + Debug + PartialEq + Not<Output = T>>(
     Ok(())
 }
 
-/// Decodes the filled assignments of random schedules; most of them fail.
+/// Decodes the assignments of random runs; most of them fail.
 fn decoding(calls: &dyn Calls, draft: &Draft, random: &mut Random, tally: &mut Tally) -> Outcome {
     let case = draft.bytes();
     for _ in 0..20 {
         let schedule = schedule(random, draft);
-        let numbers = fill(draft, &schedule);
+        let numbers = written_down(draft, &schedule);
         let call = |slice: &mut [u16]| match calls.decode(&case, &numbers, slice) {
             Decoded::Schedule { numbers } => usize::from(numbers),
             Decoded::Refused { .. } => 0,
@@ -126,6 +130,26 @@ fn replaying(calls: &dyn Calls, draft: &Draft, random: &mut Random, tally: &mut 
         };
         for room in 0..=draft.items() + 1 {
             written(marks(room), call, tally)?;
+        }
+    }
+    Ok(())
+}
+
+/// Fills random schedules; most of them do not violate.
+fn filling(calls: &dyn Calls, draft: &Draft, random: &mut Random, tally: &mut Tally) -> Outcome {
+    let case = draft.bytes();
+    for _ in 0..20 {
+        let schedule = schedule(random, draft);
+        let call = |slice: &mut [u16]| match calls.fill(&case, &schedule, slice) {
+            Filled::Assignment { numbers } => usize::from(numbers),
+            Filled::Refused { .. } => 0,
+        };
+        let whole = written(marks(draft.variables()), call, tally)?;
+        tally.saw(if whole.is_empty() { "refused" } else { "filled" });
+        for room in 0..=draft.variables() + 1 {
+            let wanted: &[u16] = if room < draft.variables() { &[] } else { &whole };
+            let result = written(marks(room), call, tally)?;
+            tally.same(result.as_slice(), wanted, || format!("{schedule:?}, room for {room}"))?;
         }
     }
     Ok(())

@@ -4,7 +4,7 @@
 use std::collections::BTreeSet;
 use std::ops::Range;
 
-use crate::ask::{check, decode, reply};
+use crate::ask::{check, decode, fill, reply};
 use crate::calls::{Calls, Checked, Replayed};
 use crate::compare_text::text_of;
 use crate::demand3::small_case;
@@ -162,12 +162,14 @@ fn violating(calls: &dyn Calls, draft: &Draft) -> BTreeSet<Vec<u16>> {
     schedules(draft, &[0]).into_iter().filter(|schedule| violates(calls, draft, schedule)).collect()
 }
 
-/// A model meets the table, and its schedule violates and keeps the rule.
+/// A model meets the table, its schedule violates and keeps the rule, and is filled to
+/// the model.
 fn model_violates(calls: &dyn Calls, draft: &Draft, model: &[u16], tally: &mut Tally) -> Result<Vec<u16>, String> {
     let about = || format!("model {model:?} of {draft}");
     tally.same(check(calls, draft, model), Checked::Meets, about)?;
     let schedule = decode(calls, draft, model)?;
     tally.holds(keeps_rule(draft, &schedule), || format!("{}: {schedule:?} does not keep the rule", about()))?;
+    tally.same(fill(calls, draft, &schedule)?.as_slice(), model, about)?;
     match reply(calls, draft, &schedule) {
         Replayed::Violated(line) if draft.line(line).kind == ASSERT => tally.saw("an assert is named"),
         Replayed::Violated(line) if draft.line(line).kind == UNLOCK => tally.saw("an unlock is named"),

@@ -8,7 +8,6 @@ use crate::ask::replay;
 use crate::calls::{Calls, Replayed};
 use crate::draft::Draft;
 use crate::enumerate::{lines_run, runs_all_lines};
-use crate::fill::fill;
 use crate::generate::{accepted, Shape, ANY, BUSY_WITH_INPUTS, FOUR_THREADS, HOLDERS_WITH_INPUTS, LONG, MANY_HOLDERS};
 use crate::line::INPUT;
 use crate::program;
@@ -17,6 +16,7 @@ use crate::report::{Outcome, Report, Tally};
 use crate::second;
 use crate::table::table_of;
 use crate::vary::schedule;
+use crate::watch::written_down;
 
 pub fn run(_: &dyn Calls, report: &mut Report) {
     report.check("inputs", |tally| {
@@ -71,7 +71,7 @@ impl<'a> Way<'a> {
     /// whatever it had.
     fn of(draft: &'a Draft, mut schedule: Vec<u16>, tally: &mut Tally) -> Result<Way<'a>, String> {
         let table = table_of(&second::RIGHT, &draft.bytes())?;
-        let assignment = fill(draft, &schedule);
+        let assignment = written_down(draft, &schedule);
         let lines_run = lines_run(draft, &schedule);
         tally.saw(if runs_all_lines(draft, &schedule) { "all lines" } else { "lines left" });
         let mut asked = Vec::new();

@@ -11,7 +11,6 @@ use crate::damage::{damaged, random_bytes, scratched};
 use crate::demand3::small_case;
 use crate::draft::Draft;
 use crate::enumerate::schedules;
-use crate::fill::fill;
 use crate::generate::{accepted, shuffled, BUSY, BUSY_WITH_INPUTS, FULL, HOLDERS, HOLDERS_WITH_INPUTS};
 use crate::line::*;
 use crate::random::Random;
@@ -19,7 +18,8 @@ use crate::report::{Outcome, Report, Tally};
 use crate::rule::keeps_rule;
 use crate::samples::{case_a, filled_up, guarded_counter, largest};
 use crate::script::Script;
-use crate::vary::filled;
+use crate::vary::seen;
+use crate::watch::written_down;
 
 const PAGE: &str = include_str!("../../../docs/SMT-TEXT.md");
 /// "None is longer than two million bytes"
@@ -167,7 +167,7 @@ fn largest_text(calls: &dyn Calls, draft: &Draft, tally: &mut Tally) -> Result<u
     }
     let script = script_of(calls, draft, tally)?;
     let mut random = Random::from_seed(74_000_000);
-    for numbers in [filled(&mut random, draft), filled(&mut random, draft), random.words(draft.variables())] {
+    for numbers in [seen(&mut random, draft), seen(&mut random, draft), random.words(draft.variables())] {
         same_truth(calls, draft, &script, &numbers, tally)?;
     }
     Ok(length)
@@ -189,7 +189,7 @@ fn meeting(calls: &dyn Calls, tally: &mut Tally) -> Outcome {
         let script = script_of(calls, &draft, tally)?;
         let violates = |schedule: &Vec<u16>| matches!(reply(calls, &draft, schedule), Replayed::Violated(_));
         for schedule in schedules(&draft, &[0, 3]).into_iter().filter(violates).take(6) {
-            let mut numbers = fill(&draft, &schedule);
+            let mut numbers = written_down(&draft, &schedule);
             let meets = calls.check(&draft.bytes(), &numbers) == Checked::Meets;
             tally.same(meets, keeps_rule(&draft, &schedule), || format!("{schedule:?} of {draft}"))?;
             same_truth(calls, &draft, &script, &numbers, tally)?;
@@ -209,7 +209,7 @@ fn changed_byte(calls: &dyn Calls, tally: &mut Tally) -> Outcome {
     let draft = shuffled(&mut random, &guarded_counter());
     let text = text_of(calls, &draft.bytes())?;
     let schedule = schedules(&draft, &[]).into_iter().find(|schedule| reply(calls, &draft, schedule) != Replayed::Clean);
-    let numbers = fill(&draft, &schedule.ok_or("no schedule")?);
+    let numbers = written_down(&draft, &schedule.ok_or("no schedule")?);
     let whole: Vec<bool> = Script::read(&text)?.truths(&numbers).collect();
     for place in 0..text.len() {
         let mut changed = text.clone();

@@ -8,12 +8,12 @@ use crate::calls::{Calls, Checked, Decoded, Replayed};
 use crate::compare_text::{same_truth, script_of};
 use crate::draft::Draft;
 use crate::enumerate::block_lengths;
-use crate::fill::fill;
 use crate::line::*;
 use crate::report::{Outcome, Report, Tally};
 use crate::rule::{first_late, keeps_rule, moved};
 use crate::samples::case_a;
 use crate::table::{table_of, Row};
+use crate::watch::written_down;
 use Replayed::{Clean, CutOff, Refused, Violated};
 
 type Check = fn(&dyn Calls, &mut Tally) -> Outcome;
@@ -369,7 +369,7 @@ fn schedules_of_case_a(calls: &dyn Calls, tally: &mut Tally) -> Outcome {
     let p4 = [0, 0, 0, 1, 0, 1, 2, 1, 1, 5, 1, 5];
     let p5 = [0, 0, 0, 1, 0, 1, 0, 1, 1, 5, 1, 5];
     for (schedule, numbers, first) in [([3, 1, 1], p4, 8), ([4, 1, 0], p5, 19)] {
-        tally.same(fill(&draft, &schedule), numbers.to_vec(), || format!("{schedule:?} filled"))?;
+        tally.same(written_down(&draft, &schedule), numbers.to_vec(), || format!("{schedule:?} filled"))?;
         tally.same(check(calls, &draft, &numbers), Checked::Fails(first), || format!("{numbers:?}"))?;
         runs(calls, &draft, &schedule, Clean, &[5], tally)?;
     }
@@ -378,14 +378,14 @@ fn schedules_of_case_a(calls: &dyn Calls, tally: &mut Tally) -> Outcome {
 
 /// Thread 0: compute, load, assume, store, assert. Thread 1: lock, input, unlock.
 /// Records 1 to 5 and 6 to 8; blocks 0, 2 and 4, and 1 and 3.
-fn mixed() -> Draft {
+pub fn mixed() -> Draft {
     let first = [compute(0, constant(1)), load(1, 0), assume(local(0)), store(0, constant(2)), assert(local(5))];
     empty(2, 4).with_thread(0, &first).with_thread(1, &[lock(0), input(0), unlock(0)])
 }
 
 /// Block lengths, the first record that is late, and the block lengths that keep the
 /// rule instead.
-const SCHEDULES: [([u16; 5], Option<u16>, [u16; 5]); 16] = [
+pub const SCHEDULES: [([u16; 5], Option<u16>, [u16; 5]); 16] = [
     ([0, 0, 0, 0, 0], None, [0, 0, 0, 0, 0]),
     ([5, 3, 0, 0, 0], None, [5, 3, 0, 0, 0]),
     ([0, 0, 5, 3, 0], None, [0, 0, 5, 3, 0]),

@@ -1,11 +1,12 @@
-//! The second implementation: accept, encode, check, decode, replay, listing and
-//! taking a line, written from documents 01 and 02 alone and kept as plain as can
-//! be; and the constraints as text, written from `docs/SMT-TEXT.md` as well.
+//! The second implementation: accept, encode, check, decode, replay, fill, listing
+//! and taking a line, written from documents 01 and 02 alone and kept as plain as
+//! can be; and the constraints as text, written from `docs/SMT-TEXT.md` as well.
 
 mod case;
 mod check;
 mod decode;
 mod encode;
+mod fill;
 mod listing;
 mod read;
 mod replay;
@@ -16,11 +17,12 @@ mod wrong;
 
 pub use wrong::Wrong;
 
-use crate::calls::{Calls, Checked, Decoded, Encoded, Listed, Refusal, Replayed, Spelled, Taken, Verdict};
+use crate::calls::{Calls, Checked, Decoded, Encoded, Filled, Listed, Refusal, Replayed, Spelled, Taken, Verdict};
 use case::Case;
 use check::Assigned;
+use fill::Ran;
 use read::{read, refusal};
-use replay::{Machine, Stop};
+use replay::Machine;
 use take::{Handed, Held};
 
 /// The second implementation, with at most one deliberate mistake.
@@ -49,6 +51,10 @@ pub fn decode(case: &[u8], assignment: &[u16], schedule: &mut [u16]) -> Decoded 
 
 pub fn replay(case: &[u8], schedule: &[u16], items: &mut [u16]) -> Replayed {
     RIGHT.replay(case, schedule, items)
+}
+
+pub fn fill(case: &[u8], schedule: &[u16], assignment: &mut [u16]) -> Filled {
+    RIGHT.fill(case, schedule, assignment)
 }
 
 pub fn listing(case: &[u8], text: &mut [u8]) -> Listed {
@@ -86,6 +92,10 @@ impl Calls for Second {
 
     fn replay(&self, case: &[u8], schedule: &[u16], items: &mut [u16]) -> Replayed {
         self.try_replay(case, schedule, items).unwrap_or_else(Replayed::from)
+    }
+
+    fn fill(&self, case: &[u8], schedule: &[u16], assignment: &mut [u16]) -> Filled {
+        self.try_fill(case, schedule, assignment).unwrap_or_else(Filled::from)
     }
 
     fn listing(&self, case: &[u8], text: &mut [u8]) -> Listed {
@@ -144,31 +154,34 @@ impl Second {
         room_for(case.items(), items)?;
         fits_blocks_and_inputs(&case, schedule)?;
         block_lengths_fit(&case, schedule)?;
-        if self.wrong == Wrong::LateRefused && runs_late(&case, schedule) {
+        if self.wrong == Wrong::LateRefused && Ran::of(&case, schedule).first_late().is_some() {
             return Err(refusal(13));
         }
         let mut machine = Machine::new(&case, schedule);
         let stop = machine.run();
-        if let Some(Stop::StrayInput(place)) = stop {
-            if self.wrong == Wrong::WritesThoughRefused {
-                self.write(&machine.items(), items);
-            }
-            return Err(Refusal { number: 14, place });
+        let answer = machine.answer(stop);
+        if answer.is_ok() || self.wrong == Wrong::WritesThoughRefused {
+            self.write(&machine.items(), items);
         }
-        self.write(&machine.items(), items);
-        Ok(self.answer(stop, machine.violation()))
+        answer
     }
 
-    /// "After a zero assert it goes on; a later cut-off is then the reply", and so
-    /// after an unlock by a stranger.
-    fn answer(&self, stop: Option<Stop>, violation: Option<u16>) -> Replayed {
-        let violation_decides = self.wrong == Wrong::ViolatedThoughCutOff;
-        match (stop, violation) {
-            (_, Some(line)) if violation_decides => Replayed::Violated(line),
-            (Some(Stop::CutOff(line)), _) => Replayed::CutOff(line),
-            (_, Some(line)) => Replayed::Violated(line),
-            (_, None) => Replayed::Clean,
+    fn try_fill(&self, bytes: &[u8], schedule: &[u16], assignment: &mut [u16]) -> Result<Filled, Refusal> {
+        let case = read(bytes, self.wrong)?;
+        if self.wrong == Wrong::LengthBeforeRoom {
+            fits_blocks_and_inputs(&case, schedule)?;
         }
+        room_for(case.variables(), assignment)?;
+        fits_blocks_and_inputs(&case, schedule)?;
+        block_lengths_fit(&case, schedule)?;
+        let ran = Ran::of(&case, schedule);
+        if self.wrong == Wrong::WrittenBeforeKnown {
+            self.write(&ran.assignment(), assignment);
+        }
+        ran.refuse()?;
+        let filled = ran.assignment();
+        self.write(&filled, assignment);
+        Ok(Filled::Assignment { numbers: filled.len() as u16 })
     }
 
     /// A refused case is no refusal of this call: its line is the text.
@@ -260,20 +273,4 @@ fn block_lengths_fit(case: &Case, schedule: &[u16]) -> Result<(), Refusal> {
         return Err(refusal(13));
     }
     Ok(())
-}
-
-/// Whether an invisible line is run in a later block than the line before it, which
-/// "the replayer still takes".
-fn runs_late(case: &Case, schedule: &[u16]) -> bool {
-    let mut next = vec![0; case.threads];
-    let mut late = false;
-    for (block, &length) in schedule[..=case.switches].iter().enumerate() {
-        let thread = case.thread_of_block(block);
-        let length = usize::from(length);
-        // Only the first line of a block comes after one of an earlier block.
-        let first = case.chains[thread].get(next[thread]).copied().filter(|_| length > 0 && next[thread] > 0);
-        late |= first.is_some_and(|line| !case.is_visible(line));
-        next[thread] += length;
-    }
-    late
 }

@@ -1,8 +1,9 @@
 //! "The run of a schedule is what this machine does. It is fed the case and
 //! the schedule and knows nothing else."
 
-use super::case::{Case, Record, ASSERT, ASSUME, COMPUTE, INPUT, LOAD, LOCK, STORE, UNLOCK};
+use super::case::{Case, Name, Record, ASSERT, ASSUME, COMPUTE, INPUT, LOAD, LOCK, STORE, UNLOCK};
 use super::wrong::Wrong;
+use crate::calls::{Refusal, Replayed};
 
 /// What a run ends with, where it does not end well.
 #[derive(Clone, Copy)]
@@ -21,6 +22,13 @@ struct Thread {
     locals: [u16; 16],
 }
 
+/// A line that was run, its block, and what stands for it in an assignment.
+pub struct Step {
+    pub line: u16,
+    pub block: u16,
+    pub value: u16,
+}
+
 pub struct Machine<'a> {
     case: &'a Case,
     schedule: &'a [u16],
@@ -30,6 +38,10 @@ pub struct Machine<'a> {
     mutexes: Vec<u16>,
     /// The lines that violate, in running order.
     violations: Vec<u16>,
+    /// All lines that were run, in running order.
+    pub steps: Vec<Step>,
+    /// The items' values where each block ended.
+    pub block_ends: Vec<Vec<u16>>,
 }
 
 impl<'a> Machine<'a> {
@@ -43,6 +55,8 @@ impl<'a> Machine<'a> {
             globals: case.initial[..case.globals].to_vec(),
             mutexes: vec![0; case.mutexes],
             violations: Vec::new(),
+            steps: Vec::new(),
+            block_ends: Vec::new(),
         }
     }
 
@@ -57,11 +71,12 @@ impl<'a> Machine<'a> {
         }
         for block in 0..=self.case.switches {
             for _ in 0..self.schedule[block] {
-                let stop = self.step(self.case.thread_of_block(block));
+                let stop = self.step(block);
                 if stop.is_some() {
                     return stop;
                 }
             }
+            self.block_ends.push(self.items());
         }
         if self.case.wrong == Wrong::UnrunUnlockViolates {
             self.note_unlocks_left();
@@ -69,6 +84,24 @@ impl<'a> Machine<'a> {
         // "An unrun input has value 0, otherwise 14 [...], looked for after the
         // last step."
         self.first_stray(self.lines_left())
+    }
+
+    /// Whether all blocks came to their end.
+    pub fn is_done(&self) -> bool {
+        self.block_ends.len() == self.case.switches + 1
+    }
+
+    /// What replay says of a run that ended so. "After a zero assert it goes on; a
+    /// later cut-off is then the reply", and so after an unlock by a stranger.
+    pub fn answer(&self, stop: Option<Stop>) -> Result<Replayed, Refusal> {
+        let violation_decides = self.case.wrong == Wrong::ViolatedThoughCutOff;
+        match (stop, self.violation()) {
+            (Some(Stop::StrayInput(place)), _) => Err(Refusal { number: 14, place }),
+            (_, Some(line)) if violation_decides => Ok(Replayed::Violated(line)),
+            (Some(Stop::CutOff(line)), _) => Ok(Replayed::CutOff(line)),
+            (_, Some(line)) => Ok(Replayed::Violated(line)),
+            (_, None) => Ok(Replayed::Clean),
+        }
     }
 
     /// "replay names the first of either sort" in running order.
@@ -130,8 +163,9 @@ impl<'a> Machine<'a> {
     }
 
     /// "A step takes the thread's next line."
-    fn step(&mut self, thread: usize) -> Option<Stop> {
+    fn step(&mut self, block: usize) -> Option<Stop> {
         let case = self.case;
+        let thread = case.thread_of_block(block);
         let line = self.threads[thread].next_line;
         if line == 0 {
             // "no thread has more steps than lines", unless sums are mistaken
@@ -144,8 +178,25 @@ impl<'a> Machine<'a> {
             // "After any other step the record that follows becomes the next
             // line."
             self.threads[thread].next_line = record.next;
+            self.steps.push(Step { line, block: block as u16, value: self.value_after(thread, record) });
         }
         stop
+    }
+
+    /// What stands for a line that was run: what its target then has, whether its
+    /// guard was true or not; "assert and assume give 1 if the expression is not zero,
+    /// else 0", and 1 where the guard is false.
+    fn value_after(&self, thread: usize, record: &Record) -> u16 {
+        let passed = !self.guard_is_true(thread, record);
+        match (record.target_name(), self.case.wrong) {
+            (_, Wrong::PassedLine0) if passed => 0,
+            (Some(_), Wrong::PassedInputCopied) if passed && record.kind == INPUT => 0,
+            (None, Wrong::TestHasItsExpression) if !passed => self.expression(thread, record),
+            (Some(Name::Local(local)), _) => self.threads[thread].locals[usize::from(local)],
+            (Some(Name::Global(global)), _) => self.globals[usize::from(global)],
+            (Some(Name::Mutex(mutex)), _) => self.mutexes[usize::from(mutex)],
+            (None, _) => u16::from(passed || self.expression(thread, record) != 0),
+        }
     }
 
     fn guard_is_true(&self, thread: usize, record: &Record) -> bool {
@@ -220,7 +271,7 @@ impl<'a> Machine<'a> {
 
     /// The schedule has "one value for each input line, by thread and then by
     /// chain", after the n + 1 block lengths.
-    fn input_value(&self, line: u16) -> u16 {
+    pub fn input_value(&self, line: u16) -> u16 {
         let inputs = self.case.inputs();
         let place = inputs.iter().position(|&input| input == line);
         self.schedule[self.case.switches + 1 + place.expect("the line is an input")]

@@ -115,6 +115,41 @@ pub enum Wrong {
     LateRefused,
     /// The decoder counts a line that has an 8 into the block of the line before it.
     CountedWithBefore,
+    /// Filled block values come one block late.
+    BlockValuesLate,
+    /// An input that was not run is filled with its value in the schedule, and no
+    /// refusal 14 meets it.
+    UnrunInputCopied,
+    /// An input with a false guard is filled with its value in the schedule.
+    PassedInputCopied,
+    /// A line with a false guard is filled with 0.
+    PassedLine0,
+    /// A filled assert or assume has the value of its expression.
+    TestHasItsExpression,
+    /// Lines that were not run are filled with block number n.
+    UnrunInBlockN,
+    /// Lines that were not run are filled with value 0, whatever their kind.
+    UnrunFilledWith0,
+    /// A clean run is filled.
+    CleanIsFilled,
+    /// A run that is cut off is filled.
+    CutOffIsFilled,
+    /// Refusal 16 comes before the 14 of an input that was not run.
+    StrayAfterClean,
+    /// Refusal 17 comes before 16.
+    LateBeforeClean,
+    /// The place of 17 is the line before the late one.
+    LineBeforeNamed,
+    /// The place of 17 is the late line that is run first.
+    LateByRun,
+    /// The place of 17 is the late line with the lowest record number.
+    LateByRecord,
+    /// A line that was not run is late.
+    UnrunLate,
+    /// A visible line is late.
+    VisibleLate,
+    /// An assignment is written before its run is known to violate.
+    WrittenBeforeKnown,
     /// A name keeps the first line that has it as target.
     FirstLineStays,
     /// Mutexes stand where the globals begin, whatever G is.

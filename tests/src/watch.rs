@@ -4,6 +4,9 @@
 //! after the line, and a block value is what the item holds when the block
 //! ends. A line that is not run stays as it was written down beforehand. The
 //! lines that violate are written down too, and what unlocks found.
+//!
+//! The call `fill` takes fewer schedules: here also those are run that do not
+//! violate, or do not keep the rule of the 8s.
 
 use crate::draft::Draft;
 use crate::line::*;
@@ -44,14 +47,14 @@ pub struct Watched<'a> {
 }
 
 /// The assignment of a schedule that refusals 12 and 13 do not meet.
-pub fn fill(draft: &Draft, schedule: &[u16]) -> Vec<u16> {
+pub fn written_down(draft: &Draft, schedule: &[u16]) -> Vec<u16> {
     watch(draft, schedule).assignment
 }
 
 /// The run of such a schedule.
 ///
 /// A run that would be cut off is taken to its end here, as though nothing
-/// were demanded of assumes and locks. So the filled assignment meets all 1s,
+/// were demanded of assumes and locks. So the assignment meets all 1s,
 /// 2s, 3s, 4s and 6s; it fails a 5 exactly when the run is cut off, and else
 /// the 7 exactly when the run is clean. The 8s it meets exactly when the schedule
 /// keeps their rule.
