@@ -1,4 +1,4 @@
-//! The nine calls on a sample, proved and in plain Rust: that they agree, how long they take, and one of them by itself.
+//! The ten calls on a sample, proved and in plain Rust: that they agree, how long they take, and one of them by itself.
 
 use std::hint::black_box;
 
@@ -6,12 +6,12 @@ use crate::measure::{compare, Times};
 use crate::plain::{self, case::Case};
 use crate::sample::Sample;
 use crate::spelling::Spelling;
-use menduvo::{Checked, Decoded, Encoded, Listed, Refusal, Replayed, Taken, Verdict};
+use menduvo::{Checked, Decoded, Encoded, Filled, Listed, Refusal, Replayed, Taken, Verdict};
 
-pub const CALLS: usize = 9;
+pub const CALLS: usize = 10;
 /// The last is made for every line of the case.
 pub const NAMES: [&str; CALLS] =
-    ["accept", "encode", "check", "decode", "replay", "listing", "smt_length", "smt_text", "take_line"];
+    ["accept", "encode", "check", "decode", "replay", "fill", "listing", "smt_length", "smt_text", "take_line"];
 
 /// No case has a longer text.
 const MOST_SMT_BYTES: usize = 2_000_000;
@@ -22,6 +22,7 @@ pub struct Buffers {
     table: Vec<u16>,
     schedule: Vec<u16>,
     items: Vec<u16>,
+    assignment: Vec<u16>,
     text: Vec<u8>,
     smt: Vec<u8>,
     /// For each line, thread by thread, what its taking answered; and what is held for each thread.
@@ -38,6 +39,7 @@ impl Buffers {
             table: vec![0xA5A5; menduvo::MOST_TABLE_NUMBERS],
             schedule: vec![0xA5A5; menduvo::MOST_SCHEDULE_NUMBERS],
             items: vec![0xA5A5; menduvo::MOST_ITEMS],
+            assignment: vec![0xA5A5; menduvo::MOST_VARIABLES],
             text: vec![0xA5; menduvo::MOST_LISTING_BYTES],
             smt: vec![0xA5; MOST_SMT_BYTES],
             taken: vec![Taken::Refused { number: 0xA5A5, place: 0xA5A5 }; 256],
@@ -48,7 +50,7 @@ impl Buffers {
 
 /// All answers for a sample.
 type Texted = Result<usize, Refusal>;
-type Answers = (Verdict, Encoded, Checked, Decoded, Replayed, Listed, Texted, Texted);
+type Answers = (Verdict, Encoded, Checked, Decoded, Replayed, Filled, Listed, Texted, Texted);
 
 /// That both give the same answers and leave the same in the buffers, and the answers that the sample was made for.
 pub fn agree(sample: &Sample) -> Result<(), String> {
@@ -62,6 +64,7 @@ pub fn agree(sample: &Sample) -> Result<(), String> {
         menduvo::check(case, assignment),
         menduvo::decode(case, assignment, &mut b.schedule),
         menduvo::replay(case, schedule, &mut b.items),
+        menduvo::fill(case, schedule, &mut b.assignment),
         menduvo::listing(case, &mut b.text),
         menduvo::smt_length(case),
         menduvo::smt_text(case, &mut b.smt),
@@ -74,6 +77,7 @@ pub fn agree(sample: &Sample) -> Result<(), String> {
         plain::check(case, assignment),
         plain::decode(case, assignment, &mut b.schedule),
         plain::replay(case, schedule, &mut b.items),
+        plain::fill(case, schedule, &mut b.assignment),
         plain::listing(case, &mut b.text),
         plain::smt_length(case),
         plain::smt_text(case, &mut b.smt),
@@ -85,12 +89,14 @@ pub fn agree(sample: &Sample) -> Result<(), String> {
     if proved_buffers != plain_buffers {
         return failure("the library and plain Rust leave different buffers".to_string());
     }
-    if let Err(message) = texts_agree(case).and_then(|()| lines_agree(sample)) {
+    if let Err(message) = texts_agree(case).and_then(|()| schedules_agree(sample)).and_then(|()| lines_agree(sample)) {
         return failure(message);
     }
     let (_, _, checked, _, replayed, ..) = proved;
     let decoded = &proved_buffers.schedule[..schedule.len()];
-    if checked != Checked::Meets || decoded != schedule || replayed != Replayed::Violated(sample.violation) {
+    let filled = &proved_buffers.assignment[..assignment.len()];
+    let goes_round = decoded == schedule && filled == assignment;
+    if checked != Checked::Meets || !goes_round || replayed != Replayed::Violated(sample.violation) {
         return failure(format!("not the answers that it was made for: {proved:?}"));
     }
     Ok(())
@@ -109,6 +115,45 @@ pub fn texts_agree(case: &[u8]) -> Result<(), String> {
         }
         if room == text.len() && plain != text.as_bytes() {
             return Err("plain Rust's text is not the spelling named text".to_string());
+        }
+    }
+    Ok(())
+}
+
+/// That both replay and fill the schedule of a sample alike, and schedules that differ from it in one number, in two blocks of a
+/// thread, or in their length; with room for the assignment, and with one number less. Many of these are refused.
+fn schedules_agree(sample: &Sample) -> Result<(), String> {
+    let Sample { schedule, .. } = sample;
+    let blocks = sample.switches() + 1;
+    let mut changed = vec![schedule.clone(), schedule[1..].to_vec(), [&schedule[..], &[0]].concat()];
+    for (place, &number) in schedule.iter().enumerate() {
+        for value in [0, 1, number.wrapping_sub(1), number.wrapping_add(1), 65_535] {
+            changed.push(schedule.clone());
+            changed.last_mut().expect("one was pushed")[place] = value;
+        }
+    }
+    for (first, second) in (0..blocks).zip(sample.threads()..blocks) {
+        for lines in 1..=schedule[first] {
+            changed.push(schedule.clone());
+            let last = changed.last_mut().expect("one was pushed");
+            last[first] -= lines;
+            last[second] += lines;
+        }
+    }
+    changed.iter().try_for_each(|schedule| schedule_agrees(sample, schedule))
+}
+
+fn schedule_agrees(Sample { case, assignment, .. }: &Sample, schedule: &[u16]) -> Result<(), String> {
+    let (mut proved, mut plain) = ([0xA5A5; menduvo::MOST_ITEMS], [0xA5A5; menduvo::MOST_ITEMS]);
+    let answers = (menduvo::replay(case, schedule, &mut proved), plain::replay(case, schedule, &mut plain));
+    if answers.0 != answers.1 || proved != plain {
+        return Err(format!("replaying {schedule:?} the library and plain Rust differ: {answers:?}"));
+    }
+    for room in [assignment.len() - 1, assignment.len()] {
+        let (mut proved, mut plain) = (vec![0xA5A5; room], vec![0xA5A5; room]);
+        let answers = (menduvo::fill(case, schedule, &mut proved), plain::fill(case, schedule, &mut plain));
+        if answers.0 != answers.1 || proved != plain {
+            return Err(format!("filling {schedule:?} with room for {room} the library and plain Rust differ: {answers:?}"));
         }
     }
     Ok(())
@@ -160,7 +205,7 @@ fn line_agrees(line: &[u16]) -> Result<(), String> {
     Ok(())
 }
 
-/// The times of the nine calls, in the order of their names. Both write to the same buffers.
+/// The times of the ten calls, in the order of their names. Both write to the same buffers.
 pub fn times(sample: &Sample, buffers: &mut Buffers) -> [Times; CALLS] {
     let Sample { case, assignment, schedule, .. } = sample;
     [
@@ -184,6 +229,11 @@ pub fn times(sample: &Sample, buffers: &mut Buffers) -> [Times; CALLS] {
             buffers,
             |b| menduvo::replay(black_box(case), black_box(schedule), black_box(&mut b.items)),
             |b| plain::replay(black_box(case), black_box(schedule), black_box(&mut b.items)),
+        ),
+        compare(
+            buffers,
+            |b| menduvo::fill(black_box(case), black_box(schedule), black_box(&mut b.assignment)),
+            |b| plain::fill(black_box(case), black_box(schedule), black_box(&mut b.assignment)),
         ),
         compare(
             buffers,
@@ -217,6 +267,8 @@ pub fn call(name: &str, side: &str) -> Option<fn(&Sample, &mut Buffers)> {
         ("decode", "plain") => |s, b| done(plain::decode(&s.case, &s.assignment, &mut b.schedule)),
         ("replay", "proved") => |s, b| done(menduvo::replay(&s.case, &s.schedule, &mut b.items)),
         ("replay", "plain") => |s, b| done(plain::replay(&s.case, &s.schedule, &mut b.items)),
+        ("fill", "proved") => |s, b| done(menduvo::fill(&s.case, &s.schedule, &mut b.assignment)),
+        ("fill", "plain") => |s, b| done(plain::fill(&s.case, &s.schedule, &mut b.assignment)),
         ("listing", "proved") => |s, b| done(menduvo::listing(&s.case, &mut b.text)),
         ("listing", "plain") => |s, b| done(plain::listing(&s.case, &mut b.text)),
         ("smt_length", "proved") => |s, _| done(menduvo::smt_length(&s.case)),

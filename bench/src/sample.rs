@@ -103,6 +103,10 @@ impl Sample {
         usize::from(u16::from_le_bytes([self.case[2 * j], self.case[2 * j + 1]]))
     }
 
+    pub fn threads(&self) -> usize {
+        self.field(0)
+    }
+
     pub fn records(&self) -> usize {
         (self.case.len() - 32) / 16
     }

@@ -1,13 +1,14 @@
-//! The nine calls in plain Rust, for speed: what the proved library is measured against. Fixed-size arrays, ordinary checked
+//! The ten calls in plain Rust, for speed: what the proved library is measured against. Fixed-size arrays, ordinary checked
 //! indexing, no unsafe code, no heap.
 //!
-//! The calls do what document 01 asks of them, each by itself: checks 1 to 9 come first in every call on a case, and the decoder
-//! checks its assignment. Their answers have the types of the bindings, so that they can be compared.
+//! The calls do what documents 01 and 02 ask of them, each by itself: checks 1 to 9 come first in every call on a case, and the
+//! decoder checks its assignment. Their answers have the types of the bindings, so that they can be compared.
 
 pub mod case;
 mod check;
 mod decode;
 pub mod encode;
+mod fill;
 mod listing;
 pub mod record;
 mod replay;
@@ -15,7 +16,8 @@ mod smt;
 mod take;
 
 use case::{refuse_if, Case, Refusal};
-use menduvo::{Checked, Decoded, Encoded, Listed, Replayed, Taken, Verdict, NAMES};
+use fill::Filling;
+use menduvo::{Checked, Decoded, Encoded, Filled, Listed, Replayed, Taken, Verdict, NAMES};
 use replay::Stop;
 
 // A call of the library is never inlined, so none of these is.
@@ -46,6 +48,11 @@ pub fn decode(case: &[u8], assignment: &[u16], schedule: &mut [u16]) -> Decoded 
 #[inline(never)]
 pub fn replay(case: &[u8], schedule: &[u16], items: &mut [u16]) -> Replayed {
     replayed(case, schedule, items).unwrap_or_else(|Refusal { number, place }| Replayed::Refused { number, place })
+}
+
+#[inline(never)]
+pub fn fill(case: &[u8], schedule: &[u16], assignment: &mut [u16]) -> Filled {
+    filled(case, schedule, assignment).unwrap_or_else(|Refusal { number, place }| Filled::Refused { number, place })
 }
 
 #[inline(never)]
@@ -101,7 +108,7 @@ fn replayed(case: &[u8], schedule: &[u16], items: &mut [u16]) -> Result<Replayed
     refuse_if(items.len() < case.items(), 10)?;
     refuse_if(schedule.len() != case.schedule_numbers(), 12)?;
     refuse_if(!replay::lengths_fit(&case, schedule), 13)?;
-    let run = replay::run(&case, schedule);
+    let run = replay::run(&case, schedule, &mut ());
     if let Some(Stop::FalseInput(place)) = run.stop {
         return Err(Refusal { number: 14, place });
     }
@@ -111,6 +118,16 @@ fn replayed(case: &[u8], schedule: &[u16], items: &mut [u16]) -> Result<Replayed
         (_, Some(line)) => Replayed::Violated(line),
         _ => Replayed::Clean,
     })
+}
+
+fn filled(case: &[u8], schedule: &[u16], assignment: &mut [u16]) -> Result<Filled, Refusal> {
+    let case = Case::accept(case)?;
+    let numbers = case.variables();
+    refuse_if(assignment.len() < numbers, 10)?;
+    refuse_if(schedule.len() != case.schedule_numbers(), 12)?;
+    refuse_if(!replay::lengths_fit(&case, schedule), 13)?;
+    Filling::of(&case, schedule)?.write(&mut assignment[..numbers]);
+    Ok(Filled::Assignment { numbers: numbers as u16 })
 }
 
 fn listed(case: &[u8], text: &mut [u8]) -> Result<Listed, Refusal> {
