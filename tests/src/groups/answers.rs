@@ -1,13 +1,13 @@
 //! The answers of `menduvo solve` on random small cases, beside what trying
 //! every schedule finds: violated, unsat or vacuous, and which asserts and unlocks
-//! a legal run reaches with a true guard.
+//! a legal run reaches with a true guard. Each model is what its schedule is filled to.
 
 use std::collections::BTreeSet;
 use std::env;
 use std::fs;
 use std::path::{Path, PathBuf};
 
-use crate::ask::reply;
+use crate::ask::{fill, reply};
 use crate::calls::{Calls, Replayed};
 use crate::command::PROGRAM;
 use crate::draft::Draft;
@@ -109,11 +109,29 @@ fn same_answer(draft: &Draft, object: &str, tally: &mut Tally) -> Outcome {
         tally.saw("some lines reached, and some not");
     }
     tally.holds(object.contains(&format!("\"answer\":\"{word}\"")), || format!("it is {word}"))?;
+    if word == "violated" {
+        model_is_filled(draft, object, tally)?;
+    }
     for record in lines {
         let told = format!("{{\"record\":{record},\"reached\":{},", reached.contains(&record));
         tally.holds(object.contains(&told), || format!("it should say {told}"))?;
     }
     Ok(())
+}
+
+/// Demands that the model of an object, its assignment, is what its schedule is filled to.
+pub fn model_is_filled(draft: &Draft, object: &str, tally: &mut Tally) -> Outcome {
+    let model = numbers(object, "\"assignment\":[")?;
+    let filled = fill(&second::RIGHT, draft, &numbers(object, "\"schedule\":[")?)?;
+    tally.same(model, filled, || format!("the model of {object}; case {draft}"))
+}
+
+/// The numbers of the first list that begins so.
+pub fn numbers(object: &str, begin: &str) -> Result<Vec<u16>, String> {
+    let (_, rest) = object.split_once(begin).ok_or_else(|| format!("no {begin} in {object}"))?;
+    let (list, _) = rest.split_once(']').unwrap_or_default();
+    let numbers = list.split(',').filter(|number| !number.is_empty()).map(str::parse);
+    numbers.collect::<Result<_, _>>().map_err(|error| format!("{error}: {object}"))
 }
 
 /// The records of the asserts and unlocks.

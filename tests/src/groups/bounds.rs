@@ -7,7 +7,7 @@ use crate::calls::{Calls, Replayed};
 use crate::draft::Draft;
 use crate::enumerate::{block_lengths, schedules_with_all_values};
 use crate::generate::{accepted, Shape, BUSY, FOUR_THREADS, HOLDERS, SMALL, TINY_WITH_INPUTS};
-use crate::groups::answers::{lines_that_can_violate, program, write_all, Folder, Legal};
+use crate::groups::answers::{lines_that_can_violate, model_is_filled, numbers, program, write_all, Folder, Legal};
 use crate::line::{assert, compute, constant, input, load, store, CONSTANT, LESS, OR};
 use crate::program;
 use crate::random::Random;
@@ -122,6 +122,7 @@ fn each(draft: &Draft, tally: &mut Tally) -> Outcome {
             let schedule = numbers(object, "\"schedule\":[")?;
             let violations = watch(draft, &schedule).violations;
             tally.holds(violations.contains(&record), || format!("not at {record}: {object}; case {draft}"))?;
+            model_is_filled(draft, object, tally)?;
             let Replayed::Violated(first) = reply(&second::RIGHT, draft, &schedule) else {
                 return Err(format!("the run is none of the case: {object}; case {draft}"));
             };
@@ -132,14 +133,6 @@ fn each(draft: &Draft, tally: &mut Tally) -> Outcome {
         }
     }
     Ok(())
-}
-
-/// The numbers of the first list that begins so.
-fn numbers(object: &str, begin: &str) -> Result<Vec<u16>, String> {
-    let (_, rest) = object.split_once(begin).ok_or_else(|| format!("no {begin} in {object}"))?;
-    let (list, _) = rest.split_once(']').unwrap_or_default();
-    let numbers = list.split(',').filter(|number| !number.is_empty()).map(str::parse);
-    numbers.collect::<Result<_, _>>().map_err(|error| format!("{error}: {object}"))
 }
 
 /// The last block with lines, how many have lines, the lines that are run, and
@@ -165,6 +158,7 @@ fn short<All: IntoIterator<Item = Vec<u16>>>(drafts: &[Draft], all: impl Fn(&Dra
         tally.saw("violated");
         let schedule = numbers(object, "\"schedule\":[")?;
         tally.same(length(draft, &schedule), shortest.clone(), || format!("{object}; case {draft}"))?;
+        model_is_filled(draft, object, tally)?;
         let (used, blocks, lines, inputs) = (shortest[0], shortest[1], shortest[2], &shortest[3..]);
         let values = format!("{inputs:?}").replace(' ', "");
         let wanted = format!("\"short\":{{\"switches\":{used},\"blocks\":{blocks},\"lines\":{lines},\"inputs\":{values},");

@@ -243,7 +243,8 @@ fn no_record(calls: &dyn Calls, tally: &mut Tally) -> Outcome {
     Ok(())
 }
 
-/// Four threads of 63 stores and an assert that fails, in sixteen blocks of 16 lines.
+/// Four threads of 63 stores and an assert that fails, in sixteen blocks of 16 lines; or
+/// of inputs.
 fn largest_case(calls: &dyn Calls, tally: &mut Tally) -> Outcome {
     let most = Draft::new(4, 15).with_globals(&[1, 2, 3, 4, 5, 6, 7, 8]).with_mutexes(4);
     let full = |lines: [Line; 64]| (0..4).fold(most.clone(), |draft, thread| draft.with_thread(thread, &lines));
@@ -263,7 +264,16 @@ fn largest_case(calls: &dyn Calls, tally: &mut Tally) -> Outcome {
     }
     // Of invisible lines the seventeenth of thread 0 is late.
     refused(calls, &full([assert(local(0)); 64]), &[16; 16], (17, 17), tally)?;
-    refused(calls, &full([assert(constant(1)); 64]), &[16; 16], (16, 0), tally)
+    refused(calls, &full([assert(constant(1)); 64]), &[16; 16], (16, 0), tally)?;
+    // Each thread reads 63 times, in its first block: record 64t + k has the value 1,000 × t + k.
+    let mut lines = [input(3); 64];
+    lines[63] = assert(local(0));
+    let value = |line: u16| 1_000 * (line / 64) + line % 64 + 1;
+    let inputs = (0..256).filter(|line| line % 64 < 63).map(value);
+    let schedule: Vec<u16> = [64; 4].into_iter().chain([0; 12]).chain(inputs).collect();
+    let of_lines = (0..256).flat_map(|line| [line / 64, if line % 64 < 63 { value(line) } else { 0 }]);
+    let block_values = [1, 2, 3, 4, 5, 6, 7, 8, 0, 0, 0, 0].repeat(15);
+    goes_round(calls, &full(lines), &schedule, &of_lines.chain(block_values).collect::<Vec<u16>>(), tally)
 }
 
 /// Cases with few variables, and the largest value that is tried in each of them.

@@ -1,6 +1,6 @@
 //! Both sides of every limit.
 
-use crate::ask::{byte_marks, listing, marks, refused_by_all, replay};
+use crate::ask::{byte_marks, fills, listing, marks, refused_by_all, replay};
 use crate::calls::{Calls, Checked, Encoded, Listed, Refusal, Replayed, Verdict};
 use crate::draft::Draft;
 use crate::enumerate::block_lengths;
@@ -117,7 +117,7 @@ fn largest_case(calls: &dyn Calls, tally: &mut Tally) -> Outcome {
     // constraints of line 1, three of each line up to 16, and its own 3.
     for (schedule, first) in [(in_first_blocks, 1_457), (vec![16; 16], 2 + 3 * 15 + 2)] {
         let checked = calls.check(&draft.bytes(), &written_down(&draft, &schedule));
-        tally.same(checked, Checked::Fails(first), || format!("{schedule:?} filled"))?;
+        tally.same(checked, Checked::Fails(first), || format!("{schedule:?} written down"))?;
         let wanted = (Replayed::Clean, at_end.clone());
         tally.same(replay(calls, &draft, &schedule), wanted, || format!("{schedule:?}"))?;
     }
@@ -188,7 +188,8 @@ fn all_switches_used(calls: &dyn Calls, tally: &mut Tally) -> Outcome {
     tally.same(replay(calls, &draft, &schedule), wanted, || "in turn".into())?;
     let numbers = written_down(&draft, &schedule);
     let checked = calls.check(&draft.bytes(), &numbers);
-    tally.same(checked, Checked::Meets, || "the filled assignment".into())?;
+    tally.same(checked, Checked::Meets, || "the assignment".into())?;
+    fills(calls, &draft, &schedule, Ok(&numbers), tally)?;
     let mut decoded = vec![0; 16];
     calls.decode(&draft.bytes(), &numbers, &mut decoded);
     tally.same(decoded, schedule.to_vec(), || "decoded".into())

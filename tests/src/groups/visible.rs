@@ -365,11 +365,11 @@ fn schedules_of_case_a(calls: &dyn Calls, tally: &mut Tally) -> Outcome {
     tally.same(first_late(&draft, &[3, 1, 1]), Some(4), || "P4".into())?;
     tally.same(moved(&draft, &[3, 1, 1]), vec![4, 1, 0], || "P4 moved".into())?;
     tally.same(moved(&draft, &[3, 0, 1]), vec![4, 0, 0], || "moved".into())?;
-    // What P4 fills fails at the 8 of line 4, the eighth; what P5 fills at the 7.
+    // The assignment of P4 fails at the 8 of line 4, the eighth; that of P5 at the 7.
     let p4 = [0, 0, 0, 1, 0, 1, 2, 1, 1, 5, 1, 5];
     let p5 = [0, 0, 0, 1, 0, 1, 0, 1, 1, 5, 1, 5];
     for (schedule, numbers, first) in [([3, 1, 1], p4, 8), ([4, 1, 0], p5, 19)] {
-        tally.same(written_down(&draft, &schedule), numbers.to_vec(), || format!("{schedule:?} filled"))?;
+        tally.same(written_down(&draft, &schedule), numbers.to_vec(), || format!("{schedule:?} written down"))?;
         tally.same(check(calls, &draft, &numbers), Checked::Fails(first), || format!("{numbers:?}"))?;
         runs(calls, &draft, &schedule, Clean, &[5], tally)?;
     }
