@@ -1,6 +1,6 @@
 //! Makes a case along a run: each line is chosen as its turn comes, knowing the state of the run, so that the run is legal, comes to
-//! a thread's later blocks with visible lines, and its last line violates. The assignment is written down on the way, and the first line that violates. Lines that the run leaves
-//! come last.
+//! a thread's later blocks with visible lines, and its last line violates. The assignment is written down on the way, and the first
+//! line that violates. Lines that the run leaves come last.
 //!
 //! All that is random comes from a fixed seed. Records are numbered as the run meets them.
 

@@ -96,7 +96,7 @@ fn each_kind(calls: &dyn Calls, tally: &mut Tally) -> Outcome {
     // Thread 1 has block 1 alone, and holds with 2.
     let numbers = [1, 9, 1, 3, 1, 65_534, 1, 700, 1, 1, 1, 1, 1, 2, 1, 0, 1, 0, 8, 9, 0, 0, 65_534, 9, 0, 0];
     goes_round(calls, &draft, &[0, 9, 0, 700], &numbers, tally)?;
-    // It stops before the unlock, at the third line, and the input has 0.
+    // It stops before the unlock. The input has 0, so that the assert of it fails.
     let numbers = [1, 9, 1, 3, 1, 65_534, 1, 0, 1, 1, 1, 0, 1, 2, 3, 0, 3, 1, 8, 9, 0, 0, 65_534, 9, 0, 2];
     let without_demand = [&lines[..4], &[assert(constant(1)), assert(local(2)), lock(1)], &lines[7..]].concat();
     goes_round(calls, &empty().with_thread(1, &without_demand), &[0, 7, 0, 0], &numbers, tally)

@@ -39,6 +39,7 @@ impl<'a> Ran<'a> {
         self.refuse_late()
     }
 
+    /// What the replayer says of it.
     fn answer(&self) -> Result<Replayed, Refusal> {
         let is_stray_left = matches!(self.stop, Some(Stop::StrayInput(_))) && self.machine.is_done();
         match self.case.wrong {
