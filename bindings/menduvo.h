@@ -34,9 +34,9 @@ extern "C" {
 #define MENDUVO_VERSION_PATCH 0
 
 /*
- * The most that any accepted case needs. A table, a schedule, items and a listing of these sizes are never refused with 10,
- * whatever the case; no accepted case is longer, and no assignment that is taken has more numbers. This is proved of the definitions
- * (crates/laws/specs/Sizes.antt, crates/delivered/specs/Delivered.antt; the limits are in crates/model/specs/Limits.antt).
+ * The most that any accepted case needs. A table, an assignment, a schedule, items and a listing of these sizes are never refused
+ * with 10, whatever the case; no accepted case is longer, and no assignment that is taken has more numbers. This is proved of the
+ * definitions (crates/laws/specs/Sizes.antt, crates/delivered/specs/Delivered.antt; the limits are in crates/model/specs/Limits.antt).
  */
 #define MENDUVO_MOST_CASE_BYTES 4128u       /* 32 bytes, and 16 for each of 256 records */
 #define MENDUVO_MOST_TABLE_NUMBERS 8742u    /* six for each of 1,457 constraints */
@@ -55,7 +55,7 @@ extern "C" {
  * Where `refusal` is 0 the call was not refused: `place` is 0, `answer` says which answer it is, counted from 1, and `first`
  * and `second` are the values that it carries, as the calls below say; a value that is not named there is 0.
  *
- * Where `refusal` is 1 to 15 the call was refused: `place` is where, and the other three are 0. No other refusal is given. The
+ * Where `refusal` is 1 to 17 the call was refused: `place` is where, and the other three are 0. No other refusal is given. The
  * place is 0 where MENDUVO_REFUSALS names none; records are counted from 1.
  */
 typedef struct {
@@ -105,7 +105,10 @@ typedef struct {
     X(12, "the schedule does not have exactly n + 1 numbers and one for each input line")                      \
     X(13, "the block lengths of some thread add up to more than its lines")                                    \
     X(14, "an input line with a false guard, or not run, has a value other than 0 (the place is that record)") \
-    X(15, "the assignment fails (the place is the first failed constraint, from 1)")
+    X(15, "the assignment fails (the place is the first failed constraint, from 1)")                           \
+    X(16, "the run of the schedule does not violate (it is clean, or cut off)")                                \
+    X(17, "the schedule runs an invisible line in a later block than the line before it"                       \
+          " (the place is the first such record, by thread and chain)")
 
 /* What a refusal's number means, as text that ends in 0. It needs no library. Of a number that is none it says so. */
 static inline const char *menduvo_refusal_text(uint16_t refusal) {
@@ -113,7 +116,7 @@ static inline const char *menduvo_refusal_text(uint16_t refusal) {
 #define MENDUVO_TEXT_OF_ONE(number, text) case number: return text;
         MENDUVO_REFUSALS(MENDUVO_TEXT_OF_ONE)
 #undef MENDUVO_TEXT_OF_ONE
-    default: return "not a refusal of document 01";
+    default: return "no refusal has this number";
     }
 }
 
@@ -142,8 +145,9 @@ MenduvoNumbers menduvo_check(const uint8_t *case_, size_t case_len, const uint16
 /*
  * Writes the schedule that the assignment stands for: n + 1 block lengths, then a value for each input line, by thread and
  * then by chain. A line with block number n + 1 was not run, and counts in no block. The assignment must meet every constraint.
- * Such assignments and the violating schedules that keep the rule stand for each other, one for one. A schedule keeps the rule when
- * no invisible line (compute, input, assert, assume) is run in a later block than the line before it in its thread.
+ * Such assignments and the violating schedules that keep the rule stand for each other, one for one: menduvo_fill is the way back. A
+ * schedule keeps the rule when no invisible line (compute, input, assert, assume) is run in a later block than the line before it in
+ * its thread.
  *   1  the schedule is written; first: how many numbers it has
  * Refusals 1 to 11 and 15.
  */
@@ -163,6 +167,18 @@ MenduvoNumbers menduvo_decode(const uint8_t *case_, size_t case_len, const uint1
  */
 MenduvoNumbers menduvo_replay(const uint8_t *case_, size_t case_len, const uint16_t *schedule, size_t schedule_len,
                               uint16_t *items, size_t items_len);
+
+/*
+ * Writes the assignment that stands for the schedule: 2R + n x (G + M) numbers, of each record its block number and its value, and
+ * then the items' values at the end of each block but the last. A line that is not run has block number n + 1, and value 1 where it is
+ * an assert or an assume, else 0. The schedule must violate, and keep the rule of menduvo_decode. Decoding what is written gives the
+ * schedule back, and filling what menduvo_decode wrote gives the assignment back.
+ *   1  the assignment is written; first: how many numbers it has
+ * Refusals 1 to 10, 12 to 14, where menduvo_replay gives them too, then 16 and 17. A schedule that violates and breaks the rule meets
+ * 17: with each such line in the block of the line before it, it is one that violates too and is taken.
+ */
+MenduvoNumbers menduvo_fill(const uint8_t *case_, size_t case_len, const uint16_t *schedule, size_t schedule_len,
+                            uint16_t *assignment, size_t assignment_len);
 
 /*
  * Writes the listing of the case to `text`, in ASCII, each line ended by a line feed: the counts of constraints and of variables,

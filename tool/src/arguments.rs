@@ -30,6 +30,7 @@ pub enum Call {
     Check { case: Source, assignment: Source, json: bool },
     Decode { case: Source, assignment: Source },
     Replay { case: Source, schedule: Source, values: bool, json: bool },
+    Fill { case: Source, schedule: Source, json: bool },
     Step(Stepping),
     Solve(Wanted),
     Picture { case: Source, schedule: Source, file: OsString, force: bool },
@@ -137,6 +138,7 @@ fn call(parts: &mut Parts) -> Result<Call, Failure> {
             values: parts.has("--values"),
             json: parts.has("--json"),
         },
+        "fill" => Call::Fill { case: parts.case()?, schedule: parts.next("SCHEDULE")?, json: parts.has("--json") },
         "step" => Call::Step(stepping(parts)?),
         "solve" => Call::Solve(wanted(parts)?),
         "picture" => Call::Picture {

@@ -10,7 +10,7 @@ use crate::numbers::{self, Given, Model};
 use crate::source::Draft;
 use crate::table::{self, Table};
 use crate::token::pointed;
-use menduvo::{Checked, Decoded, Encoded, Listed, Refusal, Replayed};
+use menduvo::{Checked, Decoded, Encoded, Filled, Listed, Refusal, Replayed};
 use std::ffi::OsString;
 
 /// An accepted case and its table.
@@ -34,6 +34,25 @@ pub enum Ending {
     Violated(Fault),
     Clean,
     CutOff(u16),
+}
+
+impl Ending {
+    /// What the run comes to, in a word.
+    pub fn word(self) -> &'static str {
+        match self {
+            Ending::Violated(_) => "violated",
+            Ending::Clean => "clean",
+            Ending::CutOff(_) => "cut off",
+        }
+    }
+
+    /// The record that it is about.
+    pub fn record(self) -> Option<u16> {
+        match self {
+            Ending::Violated(Fault { record, .. }) | Ending::CutOff(record) => Some(record),
+            Ending::Clean => None,
+        }
+    }
 }
 
 /// The listing of a case, refused or not.
@@ -163,6 +182,15 @@ impl Loaded {
             }
         };
         Ok((ending, items))
+    }
+
+    /// The assignment that stands for the schedule, or why there is none.
+    pub fn fill(&self, schedule: &[u16]) -> Result<Vec<u16>, Refusal> {
+        let mut room = [0; menduvo::MOST_VARIABLES];
+        match menduvo::fill(&self.case.bytes, schedule, &mut room) {
+            Filled::Assignment { numbers } => Ok(room[..usize::from(numbers)].to_vec()),
+            Filled::Refused { number, place } => Err(Refusal { number, place }),
+        }
     }
 
     fn refused_assignment(&self, name: &str, assignment: &[u16], refusal: Refusal) -> Failure {

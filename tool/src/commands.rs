@@ -11,8 +11,8 @@ use crate::run::Run;
 use crate::solve::About;
 use crate::words::{all, numbers_in_lines};
 use crate::{
-    completion, demands, demo, each, file, help, keep, least, make, manual, report, run, said::Said, several, show, smt, step,
-    told, verified,
+    completion, demands, demo, each, file, fill, help, keep, least, make, manual, report, run, said::Said, several, show, smt,
+    step, told, verified,
 };
 use std::ffi::OsStr;
 use std::path::Path;
@@ -32,6 +32,7 @@ pub fn perform(call: Call, output: &mut Output) -> Result<Status, Failure> {
         Call::Check { case, assignment, json } => check(&case, &assignment, json).tell(output),
         Call::Decode { case, assignment } => decode(&case, &assignment, output),
         Call::Replay { case, schedule, values, json } => replay(&case, &schedule, values, json).tell(output),
+        Call::Fill { case, schedule, json } => fill::fill(&case, &schedule, json).tell(output),
         Call::Step(stepping) => step::step(&stepping, output),
         Call::Solve(wanted) => match wanted.cases.as_slice() {
             [case] if wanted.about == About::Each => each::one(case, &wanted, output),

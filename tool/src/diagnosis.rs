@@ -151,11 +151,15 @@ fn broken_rules(case: &Case, record: &Record) -> Vec<String> {
 /// Details of refusal 11.
 pub fn of_assignment(case: &Case, numbers: usize) -> Vec<String> {
     let (records, switches, items) = (case.records.len(), case.switches, case.items());
-    vec![format!(
+    let mut details = vec![format!(
         "it has {}; 2 x {records} + {switches} x {items} is {}",
         count(numbers, "number", "numbers"),
         case.variables()
-    )]
+    )];
+    if numbers == switches + 1 + case.inputs().len() {
+        details.push("a schedule has so many; 'menduvo fill' makes an assignment of one that violates".to_string());
+    }
+    details
 }
 
 /// Details of refusals 12 to 14.

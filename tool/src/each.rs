@@ -12,7 +12,7 @@ use crate::said::Said;
 use crate::several;
 use crate::solve::{Asking, Solved, Wanted};
 use crate::summary::{answer, load, Summary};
-use crate::words::{count, enumeration, numbers_in_lines};
+use crate::words::{count, enumeration, numbers_in_a_line};
 
 /// `solve CASE --each`.
 pub fn one(source: &Source, wanted: &Wanted, output: &mut Output) -> Result<Status, Failure> {
@@ -80,7 +80,7 @@ fn answered(whole: &Loaded, source: &Source, record: u16, wanted: &Wanted, askin
 /// A schedule that violates there, whose the mutex of an unlock was, and where its run violates before, if it does.
 fn example(loaded: &Loaded, solved: &Solved) -> Option<String> {
     let found = solved.verdict.found()?;
-    let schedule = numbers_in_lines(&found.schedule).trim_end().replace('\n', " ");
+    let schedule = numbers_in_a_line(&found.schedule);
     let first = match found.run.ending {
         Ending::Violated(first) if first.record != found.fault.record => Some(first.record),
         _ => None,

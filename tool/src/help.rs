@@ -114,7 +114,7 @@ pub const PAGES: &[Page] = &[
         more: "The numbers are n + 1 block lengths, and then a value for each input line. A line with block number n + 1 was\n\
                not run, and counts in no block. By constraint 8 a line that touches no shared item (no load, store, lock or\n\
                unlock) is in the block of the line before it: assignments that meet the constraints stand for the violating\n\
-               schedules that keep this rule, one for one.\n\
+               schedules that keep this rule, one for one. 'menduvo fill' is the way back.\n\
                Exit status 1 where the assignment fails (refusal 15).\n",
     },
     Page {
@@ -135,6 +135,21 @@ pub const PAGES: &[Page] = &[
                stands for the schedule (constraint 8); of one that violates it is told which schedule does the same and has one.\n\
                A solver's model in the place of the schedule is decoded first.\n\
                Exit status 1 where the run violates; 0 where it is clean or cut off.\n",
+    },
+    Page {
+        name: "fill",
+        usage: "fill CASE SCHEDULE",
+        summary: "print the assignment that a schedule decodes from, as numbers",
+        options: &[SWITCHES, JSON],
+        more: "For a schedule that was found by thought: its assignment is checked, decoded and filed as a solver's is. The numbers\n\
+               are of each record its block number and its value, and then the items' values at the end of each block but the\n\
+               last. 'menduvo decode' of them gives the schedule back.\n\
+               The schedule must violate (else refusal 16: it is told what its run comes to), and keep the rule of constraint 8:\n\
+               no line that touches no shared item is in a later block than the line before it. Where it breaks the rule\n\
+               (refusal 17) the message names the line, and a schedule that keeps the rule and violates too, with the same\n\
+               inputs; the library has filled that one before it is named.\n\
+               A solver's model in the place of the schedule is decoded first.\n\
+               Exit status 0 where the assignment is printed; 2 where the schedule is refused, and then no number is.\n",
     },
     Page {
         name: "step",

@@ -20,6 +20,7 @@ mod failure;
 mod fault;
 mod file;
 mod filed;
+mod fill;
 mod folder;
 mod folds;
 mod guard;

@@ -10,6 +10,11 @@ use crate::summary::Summary;
 
 /// An input that was refused, or something else that failed.
 pub fn failed(command: &str, case: &str, input: &str, failure: &Failure) -> Json {
+    failed_with(command, case, input, failure, Vec::new())
+}
+
+/// The same, with more fields.
+pub fn failed_with(command: &str, case: &str, input: &str, failure: &Failure, own: Vec<(&'static str, Json)>) -> Json {
     let mut fields: Vec<(&'static str, Json)> =
         vec![("command", command.into()), ("case", case.into()), ("status", failure.status().into())];
     if let Failure::ByLibrary(..) | Failure::Refused(_) = failure {
@@ -24,6 +29,7 @@ pub fn failed(command: &str, case: &str, input: &str, failure: &Failure) -> Json
     } else {
         fields.push(("answer", "failed".into()));
     }
+    fields.extend(own);
     fields.push(("message", list(failure.message().unwrap_or_default().lines())));
     Json::Object(fields)
 }

@@ -1,4 +1,4 @@
-//! The objects of `check`, `replay`, `list` and `show` with `--json`; `docs/output.schema.json` describes them.
+//! The objects of `check`, `replay`, `fill`, `list` and `show` with `--json`; `docs/output.schema.json` describes them.
 
 use crate::calls::{Ending, Loaded};
 use crate::case::Case;
@@ -46,25 +46,26 @@ pub fn fails(loaded: &Loaded, assignment: &str, constraint: u16, words: &[String
 /// A run; with `values` each of its steps has all items after the line.
 pub fn replayed(loaded: &Loaded, schedule: &[u16], run: &Run, values: bool) -> Json {
     let case = &loaded.case;
-    let (answer, record) = match run.ending {
-        Ending::Violated(first) => ("violated", Some(first.record)),
-        Ending::Clean => ("clean", None),
-        Ending::CutOff(record) => ("cut off", Some(record)),
-    };
     let fault = match run.ending {
         Ending::Violated(first) => Some(first.object(case)),
         Ending::Clean | Ending::CutOff(_) => None,
     };
     let own = vec![
         ("schedule", list(schedule.iter().copied())),
-        ("record", record.into()),
+        ("record", run.ending.record().into()),
         ("fault", fault.into()),
         ("items", items(case, &run.items)),
         ("notRun", list(run.not_run(case).concat())),
-        ("late", list(rule::late(case, schedule))),
+        ("late", list(rule::late_records(case, schedule))),
         ("steps", list(run.steps.iter().map(|step| self::step(case, step, values)))),
     ];
-    object("replay", loaded, run.status(), answer, own)
+    object("replay", loaded, run.status(), run.ending.word(), own)
+}
+
+/// A schedule, and the assignment that stands for it.
+pub fn filled(loaded: &Loaded, schedule: &[u16], assignment: &[u16]) -> Json {
+    let own = vec![("schedule", list(schedule.iter().copied())), ("assignment", list(assignment.iter().copied()))];
+    object("fill", loaded, Status::Done, "filled", own)
 }
 
 fn step(case: &Case, step: &Step, values: bool) -> Json {

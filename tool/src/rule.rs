@@ -13,12 +13,25 @@ fn blocks(case: &Case, schedule: &[u16]) -> Vec<Vec<usize>> {
     blocks
 }
 
-/// The records of the invisible lines that are in a later block than the line before them, by thread and then by chain.
-pub fn late(case: &Case, schedule: &[u16]) -> Vec<u16> {
+/// An invisible line that is in a later block than the line before it.
+pub struct Late {
+    pub record: u16,
+    pub block: usize,
+    /// The block of the line before it.
+    pub before: usize,
+}
+
+/// All of these, by thread and then by chain.
+pub fn late(case: &Case, schedule: &[u16]) -> Vec<Late> {
     let threads = blocks(case, schedule);
     let pairs = threads.iter().zip(&case.chains).flat_map(|(blocks, chain)| blocks.windows(2).zip(chain.iter().skip(1)));
-    let late = pairs.filter(|(pair, &record)| pair[0] < pair[1] && !case.record(record).is_visible());
-    late.map(|(_, &record)| record).collect()
+    let lines = pairs.map(|(pair, &record)| Late { record, block: pair[1], before: pair[0] });
+    lines.filter(|line| line.before < line.block && !case.record(line.record).is_visible()).collect()
+}
+
+/// Their records.
+pub fn late_records(case: &Case, schedule: &[u16]) -> Vec<u16> {
+    late(case, schedule).iter().map(|line| line.record).collect()
 }
 
 /// The schedule with each invisible line that is not its thread's first in the block of the line before it, and with the same inputs.

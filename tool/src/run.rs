@@ -3,11 +3,10 @@
 use crate::calls::{Ending, Loaded};
 use crate::case::Case;
 use crate::failure::{Failure, Status};
-use crate::fault::Fault;
 use crate::rule;
 use crate::values;
 use crate::walk::{first_fault, walk, Event, Step, Walk};
-use crate::words::{count, enumeration, items_in_words, numbers_in_lines, record_in_words};
+use crate::words::{count, enumeration, items_in_words, numbers_in_a_line, record_in_words};
 
 /// A run: what the library says of it, and the lines for display.
 pub struct Run {
@@ -69,16 +68,16 @@ impl Run {
     /// What is to be said of a violating schedule that breaks the rule of constraint 8: no assignment stands for it, but one stands
     /// for another.
     fn late_in_words(&self, case: &Case, schedule: &[u16]) -> Option<String> {
-        let late = rule::late(case, schedule);
+        let late = rule::late_records(case, schedule);
         let lines = match (self.ending, late.as_slice()) {
             (Ending::Violated(_), [one]) => format!("record {one} touches no shared item, and is"),
             (Ending::Violated(_), [_, ..]) => format!("records {} touch no shared item, and are each", enumeration(&late)),
             _ => return None,
         };
-        let moved = numbers_in_lines(&rule::moved(case, schedule)).trim_end().replace('\n', " ");
+        let moved = numbers_in_a_line(&rule::moved(case, schedule));
         Some(format!(
             "no assignment stands for this schedule: {lines} in a later block than the line before it\n\
-             for this one, which violates too, one does: {moved}"
+             for this one, which violates too, one does, and 'menduvo fill' prints it: {moved}"
         ))
     }
 
@@ -134,10 +133,7 @@ impl Run {
 
     /// What the run of this schedule comes to, in lines.
     pub fn conclusion(&self, case: &Case, schedule: &[u16]) -> String {
-        let place = match self.ending {
-            Ending::Violated(Fault { record, .. }) | Ending::CutOff(record) => case.names.line_of(record),
-            Ending::Clean => None,
-        };
+        let place = self.ending.record().and_then(|record| case.names.line_of(record));
         let place = place.map(|line| format!("that is line {line} of the source"));
         let lines = self.not_run_in_words(case).into_iter().chain([verdict(case, self.ending)]);
         let lines = lines.chain(place).chain(self.fault_in_vain()).chain(self.late_in_words(case, schedule));

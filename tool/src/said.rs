@@ -19,8 +19,20 @@ impl Said {
 
     /// A failure at this input: its message is told besides, and an object only where objects are wanted.
     pub fn failed(command: &str, case: &Source, input: &Source, failure: Failure, json: bool) -> Said {
+        Said::failed_with(command, case, input, failure, json, Vec::new())
+    }
+
+    /// The same, with more fields of the object.
+    pub fn failed_with(
+        command: &str,
+        case: &Source,
+        input: &Source,
+        failure: Failure,
+        json: bool,
+        own: Vec<(&'static str, Json)>,
+    ) -> Said {
         let text = match json {
-            true => format!("{}\n", objects::failed(command, &case.name(), &input.name(), &failure)),
+            true => format!("{}\n", objects::failed_with(command, &case.name(), &input.name(), &failure, own)),
             false => String::new(),
         };
         Said { text, ended: Err(failure) }

@@ -8,7 +8,7 @@ use crate::output::Output;
 use crate::reach::{has_no_block, plainly_nothing_in_words, Reach, Reached};
 use crate::solve::{Found, Solved, Verdict, Wanted};
 use crate::summary::Summary;
-use crate::words::{all, count, enumeration, numbers_in_lines, record_in_words, these};
+use crate::words::{all, count, enumeration, numbers_in_a_line, numbers_in_lines, record_in_words, these};
 use std::ffi::OsStr;
 
 /// `solve CASE`.
@@ -156,7 +156,7 @@ pub fn reached(loaded: &Loaded, reach: &Reach) -> String {
     let mut text = format!("{}:\n", reach.sort.many());
     for (record, reached) in &reach.lines {
         let words = match reached {
-            Reached::Yes(schedule) => format!("reached, e.g. schedule {}", numbers_in_lines(schedule).replace('\n', " ")),
+            Reached::Yes(schedule) => format!("reached, e.g. schedule {}", numbers_in_a_line(schedule)),
             Reached::Never if has_no_block(&loaded.case, *record) => {
                 format!("NEVER REACHED: its thread has no block within n = {n}, and nothing was checked of it")
             }

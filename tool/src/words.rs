@@ -213,6 +213,11 @@ pub fn items_in_words(case: &Case, values: &[u16]) -> String {
     }
 }
 
+/// Numbers in a text: decimal, with a space between them, on one line.
+pub fn numbers_in_a_line(numbers: &[u16]) -> String {
+    numbers.iter().map(u16::to_string).collect::<Vec<_>>().join(" ")
+}
+
 /// Numbers as they are filed: decimal, with a space between them, in lines of at most 100 characters.
 pub fn numbers_in_lines(numbers: &[u16]) -> String {
     let mut lines = String::new();

@@ -43,6 +43,13 @@ pub enum Replayed {
     Refused { number: u16, place: u16 },
 }
 
+/// The assignment that stands for the schedule was written, so many numbers of it, or the schedule was refused.
+#[derive(Clone, Copy, Debug, PartialEq, Eq)]
+pub enum Filled {
+    Assignment { numbers: u16 },
+    Refused { number: u16, place: u16 },
+}
+
 /// The listing was written, so many bytes of it, or did not fit.
 #[derive(Clone, Copy, Debug, PartialEq, Eq)]
 pub enum Listed {
@@ -107,6 +114,15 @@ impl Display for Replayed {
             Replayed::Clean => to.write_str("clean: the run is legal and does not violate"),
             Replayed::CutOff(record) => write!(to, "cut off: the assume or lock of record {record} failed"),
             Replayed::Refused { number, place } => Refusal { number, place }.fmt(to),
+        }
+    }
+}
+
+impl Display for Filled {
+    fn fmt(&self, to: &mut Formatter) -> fmt::Result {
+        match *self {
+            Filled::Assignment { numbers } => write!(to, "an assignment of {}", count(numbers, "number", "numbers")),
+            Filled::Refused { number, place } => Refusal { number, place }.fmt(to),
         }
     }
 }

@@ -1,7 +1,7 @@
-//! The nine calls: safe functions on slices.
+//! The ten calls: safe functions on slices.
 
 use crate::library::{self, read, read_copies, read_text, Numbers};
-use crate::{Checked, Decoded, Encoded, Listed, Refusal, Replayed, Taken, Verdict, NAMES};
+use crate::{Checked, Decoded, Encoded, Filled, Listed, Refusal, Replayed, Taken, Verdict, NAMES};
 
 /// Whether the other calls take this case. Refusals 1 to 9.
 pub fn accept(case: &[u8]) -> Verdict {
@@ -42,8 +42,9 @@ pub fn check(case: &[u8], assignment: &[u16]) -> Checked {
 
 /// Writes the schedule that the assignment stands for: n + 1 block lengths, then a value for each input line, by thread and
 /// then by chain. A line with block number n + 1 was not run, and counts in no block. Assignments that meet the constraints and the
-/// violating schedules that keep the rule stand for each other, one for one. A schedule keeps the rule when no invisible line
-/// (compute, input, assert, assume) is run in a later block than the line before it in its thread. Refusals 1 to 11 and 15.
+/// violating schedules that keep the rule stand for each other, one for one: [`fill`] is the way back. A schedule keeps the rule when
+/// no invisible line (compute, input, assert, assume) is run in a later block than the line before it in its thread. Refusals 1 to 11
+/// and 15.
 pub fn decode(case: &[u8], assignment: &[u16], schedule: &mut [u16]) -> Decoded {
     read(
         library::decode(case, assignment, schedule),
@@ -67,6 +68,23 @@ pub fn replay(case: &[u8], schedule: &[u16], items: &mut [u16]) -> Replayed {
             Numbers { answer: 1, first: 1.., second: 0, .. } => Some(Replayed::Violated(numbers.first)),
             Numbers { answer: 2, first: 0, second: 0, .. } => Some(Replayed::Clean),
             Numbers { answer: 3, first: 1.., second: 0, .. } => Some(Replayed::CutOff(numbers.first)),
+            _ => None,
+        },
+    )
+}
+
+/// Writes the assignment that stands for the schedule: of each record its block number and its value, and then the items' values at
+/// the end of each block but the last. A line that is not run has block number n + 1, and value 1 where it is an assert or an assume,
+/// else 0. The schedule must violate, and keep the rule of [`decode`]. Decoding what is written gives the schedule back, and filling
+/// what [`decode`] wrote gives the assignment back. Refusals 1 to 10, 12 to 14, where [`replay`] gives them too, then 16 and 17. A
+/// schedule that violates and breaks the rule meets 17: with each such line in the block of the line before it, it is one that
+/// violates too and is taken.
+pub fn fill(case: &[u8], schedule: &[u16], assignment: &mut [u16]) -> Filled {
+    read(
+        library::fill(case, schedule, assignment),
+        |number, place| Filled::Refused { number, place },
+        |numbers| match numbers {
+            Numbers { answer: 1, first, second: 0, .. } => Some(Filled::Assignment { numbers: first }),
             _ => None,
         },
     )

@@ -4,9 +4,9 @@
 //! `Answers`, `Listing`, and of `take_line` `Taking`, with the walk itself in `Copies`) and `crates/script/specs` (`Text`); the
 //! library is proved to give just that. This package passes the slices and reads the numbers back into answers, which is not
 //! proved. It is the one place in this repository with unsafe code, and all of that stands in the private module `library`: the
-//! declaration of the nine functions of C, which nothing checks against their source, and the nine calls. The proof asks three
-//! rules of a caller: pointers are valid for their lengths, aligned, and a slice that is written overlaps no other. Rust's slices
-//! keep them.
+//! declaration of the ten functions of C, which nothing checks against their source, and the ten calls. The proof asks three rules
+//! of a caller: pointers are valid for their lengths, aligned, and a slice that is written overlaps no other. Rust's slices keep
+//! them.
 //!
 //! A slice that is written is written from its start, and numbers beyond the result keep their values. A refused call alters
 //! nothing. [`Refusal`] has what each refusal means, and what its place is.
@@ -25,16 +25,16 @@ mod calls;
 mod library;
 mod refusal;
 
-pub use answers::{Checked, Decoded, Encoded, Listed, Replayed, Taken, Verdict};
+pub use answers::{Checked, Decoded, Encoded, Filled, Listed, Replayed, Taken, Verdict};
 #[cfg(feature = "link")]
-pub use calls::{accept, check, decode, encode, listing, replay, smt_length, smt_text, take_line};
+pub use calls::{accept, check, decode, encode, fill, listing, replay, smt_length, smt_text, take_line};
 pub use refusal::Refusal;
 
 /// The most bytes that an accepted case has.
 pub const MOST_CASE_BYTES: usize = 4_128;
 /// The most numbers that a table has, six for each constraint: a slice of so many is never refused with 10.
 pub const MOST_TABLE_NUMBERS: usize = 8_742;
-/// The most numbers that an assignment of an accepted case has.
+/// The most numbers that an assignment of an accepted case has: a slice of so many is never refused with 10.
 pub const MOST_VARIABLES: usize = 692;
 /// The most numbers that a schedule has: a slice of so many is never refused with 10.
 pub const MOST_SCHEDULE_NUMBERS: usize = 272;

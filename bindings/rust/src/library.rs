@@ -55,6 +55,14 @@ unsafe extern "C" {
         items: *mut u16,
         items_len: usize,
     ) -> Numbers;
+    fn menduvo_fill(
+        case: *const u8,
+        case_len: usize,
+        schedule: *const u16,
+        schedule_len: usize,
+        assignment: *mut u16,
+        assignment_len: usize,
+    ) -> Numbers;
     fn menduvo_listing(case: *const u8, case_len: usize, text: *mut u8, text_len: usize) -> Numbers;
     fn menduvo_smt_length(case: *const u8, case_len: usize) -> TextNumbers;
     fn menduvo_smt_text(case: *const u8, case_len: usize, text: *mut u8, text_len: usize) -> TextNumbers;
@@ -88,6 +96,12 @@ pub fn replay(case: &[u8], schedule: &[u16], items: &mut [u16]) -> Numbers {
     unsafe { menduvo_replay(case.as_ptr(), case.len(), schedule.as_ptr(), schedule.len(), items.as_mut_ptr(), items.len()) }
 }
 
+pub fn fill(case: &[u8], schedule: &[u16], assignment: &mut [u16]) -> Numbers {
+    unsafe {
+        menduvo_fill(case.as_ptr(), case.len(), schedule.as_ptr(), schedule.len(), assignment.as_mut_ptr(), assignment.len())
+    }
+}
+
 pub fn listing(case: &[u8], text: &mut [u8]) -> Numbers {
     unsafe { menduvo_listing(case.as_ptr(), case.len(), text.as_mut_ptr(), text.len()) }
 }
@@ -112,7 +126,7 @@ pub fn read<Answer>(
 ) -> Answer {
     let answer = match numbers {
         Numbers { refusal: 0, place: 0, .. } => answered(numbers),
-        Numbers { refusal: 1..=15, answer: 0, first: 0, second: 0, .. } => Some(refused(numbers.refusal, numbers.place)),
+        Numbers { refusal: 1..=17, answer: 0, first: 0, second: 0, .. } => Some(refused(numbers.refusal, numbers.place)),
         _ => None,
     };
     answer.unwrap_or_else(|| stand_for_none(&numbers))

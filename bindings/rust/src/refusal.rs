@@ -1,10 +1,10 @@
-//! The refusals of document 01, in words. `bindings/menduvo.h` has the same words for C.
+//! The refusals in words. `bindings/menduvo.h` has the same words for C.
 
 use std::error::Error;
 use std::fmt::{self, Display, Formatter};
 
 /// Why a call was refused, as the variant `Refused` of an answer has it, or the `Err` of the calls on a case's text: the number, 1
-/// to 15, and the place, which is 0 but for 9 and 14 (a record) and 15 (a constraint), each counted from 1.
+/// to 17, and the place, which is 0 but for 9, 14 and 17 (a record) and 15 (a constraint), each counted from 1.
 #[derive(Clone, Copy, Debug, PartialEq, Eq)]
 pub struct Refusal {
     pub number: u16,
@@ -30,7 +30,12 @@ impl Refusal {
             13 => "the block lengths of some thread add up to more than its lines",
             14 => "an input line with a false guard, or not run, has a value other than 0 (the place is that record)",
             15 => "the assignment fails (the place is the first failed constraint, from 1)",
-            _ => "not a refusal of document 01",
+            16 => "the run of the schedule does not violate (it is clean, or cut off)",
+            17 => {
+                "the schedule runs an invisible line in a later block than the line before it (the place is the first such record, \
+                 by thread and chain)"
+            }
+            _ => "no refusal has this number",
         }
     }
 }

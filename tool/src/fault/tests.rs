@@ -4,10 +4,11 @@ use super::Fault;
 use crate::calls::{Ending, Loaded};
 use crate::case::Kind;
 use crate::input::Source;
-use crate::rule::{late, moved};
+use crate::rule::{late_records, moved};
 use crate::run;
 use crate::source::Draft;
 use crate::walk::{first_fault, walk, Event};
+use menduvo::Refusal;
 use std::collections::BTreeMap;
 use std::ffi::OsStr;
 
@@ -119,7 +120,8 @@ fn what_lines_find() {
 }
 
 /// A schedule with its invisible lines in the block of the line before keeps the rule, and does the same: where it is legal it
-/// violates at the same lines, and leaves the same items.
+/// violates at the same lines, and leaves the same items. So where the one violates the library fills the other, and refuses the one
+/// at the line that this display finds late first.
 #[test]
 fn moved_schedules() {
     let mut dice = Dice(13);
@@ -128,8 +130,8 @@ fn moved_schedules() {
         let loaded = loaded(&mut dice);
         let (case, schedule) = (&loaded.case, schedule(&mut dice, &loaded));
         let moved = moved(case, &schedule);
-        assert_eq!(late(case, &moved), [], "case {number}");
-        assert_eq!(late(case, &schedule).is_empty(), moved == schedule, "case {number}");
+        assert_eq!(late_records(case, &moved), [], "case {number}");
+        assert_eq!(late_records(case, &schedule).is_empty(), moved == schedule, "case {number}");
         let (ending, items) = loaded.replay("a schedule", &schedule).expect("it is taken");
         let (moved_ending, moved_items) = loaded.replay("a moved schedule", &moved).expect("it is taken");
         let faults = |schedule: &[u16]| {
@@ -146,6 +148,15 @@ fn moved_schedules() {
         assert!(same, "case {number}: {ending:?}, {moved_ending:?}");
         assert!(matches!(ending, Ending::CutOff(_)) || items == moved_items, "case {number}");
         *seen.entry(if moved == schedule { "kept" } else { what }).or_default() += 1;
+        let violates = matches!(ending, Ending::Violated(_));
+        let refusal = match late_records(case, &schedule).first() {
+            _ if !violates => Some(Refusal { number: 16, place: 0 }),
+            Some(&place) => Some(Refusal { number: 17, place }),
+            None => None,
+        };
+        assert_eq!(loaded.fill(&schedule).err(), refusal, "case {number}");
+        let decoded = loaded.fill(&moved).map(|assignment| loaded.decode("what is filled", &assignment).expect("it meets"));
+        assert_eq!(decoded.ok(), violates.then_some(moved), "case {number}");
     }
     assert!(
         ["kept", "violated", "clean", "cut off"].iter().all(|what| seen.get(what).is_some_and(|&times| times >= 30)),
