@@ -50,9 +50,9 @@ run env MENDUVO_LIB_DIR="$scratch/empty" cargo build --offline --locked --quiet 
     --target-dir target/types
 result 'types of Rust link where there is no library, and nothing is missed' test "$status, $out" = '0, '
 run target/types/debug/menduvo-types
-result 'every answer in words' cmp -s tests/bindings/types.expected <(sed 1,17d <<<"$out")
-result "the refusals' texts are the same in C and in Rust" cmp -s <(sed 1,2d "$scratch/texts.c.out") <(head -n 17 <<<"$out")
-result 'each refusal has a text, and 0 and 16 have none' test "$(sort -k 2 -u "$scratch/texts.c.out" | grep -c '^[0-9]* ')" = 16
+result 'every answer in words' cmp -s tests/bindings/types.expected <(sed 1,19d <<<"$out")
+result "the refusals' texts are the same in C and in Rust" cmp -s <(sed 1,2d "$scratch/texts.c.out") <(head -n 19 <<<"$out")
+result 'each refusal has a text, and 0 and 18 have none' test "$(sort -k 2 -u "$scratch/texts.c.out" | grep -c '^[0-9]* ')" = 18
 
 # One version, in the header and in what is built.
 version=$(sed -n 1p "$scratch/texts.c.out")
@@ -95,8 +95,21 @@ lies stays 'display of a constraint disagrees with the proved library' check cas
 lies row 'display of a constraint disagrees with the proved library' check cases/case-a.case cases/case-a.assignment
 lies answer 'numbers that stand for no answer' replay cases/case-a.case cases/case-a.schedule
 lies 'fails 0' 'numbers that stand for no answer' check cases/case-a.case cases/case-a.assignment
-lies 'refusal 16' 'numbers that stand for no answer' decode cases/case-a.case cases/case-a.assignment
+lies 'refusal 18' 'numbers that stand for no answer' decode cases/case-a.case cases/case-a.assignment
 lies listing 'numbers that stand for no answer' list cases/case-a.case
+for lie in 'fill answer' 'fill second' 'fill refused, with numbers'; do
+    lies "$lie" 'numbers that stand for no answer' fill cases/case-a.case cases/case-a.schedule
+done
+# A schedule that is not filled: its run violates all the same, another line is late first, or none is, or the one that keeps the rule
+# is not filled either. Then no schedule is named.
+lies 'fill violates' 'its run does not violate, and replays it: violated: record 4' fill cases/case-a.case cases/case-a.schedule
+lies 'fill place' 'the display: there is none' fill cases/case-a.case cases/case-a.schedule
+echo 1 3 1 0 1 >"$scratch/late.schedule"
+lies 'fill place' 'the display: the first is record 3' fill cases/handshake.case "$scratch/late.schedule"
+lies 'fill moved' 'refuses what keeps the rule' fill cases/handshake.case "$scratch/late.schedule"
+result 'no other schedule is named' eval '[[ $out != *"1 3 2 0 0"* ]]'
+run env LIE='fill late' "$lying" fill cases/handshake.case "$scratch/late.schedule"
+result 'what is filled is named' eval '[ "$status" = 2 ] && [[ $out = *"the same inputs: 1 3 2 0 0"* ]]'
 for lie in 'text refused' 'text place' 'text refused, with bytes' 'text longer'; do
     lies "$lie" 'numbers that stand for no answer' smt cases/case-a.case
 done

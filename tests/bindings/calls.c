@@ -1,9 +1,11 @@
 /* Every call of bindings/menduvo.h from C: a case on standard input, an assignment as arguments. Prints the numbers of each answer
- * and what was written; then refusals 1 and 10 to 12, with what the slices still hold. The lines of the case are taken thread by
- * thread, front to back, with what is held after each thread; then a lock and refusals 4, 6 and 9. */
+ * and what was written; then refusals 1 and 10 to 12, with what the slices still hold. Schedules of another case are filled: one that
+ * violates, and each refusal in its order, with what the slice holds. The lines of the first case are taken thread by thread, front to
+ * back, with what is held after each thread; then a lock and refusals 4, 6 and 9. */
 #include "menduvo.h"
 #include <stdio.h>
 #include <stdlib.h>
+#include <string.h>
 
 static void tell(const char *call, MenduvoNumbers n) {
     printf("%s: %u %u %u %u %u\n", call, n.refusal, n.place, n.answer, n.first, n.second);
@@ -20,6 +22,38 @@ static void tell_copies(const char *call, MenduvoCopies n) {
 static void tell_slice(const uint16_t *numbers, size_t count) {
     for (size_t i = 0; i < count; i++) printf(" %u", numbers[i]);
     printf("\n");
+}
+
+/* Fills one schedule into so many numbers of a slice that has 7s, and tells all of the slice. */
+static void fill_one(const char *what, const uint8_t *bytes, size_t length, const uint16_t *schedule, size_t count, size_t room) {
+    uint16_t slice[12] = {7, 7, 7, 7, 7, 7, 7, 7, 7, 7, 7, 7};
+    tell(what, menduvo_fill(bytes, length, schedule, count, slice, room));
+    tell_slice(slice, 12);
+}
+
+/* T 2, n 2, G 1, M 0. Thread 0: L0 = input, assume L0, assert L0 < 5; thread 1: G0 = 9. An assignment has 2 x 4 + 2 x 1 numbers. */
+static void fill_others(void) {
+    const uint16_t fields[16 + 4 * 8] = {2, 2, 1, 0, 1, 4, 0, 0, 6, 0, 0, 0, 0, 0, 0, 0, /* */
+                                         2, 4, 0, 0, 0, 0, 0, 0, 3, 6, 0, 0, 0, 0, 0, 0, /* */
+                                         0, 5, 0, 0, 6, 0, 16, 5, 0, 2, 0, 0, 0, 16, 0, 9};
+    const uint16_t violates[4] = {3, 1, 0, 6}, stops[4] = {3, 0, 0, 6}, clean[4] = {3, 1, 0, 4}, cut_off[4] = {3, 1, 0, 0};
+    const uint16_t late[4] = {2, 1, 1, 6}, later[4] = {1, 1, 2, 6}, clean_and_late[4] = {2, 1, 1, 4}, not_run[4] = {0, 1, 0, 6};
+    const uint16_t too_many[4] = {4, 1, 0, 6};
+    uint8_t bytes[sizeof fields];
+    for (size_t i = 0; i < sizeof fields; i++) bytes[i] = (uint8_t)(fields[i / 2] >> 8 * (i % 2));
+    fill_one("fill, a schedule that violates", bytes, sizeof bytes, violates, 4, 12);
+    fill_one("fill, with no number to spare", bytes, sizeof bytes, violates, 4, 10);
+    fill_one("fill, one that stops", bytes, sizeof bytes, stops, 4, 12);
+    fill_one("fill, a byte less of the case, and no room", bytes, sizeof bytes - 1, too_many, 3, 9);
+    fill_one("fill, one number less of room, and of a schedule with too many lines", bytes, sizeof bytes, too_many, 3, 9);
+    fill_one("fill, one number less of such a schedule", bytes, sizeof bytes, too_many, 3, 12);
+    fill_one("fill, too many lines", bytes, sizeof bytes, too_many, 4, 12);
+    fill_one("fill, an input that is not run", bytes, sizeof bytes, not_run, 4, 12);
+    fill_one("fill, clean", bytes, sizeof bytes, clean, 4, 12);
+    fill_one("fill, cut off", bytes, sizeof bytes, cut_off, 4, 12);
+    fill_one("fill, clean and late", bytes, sizeof bytes, clean_and_late, 4, 12);
+    fill_one("fill, an assert that is late", bytes, sizeof bytes, late, 4, 12);
+    fill_one("fill, an assume that is late", bytes, sizeof bytes, later, 4, 12);
 }
 
 /* The 16 bits at a place of the case, low byte first. */
@@ -56,7 +90,7 @@ static void take_others(void) {
 
 int main(int argc, char **argv) {
     static uint8_t bytes[MENDUVO_MOST_CASE_BYTES + 1], text[MENDUVO_MOST_LISTING_BYTES];
-    static uint16_t table[MENDUVO_MOST_TABLE_NUMBERS], assignment[MENDUVO_MOST_VARIABLES];
+    static uint16_t table[MENDUVO_MOST_TABLE_NUMBERS], assignment[MENDUVO_MOST_VARIABLES], filled[MENDUVO_MOST_VARIABLES];
     uint16_t schedule[MENDUVO_MOST_SCHEDULE_NUMBERS] = {0}, items[MENDUVO_MOST_ITEMS] = {0}, kept[2] = {7, 8};
     size_t length = fread(bytes, 1, sizeof bytes, stdin), count = 0, schedule_length;
     for (; count + 1 < (size_t)argc && count < MENDUVO_MOST_VARIABLES; count++) assignment[count] = (uint16_t)atoi(argv[count + 1]);
@@ -72,6 +106,8 @@ int main(int argc, char **argv) {
     tell_slice(schedule, schedule_length);
     tell("replay", menduvo_replay(bytes, length, schedule, schedule_length, items, MENDUVO_MOST_ITEMS));
     tell_slice(items, 2);
+    tell("fill", menduvo_fill(bytes, length, schedule, schedule_length, filled, MENDUVO_MOST_VARIABLES));
+    printf("the assignment again: %s\n", memcmp(filled, assignment, count * sizeof *filled) == 0 ? "yes" : "no");
     MenduvoNumbers listed = menduvo_listing(bytes, length, text, MENDUVO_MOST_LISTING_BYTES);
     tell("listing", listed);
     fwrite(text, 1, listed.first, stdout);
@@ -86,6 +122,8 @@ int main(int argc, char **argv) {
     tell("decode, short", menduvo_decode(bytes, length, assignment, count, kept, 2));
     tell("check, one number less", menduvo_check(bytes, length, assignment, count - 1));
     tell("replay, one number less", menduvo_replay(bytes, length, schedule, schedule_length - 1, kept, 2));
+    tell("fill, one number less", menduvo_fill(bytes, length, schedule, schedule_length - 1, filled, count));
+    tell("fill, short", menduvo_fill(bytes, length, schedule, schedule_length, kept, 2));
     tell("listing, short", menduvo_listing(bytes, length, text, 1));
     tell_text("smt_text, short", menduvo_smt_text(bytes, length, (uint8_t *)kept, 4));
     tell_text("smt_text, one byte less", menduvo_smt_text(bytes, length, text, measured.bytes - 1));
@@ -94,6 +132,7 @@ int main(int argc, char **argv) {
     tell_text("smt_text, a byte less of the case", menduvo_smt_text(bytes, length - 1, (uint8_t *)kept, 4));
     tell_slice(kept, 2);
 
+    fill_others();
     take_lines(bytes);
     take_others();
     return 0;

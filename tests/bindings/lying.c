@@ -36,8 +36,22 @@ MenduvoNumbers menduvo_check(const uint8_t *case_, size_t case_len, const uint16
 MenduvoNumbers menduvo_decode(const uint8_t *case_, size_t case_len, const uint16_t *assignment, size_t assignment_len,
                               uint16_t *schedule, size_t schedule_len) {
     (void)case_, (void)case_len, (void)assignment, (void)assignment_len, (void)schedule, (void)schedule_len;
-    MenduvoNumbers refused = {lie_is("refusal 16") ? 16 : 15, lie_is("fails") ? 1 : 0, 0, 0, 0};
+    MenduvoNumbers refused = {lie_is("refusal 18") ? 18 : 15, lie_is("fails") ? 1 : 0, 0, 0, 0};
     return refused;
+}
+
+/* That a run which violates does not; that record 3 is late, of every schedule or of one whose block 2 has one line; that record 2
+ * is; and numbers beside a refusal or an answer, or an answer that there is not. */
+MenduvoNumbers menduvo_fill(const uint8_t *case_, size_t case_len, const uint16_t *schedule, size_t schedule_len,
+                            uint16_t *assignment, size_t assignment_len) {
+    (void)case_, (void)case_len, (void)schedule_len, (void)assignment, (void)assignment_len;
+    MenduvoNumbers refused = {0, 0, 0, 0, 0};
+    if (lie_is("fill violates")) refused.refusal = 16;
+    if (lie_is("fill late") && schedule[2] == 1) refused.refusal = 17, refused.place = 3;
+    if (lie_is("fill moved")) refused.refusal = 17, refused.place = 3;
+    if (lie_is("fill place")) refused.refusal = 17, refused.place = 2;
+    if (lie_is("fill refused, with numbers")) refused.refusal = 16, refused.first = 1;
+    return refused.refusal != 0 ? refused : answer(lie_is("fill answer") ? 2 : 1, 1, lie_is("fill second") ? 1 : 0);
 }
 
 MenduvoNumbers menduvo_listing(const uint8_t *case_, size_t case_len, uint8_t *text, size_t text_len) {

@@ -1,11 +1,11 @@
 //! What the Rust package has without a library: the refusals' texts, a line each; and then every answer in words.
 #![forbid(unsafe_code)]
 
-use menduvo::{Checked, Decoded, Encoded, Listed, Refusal, Replayed, Taken, Verdict};
+use menduvo::{Checked, Decoded, Encoded, Filled, Listed, Refusal, Replayed, Taken, Verdict};
 use std::error::Error;
 
 fn main() {
-    for number in 0..=16 {
+    for number in 0..=18 {
         println!("{number} {}", Refusal { number, place: 0 }.meaning());
     }
     println!("{}", Verdict::Accepted);
@@ -22,6 +22,10 @@ fn main() {
     println!("{}", Replayed::Clean);
     println!("{}", Replayed::CutOff(7));
     println!("{}", Replayed::Refused { number: 14, place: 5 });
+    println!("{}", Filled::Assignment { numbers: 12 });
+    println!("{}", Filled::Assignment { numbers: 1 });
+    println!("{}", Filled::Refused { number: 16, place: 0 });
+    println!("{}", Filled::Refused { number: 17, place: 4 });
     println!("{}", Listed::Text { bytes: 220 });
     println!("{}", Listed::Refused { number: 10, place: 0 });
     println!("{}", Taken::Copies { guard: 0, a: 3, b: 0, target: 256 });
