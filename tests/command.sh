@@ -10,7 +10,7 @@ calling() {
     same help 0 "$menduvo" help
     same help-solve 0 "$menduvo" solve --help
     local command
-    for command in demo list smt show check decode replay step solve picture file verify help; do
+    for command in demo list smt show check decode replay fill step solve picture file verify help; do
         says "help $command" 0 "usage: menduvo $command" "$menduvo" help "$command"
         says "$command --help" 0 "usage: menduvo $command" "$menduvo" "$command" --help
     done
@@ -273,7 +273,7 @@ TEXTS
     says 'noise for numbers' 2 'not text' "$menduvo" check cases/case-a.case "$scratch/noise"
 }
 
-# Refusals 1 to 15 but 10, which this command's slices never meet: number, place, meaning, and what helps to mend it.
+# Refusals 1 to 15 but 10, which this command's slices never meet (tests/command_fill.sh has 16 and 17): number, place, meaning, and what helps to mend it.
 refusals() {
     head -c 100 cases/case-a.case >"$scratch/damaged.case" && same refusal-1 2 "$menduvo" show "$scratch/damaged.case"
     : >"$scratch/damaged.case" && same refusal-1-empty 2 "$menduvo" list "$scratch/damaged.case"

@@ -139,7 +139,7 @@ pub const PAGES: &[Page] = &[
     Page {
         name: "fill",
         usage: "fill CASE SCHEDULE",
-        summary: "print the assignment that a schedule decodes from, as numbers",
+        summary: "print the assignment that decodes to a schedule, as numbers",
         options: &[SWITCHES, JSON],
         more: "For a schedule that was found by thought: its assignment is checked, decoded and filed as a solver's is. The numbers\n\
                are of each record its block number and its value, and then the items' values at the end of each block but the\n\
