@@ -1,12 +1,12 @@
 //! Menduvo's proved calls, for Rust: safe functions on slices over the static library `libmenduvo.a`.
 //!
 //! What each call answers, and what it leaves in each slice that it is lent, is defined in `crates/model/specs` (`Accept`,
-//! `Answers`, `Listing`, and of `take_line` `Taking`, with the walk itself in `Copies`) and `crates/script/specs` (`Text`); the
-//! library is proved to give just that. This package passes the slices and reads the numbers back into answers, which is not
-//! proved. It is the one place in this repository with unsafe code, and all of that stands in the private module `library`: the
-//! declaration of the ten functions of C, which nothing checks against their source, and the ten calls. The proof asks three rules
-//! of a caller: pointers are valid for their lengths, aligned, and a slice that is written overlaps no other. Rust's slices keep
-//! them.
+//! `Answers`, with what is filled in `Fill`, `Listing`, and of `take_line` `Taking`, with the walk itself in `Copies`) and
+//! `crates/script/specs` (`Text`); the library is proved to give just that. This package passes the slices and reads the numbers
+//! back into answers, which is not proved. It is the one place in this repository with unsafe code, and all of that stands in the
+//! private module `library`: the declaration of the ten functions of C, which nothing checks against their source, and the ten
+//! calls. The proof asks three rules of a caller: pointers are valid for their lengths, aligned, and a slice that is written overlaps
+//! no other. Rust's slices keep them.
 //!
 //! A slice that is written is written from its start, and numbers beyond the result keep their values. A refused call alters
 //! nothing. [`Refusal`] has what each refusal means, and what its place is.
