@@ -140,6 +140,16 @@ replays() {
     tells 'replay of a model that fails'
 }
 
+# tests/command_fill.sh has what they say; here they are among those that are damaged.
+fills() {
+    object 'fill, filled' 0 filled fill cases/case-a.case cases/case-a.schedule
+    echo 1 1 3 >"$scratch/clean"
+    object 'fill, clean' 2 refused fill cases/case-a.case "$scratch/clean"
+    object 'fill, cut off' 2 refused fill cases/lock-order.case cases/lock-order.schedule
+    object 'fill, late' 2 refused fill cases/handshake.case "$scratch/late" --switches 6
+    object 'fill of a model that fails' 1 refused fill cases/case-a.case "$scratch/wrong.model"
+}
+
 listings() {
     local name
     for name in cases/*.case; do
@@ -191,7 +201,7 @@ failures() {
         object "$command, a case on standard input that is refused" 2 refused "$command" -
         is "$command, a case on standard input" 'standard input' case
     done
-    for command in check replay; do
+    for command in check replay fill; do
         object "$command, a refused case" 2 refused "$command" "$scratch/damaged.case" cases/case-a.assignment
         is "$command, a refused case" "$scratch/damaged.case" input
         object "$command, no case" 3 failed "$command" "$scratch/none.case" cases/case-a.assignment
@@ -264,7 +274,7 @@ several() {
         result "$command, standard output is closed" eval '[ "$status" = 3 ] && [[ $out = *"standard output is closed"* ]]'
     done
     for command in 'check cases/case-a.case cases/case-a.assignment' 'replay cases/case-a.case cases/case-a.schedule' \
-        'check cases/case-a.case none' 'solve cases/case-a.case' 'solve cases'; do
+        'fill cases/case-a.case cases/case-a.schedule' 'check cases/case-a.case none' 'solve cases/case-a.case' 'solve cases'; do
         run bash -c "'$menduvo' $command --json >/dev/full"
         result "$command, standard output is full" eval '[ "$status" = 3 ] && [[ $out = *"standard output: "* ]]'
     done
@@ -404,7 +414,7 @@ forms() {
     sort -u "$scratch/all" | awk '{
         form = match($0, /"answer":"[a-z ]*"/) ? substr($0, RSTART, RLENGTH) : ""
         form = substr($0, 1, index($0, ",")) form ($0 ~ /"status":1/)
-        form = form ($0 ~ /"summary"/) ($0 ~ /"refusal":null/) ($0 ~ /"message"/) ($0 ~ /"kind":"unlock"/)
+        form = form ($0 ~ /"late"/) ($0 ~ /"run":"clean"/) ($0 ~ /"run":"cut off"/) ($0 ~ /"summary"/) ($0 ~ /"refusal":null/) ($0 ~ /"message"/) ($0 ~ /"kind":"unlock"/)
         if (!(form in seen)) print
         seen[form] = 1
     }'
@@ -461,7 +471,7 @@ damaged_objects() {
 damages() {
     forms >"$scratch/forms"
     out=$(cut -c 1-120 "$scratch/forms")
-    result 'every form was printed' test "$(wc -l <"$scratch/forms")" = 36
+    result 'every form was printed' test "$(wc -l <"$scratch/forms")" = 44
     damaged_objects <"$scratch/forms" >"$scratch/damages"
     out=$("$json" refuse "$schema" <"$scratch/damages" 2>&1)
     [[ $out != line*valid ]] || out+=": $(sed -n "$(tr -dc 0-9 <<<"$out")p" "$scratch/damages")"
@@ -545,6 +555,7 @@ result 'the command is built' test "$status" = 0
 [ "$failed" = 0 ] || { finish; exit; }
 checks
 replays
+fills
 listings
 failures
 names
