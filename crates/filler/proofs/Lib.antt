@@ -1,2 +1,4 @@
 pub mod Unrun
 pub mod Lateness
+pub mod LastState
+pub mod Calls

@@ -2,17 +2,19 @@
 -- Assumes nothing.
 use mathlib.Core.Path.{_≡_, refl, sym, ap, _∙_}
 use mathlib.Core.Logic.{_≢_}
-use Prim.Native.Nat.{ℕ, suc, _+_, _≤_}
+use Prim.Native.Nat.{ℕ, suc, _+_, _-_, _≤_, _<_}
 use mathlib.Core.List.{List}
 use native.Mathlib.Omega.{arith}
 use lib.ListN.{set, length, length-set}
-use Rattle.model.specs.CaseFile.{Line, records, switchCount, nextRecord, recordField, kindOf, caseOf}
+use Rattle.model.specs.CaseFile.{Line, records, threadCount, switchCount, nextRecord, recordField, kindOf, caseOf}
 use Rattle.model.specs.Line.{unrunValue}
 use Rattle.model.specs.Assignment.{blockPlace, valuePlace}
-use Rattle.model.specs.Fill.{putRecord, putUnrun}
+use Rattle.model.specs.Fill.{putRecord, putUnrun, putAllUnrun}
 use Rattle.laws.specs.Accepted.{linesFrom}
 use Rattle.laws.proofs.Following.{lines-end, lines-more, next-low}
-use Rattle.filler.specs.Ready.{ChainReady}
+use Rattle.run.specs.declared.Thread.{Thread}
+use Rattle.run.specs.RunState.{threadAt, listFrom, restAt, restsOf}
+use Rattle.filler.specs.Ready.{ChainReady, ThreadsReady}
 
 pub length-put-record : (k block value : ℕ) (xs : List ℕ) → length (putRecord k block value xs) ≡ length xs
 length-put-record k block value xs = length-set (set xs (blockPlace k) block) (valuePlace k) value ∙ length-set xs (blockPlace k) block
@@ -45,3 +47,33 @@ module _ {bytes : List ℕ} {k : ℕ} (ready : ChainReady bytes k) (xs₀ : List
           does = λ t. ap (putUnrun (caseOf bytes) (linesFrom bytes t (nextRecord bytes at))) put
               ∙ sym (ap (λ (ls : List Line). putUnrun (caseOf bytes) ls xs) (lines-more bytes (ready .accepted) t at some (v .low))) ∙ v .does t;
         })
+
+-- At thread t.
+pub record LeavingAll (bytes : List ℕ) (threads : List Thread) (xs₀ : List ℕ) (t : ℕ) (xs : List ℕ) : Type 0 where
+  pub size : length xs ≡ length xs₀
+  pub does : putAllUnrun (caseOf bytes) (listFrom (restAt bytes threads) t (threadCount bytes - t)) xs ≡ putAllUnrun (caseOf bytes) (restsOf bytes threads) xs₀
+
+module _ {bytes : List ℕ} {threads : List Thread} (ready : ThreadsReady bytes threads) (xs₀ : List ℕ) where
+  pub all-start : LeavingAll bytes threads xs₀ 0 xs₀
+  all-start =
+      let all : threadCount bytes - 0 ≡ threadCount bytes = omega arith in
+      record { size = refl; does = ap (λ (x : ℕ). putAllUnrun (caseOf bytes) (listFrom (restAt bytes threads) 0 x) xs₀) all }
+
+  module _ {t : ℕ} {xs : List ℕ} (v : LeavingAll bytes threads xs₀ t xs) where
+    pub all-end : threadCount bytes ≤ t → xs ≡ putAllUnrun (caseOf bytes) (restsOf bytes threads) xs₀
+    unfolding listFrom
+    all-end over =
+        let none : threadCount bytes - t ≡ 0 = omega arith in
+        sym (ap (λ (x : ℕ). putAllUnrun (caseOf bytes) (listFrom (restAt bytes threads) t x) xs) none) ∙ v .does
+
+    pub all-more : t < threadCount bytes → {xs' : List ℕ} → length xs' ≡ length xs
+        → ((u : ℕ) → xs' ≡ putUnrun (caseOf bytes) (linesFrom bytes u (threadAt threads t .next)) xs) → LeavingAll bytes threads xs₀ (t + 1) xs'
+    unfolding listFrom
+    all-more more {xs'} same-size put =
+        let less : threadCount bytes - t ≡ suc (threadCount bytes - suc t) = omega arith in
+        let next : t + 1 ≡ suc t = omega arith in
+        record {
+          size = same-size ∙ v .size;
+          does = rw next (ap (putAllUnrun (caseOf bytes) (listFrom (restAt bytes threads) (suc t) (threadCount bytes - suc t))) (put t)
+              ∙ sym (ap (λ (x : ℕ). putAllUnrun (caseOf bytes) (listFrom (restAt bytes threads) t x) xs) less) ∙ v .does);
+        }

@@ -1,11 +1,33 @@
 -- What the filler's parts ask for.
 -- Assumes nothing.
-use Prim.Native.Nat.{ℕ, _≤_}
+use mathlib.Core.Path.{_≡_}
+use Prim.Native.Nat.{ℕ, _≤_, _<_}
 use mathlib.Core.List.{List}
-use Rattle.model.specs.CaseFile.{records}
+use lib.ListN.{length, replicate}
+use Rattle.model.specs.CaseFile.{records, threadCount, caseOf}
+use Rattle.model.specs.Assignment.{variables}
 use Rattle.laws.specs.Accepted.{Accepted}
+use Rattle.run.specs.declared.Thread.{Thread}
+use Rattle.run.specs.RunState.{threadAt}
+use Rattle.schedule_check.specs.Refusals.{Looked}
 
 -- An accepted case, and a record of it, or the end of a chain where k is 0.
 pub record ChainReady (bytes : List ℕ) (k : ℕ) : Type 0 where
   pub accepted : Accepted bytes
   pub within : k ≤ records bytes
+
+-- The same of every thread.
+pub record ThreadsReady (bytes : List ℕ) (threads : List Thread) : Type 0 where
+  pub accepted : Accepted bytes
+  pub within : (t : ℕ) → t < threadCount bytes → threadAt threads t .next ≤ records bytes
+
+-- A schedule of an accepted case that neither 12 nor 13 meets, with its input values, and a 0 for each variable.
+pub record RunReady (bytes schedule givens numbers : List ℕ) : Type 0 where
+  pub accepted : Accepted bytes
+  pub looked : Looked bytes schedule 0 givens
+  pub zeros : numbers ≡ replicate (variables (caseOf bytes)) 0
+
+-- The same, and a slice with room for the variables.
+pub record SliceReady (bytes schedule givens numbers slice : List ℕ) : Type 0 where
+  pub ready : RunReady bytes schedule givens numbers
+  pub room : variables (caseOf bytes) ≤ length slice

@@ -1,12 +1,19 @@
 // The filler: the assignment of a schedule whose run violates.
 ghost use mathlib.Core.Path.{_≡_};
 ghost use Prim.Native.Nat.{ℕ};
+ghost use lib.ListN.{length};
 ghost use Rattle.model.specs.CaseFile.{caseOf};
-ghost use Rattle.model.specs.Fill.{putUnrun, lateIn, firstLate};
+ghost use Rattle.model.specs.Accept.{verdict};
+ghost use Rattle.model.specs.Fill.{putUnrun, putAllUnrun, lateIn, firstLate};
+ghost use Rattle.model.specs.Answers.{filled, filledInto};
+ghost use Rattle.model.specs.declared.Verdict.the-variants as verdicts;
 ghost use Rattle.laws.specs.Accepted.{Accepted, linesFrom};
 ghost use Rattle.assignment.specs.Numbers.{recordBlock};
+ghost use Rattle.run.specs.RunState.{restsOf};
 ghost use Rattle.filler.specs.Lateness.{isLate};
-ghost use Rattle.filler.specs.Ready.{ChainReady};
+ghost use Rattle.filler.specs.Promises.{refusedRun, RunFilled, Over, Answered};
+ghost use Rattle.filler.specs.Ready.{ChainReady, ThreadsReady, RunReady, SliceReady};
+use accept::accept;
 use assignment::block_of;
 use assignment::was_run;
 use case_file::first_of;
@@ -14,9 +21,134 @@ use case_file::kind_of;
 use case_file::next_of;
 use case_file::switches;
 use case_file::threads;
+use case_file::variables;
 use line::unrun_value;
 use line::visible;
+use model::Filled;
+use model::RECORD_PLACES;
+use model::Replayed;
+use model::THREADS;
+use model::VARIABLES;
+use model::Verdict;
+use numbers::write_over;
+use run::Thread;
+use run::run_case;
+use schedule_check::refusal_of;
 use turn::put_record;
+
+// The assignment of a schedule: refusals 1 to 9, then 10, 12, 13, 14, 16 and 17; else its numbers, from the slice's start.
+pub fn fill(case: &[u8], schedule: &[u16], assignment: &mut [u16]) -> Filled
+    ensures { λ r. ⌜ r ≡ filled (now (case .entry)) (now (schedule .entry)) (length (now (assignment .entry))) ⌝ }
+    ensures { λ r. ⌜ now (assignment .exit) ≡ filledInto (now (case .entry)) (now (schedule .entry)) (now (assignment .entry)) ⌝ }
+{
+    match accept(case) {
+        Verdict::Refused { number, place } => Filled::Refused { number, place },
+        Verdict::Accepted => fill_accepted(case, schedule, assignment),
+    }
+}
+
+// The assignment of a schedule of an accepted case: refusals 10, 12 and 13 before the run.
+fn fill_accepted(case: &[u8], schedule: &[u16], assignment: &mut [u16]) -> Filled
+    requires { ⌜ verdict (now case) ≡ verdicts.Accepted ⌝ }
+    ensures { λ r. ⌜ Answered (now (case .entry)) (now (schedule .entry)) (now (assignment .entry)) (now (assignment .exit)) r ⌝ }
+{
+    let size = variables(case);
+    if assignment.len() < size {
+        return Filled::Refused {
+            number: 10,
+            place: 0,
+        };
+    }
+    let mut given = [0u16; RECORD_PLACES];
+    let refusal = refusal_of(case, schedule, &mut given);
+    if refusal != 0 {
+        return Filled::Refused {
+            number: refusal,
+            place: 0,
+        };
+    }
+    let mut numbers = [0u16; VARIABLES];
+    fill_over(case, schedule, &given, &mut numbers[..size], assignment)
+}
+
+// The run fills the numbers, and they go to the start of the slice where nothing refuses it.
+fn fill_over(
+    case: &[u8],
+    schedule: &[u16],
+    given: &[u16],
+    numbers: &mut [u16],
+    assignment: &mut [u16],
+) -> Filled
+    requires { ⌜ SliceReady (now case) (now schedule) (now given) (now numbers) (now assignment) ⌝ }
+    ensures { λ r. ⌜ Over (now (case .entry)) (now (schedule .entry)) (now (assignment .entry)) r (now (assignment .exit)) ⌝ }
+{
+    let answer = fill_run(case, schedule, given, numbers);
+    let Filled::Assignment { numbers: _ } = answer else {
+        return answer;
+    };
+    write_over(numbers, assignment);
+    answer
+}
+
+// The run of a schedule fills the numbers, which are 0 before it: each line that it runs and each block in the run, and then the lines that
+// it leaves. Refusal 14 is the run's own; a run that does not violate is refused with 16, and then a late line with 17.
+fn fill_run(case: &[u8], schedule: &[u16], given: &[u16], numbers: &mut [u16]) -> Filled
+    requires { ⌜ RunReady (now case) (now schedule) (now given) (now numbers) ⌝ }
+    ensures { λ r. ⌜ RunFilled (now (case .entry)) (now (schedule .entry)) r (now (numbers .exit)) ⌝ }
+{
+    let size = variables(case) as u16;
+    let blocks = switches(case) as usize + 1;
+    let lengths = &schedule[..blocks];
+    let e = run_case(case, lengths, given, numbers);
+    let reply = e.reply;
+    let left = e.threads;
+    let Replayed::Violated(_) = reply else {
+        return refused_run(reply);
+    };
+    put_left(case, left, numbers);
+    let late = first_late(case, numbers);
+    if late != 0 {
+        return Filled::Refused {
+            number: 17,
+            place: late,
+        };
+    }
+    Filled::Assignment { numbers: size }
+}
+
+// The refusal of a run that does not violate.
+fn refused_run(reply: Replayed) -> Filled
+    ensures { λ r. ⌜ r ≡ refusedRun reply ⌝ }
+{
+    match reply {
+        Replayed::Refused { number, place } => Filled::Refused { number, place },
+        Replayed::Violated(_) => Filled::Refused {
+            number: 16,
+            place: 0,
+        },
+        Replayed::Clean => Filled::Refused {
+            number: 16,
+            place: 0,
+        },
+        Replayed::CutOff(_) => Filled::Refused {
+            number: 16,
+            place: 0,
+        },
+    }
+}
+
+// The lines that the threads have left were not run.
+fn put_left(case: &[u8], left: [Thread; THREADS], numbers: &mut [u16])
+    requires { ⌜ ThreadsReady (now case) left ⌝ }
+    ensures { λ r. ⌜ now (numbers .exit) ≡ putAllUnrun (caseOf (now (case .entry))) (restsOf (now (case .entry)) left) (now (numbers .entry)) ⌝ }
+{
+    let count = threads(case) as usize;
+    let mut t = 0;
+    while t < count {
+        put_unrun(case, left[t].next, numbers);
+        t += 1;
+    }
+}
 
 // The lines from record k on were not run: each has block number n + 1, and the value of such a line.
 fn put_unrun(case: &[u8], k: usize, numbers: &mut [u16])

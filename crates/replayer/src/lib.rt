@@ -28,7 +28,8 @@ fn replay_blocks(case: &[u8], lengths: &[u16], given: &[u16], items: &mut [u16])
     ensures { λ r. ⌜ Ran (now (case .entry)) (now (lengths .entry)) (now (given .entry)) (now (items .entry)) r (now (items .exit)) ⌝ }
 {
     let count = case_file::items(case);
-    let e = run::run_case(case, lengths, given);
+    let mut untraced = [0u16; 0];
+    let e = run::run_case(case, lengths, given, &mut untraced);
     let reply = e.reply;
     let values = e.items;
     match reply {
