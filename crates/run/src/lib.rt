@@ -199,9 +199,9 @@ fn put_values(values: [u16; ITEMS], count: usize, start: usize, trace: &mut [u16
 }
 
 // The items where block i ends go to its places; the last block has none.
-fn put_items(case: &[u8], i: usize, values: [u16; ITEMS], trace: &mut [u16])
+fn put_items(case: &[u8], i: usize, shared: Shared, trace: &mut [u16])
     requires { ⌜ Accepted (now case) ⌝ }
-    ensures { λ r. ⌜ now (trace .exit) ≡ putItems (caseOf (now (case .entry))) i (itemsOf (now (case .entry)) values) (now (trace .entry)) ⌝ }
+    ensures { λ r. ⌜ now (trace .exit) ≡ putItems (caseOf (now (case .entry))) i (itemsOf (now (case .entry)) (shared .items)) (now (trace .entry)) ⌝ }
 {
     let n = case_file::switches(case) as usize;
     if n <= i {
@@ -212,6 +212,7 @@ fn put_items(case: &[u8], i: usize, values: [u16; ITEMS], trace: &mut [u16])
     if trace.len() <= start {
         return;
     }
+    let values = shared.items;
     put_values(values, count, start, trace);
 }
 
@@ -233,18 +234,21 @@ fn block_of(
     let after = turn.block(t, case, given, lengths[i], number_of(i), trace);
     let locals = after.locals;
     let items = after.items;
-    put_items(case, i, items, trace);
     let stand = after.stand;
-    let thread = Thread {
+    let moved = Thread {
         next: after.next,
         locals,
     };
-    let shared = Shared {
+    let last = Shared {
         items,
         stand,
         note: after.note,
     };
-    Moved { thread, shared }
+    put_items(case, i, last, trace);
+    Moved {
+        thread: moved,
+        shared: last,
+    }
 }
 
 // The thread's turn.

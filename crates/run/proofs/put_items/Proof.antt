@@ -15,7 +15,7 @@ cast-n c = search needs
 returns : tie.Need-returns
 returns c =
     let entry = c .before .before .before .before in
-    no-places (entry .args .case .now) (entry .args .i) (entry .args .values) (entry .args .trace .now) (omega (arith, c .if1 .taken, c .before .switches .ensures))
+    no-places (entry .args .case .now) (entry .args .i) (entry .args .shared .items) (entry .args .trace .now) (omega (arith, c .if1 .taken, c .before .switches .ensures))
 
 items-requires : tie.Need-items-requires
 items-requires c κs = search needs
@@ -39,11 +39,11 @@ add-start c =
 returns-2 : tie.Need-returns-2
 returns-2 c =
     let entry = c .before .before .before .before .before .before .before in
-    trace-ends (entry .args .case .now) (entry .args .i) (entry .args .values) (entry .args .trace .now) (omega (arith, c .before .before .before .if1 .left, c .before .before .before .before .switches .ensures)) _ _ _ (c .before .records .ensures) (c .before .before .items .ensures .is) refl (c .if2 .taken)
+    trace-ends (entry .args .case .now) (entry .args .i) (entry .args .shared .items) (entry .args .trace .now) (omega (arith, c .before .before .before .if1 .left, c .before .before .before .before .switches .ensures)) _ _ _ (c .before .records .ensures) (c .before .before .items .ensures .is) refl (c .if2 .taken)
 
 put-values-requires : tie.Need-put-values-requires
 put-values-requires c κs =
-    let read = c .before .before in
+    let read = c .before .before .before in
     let few = few-before (read .before .before .before .before .before .before .args .i) _ _ (read .before .before .if1 .left) (omega (arith, read .before .before .before .switches .ensures, read .before .before .before .before .before .before .pre .few-switches)) (read .before .items .ensures .most) in
     record { few = read .before .items .ensures .most; low = omega (arith, few, read .records .ensures, read .before .before .before .before .before .before .pre .few-records) }
 
@@ -52,9 +52,9 @@ same-length c = search needs
 
 returns-3 : tie.Need-returns-3
 returns-3 c =
-    let read = c .before .before .before .before .before in
+    let read = c .before .before .before .before .before .before in
     let entry = read .before .before .before .before .before .before in
-    puts-items (entry .args .case .now) (entry .args .i) (entry .args .values) (entry .args .trace .now) (omega (arith, read .before .before .if1 .left, read .before .before .before .switches .ensures)) _ _ _ (read .records .ensures) (read .before .items .ensures .is) refl _ (c .before .before .put-values .ensures)
+    puts-items (entry .args .case .now) (entry .args .i) (entry .args .shared .items) (entry .args .trace .now) (omega (arith, read .before .before .if1 .left, read .before .before .before .switches .ensures)) _ _ _ (read .records .ensures) (read .before .items .ensures .is) refl _ (c .before .before .put-values .ensures)
 
 pub put-items-spec : {M : Type 1} → statement M
 put-items-spec =
