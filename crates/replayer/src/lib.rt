@@ -22,7 +22,7 @@ fn write_items(values: [u16; ITEMS], count: usize, items: &mut [u16])
     write_over(&values[..count], items);
 }
 
-// The run of an accepted case in blocks with these lengths; the items' values at its end go to the start of the slice.
+// The run of an accepted case in blocks with these lengths, its trace not kept; the items' values at its end go to the start of the slice.
 fn replay_blocks(case: &[u8], lengths: &[u16], given: &[u16], items: &mut [u16]) -> Replayed
     requires { ⌜ BlocksReady (now case) (now given) (now items) ⌝ }
     ensures { λ r. ⌜ Ran (now (case .entry)) (now (lengths .entry)) (now (given .entry)) (now (items .entry)) r (now (items .exit)) ⌝ }

@@ -8,6 +8,9 @@ use Rattle.replayer.proofs.replay_blocks.Tie as tie
 items-requires : tie.Need-items-requires
 items-requires c κs = search needs
 
+slice-aggregate-run-case : tie.Need-slice-aggregate-run-case
+slice-aggregate-run-case c = search needs
+
 run-case-requires : tie.Need-run-case-requires
 run-case-requires c κs = search needs
 
@@ -33,15 +36,14 @@ same-length : tie.Need-same-length
 same-length c = search needs
 
 returns-2 : tie.Need-returns-2
-returns-2 c =
-    let entry = c .before .before .before .before .before .before .before .before .before .before .before .before in
-    ends-written (entry .args .case .now) (entry .args .lengths .now) (entry .args .given .now) _ (c .before .before .before .before .before .before .run-case .ensures) _ _ _ (c .before .before .before .before .before .before .before .items .ensures .is) (⊎-elim (λ w. writes-by _ _ (w .1 .given .1) tt) (⊎-elim (λ w. writes-by _ _ (w .1 .given .1) tt) (λ w. writes-by _ _ (w .1 .given .1) tt)) (c .before .before .before .before .match .came)) (c .before .before .write-items .ensures)
+returns-2 c = ends-written (c .before .before .before .before .before .before .before .before .before .before .before .before .before .before .args .case .now) (c .before .before .before .before .before .before .before .before .before .before .before .before .before .before .args .lengths .now) (c .before .before .before .before .before .before .before .before .before .before .before .before .before .before .args .given .now) _ (c .before .before .before .before .before .before .before .run-case .ensures .replies) _ _ _ (c .before .before .before .before .before .before .before .before .before .items .ensures .is) (⊎-elim (λ w. writes-by _ _ (w .1 .given .1) tt) (⊎-elim (λ w. writes-by _ _ (w .1 .given .1) tt) (λ w. writes-by _ _ (w .1 .given .1) tt)) (c .before .before .before .before .match .came)) (c .before .before .write-items .ensures)
 
 pub replay-blocks-spec : {M : Type 1} → statement M
 replay-blocks-spec =
     tie.close
     (tie.spec
     items-requires
+    slice-aggregate-run-case
     run-case-requires
     enum-told
     returns
