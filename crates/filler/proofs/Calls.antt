@@ -8,8 +8,7 @@ use native.Mathlib.Omega.{arith}
 use lib.ListN.{length, take, replicate, length-replicate}
 use lib.Seq.{length-take-le}
 use borrow.Author.Tests.{le-leb, lt-leb, eq-eqb, ne-eqb}
-use Rattle.model.specs.Word.{wordSize}
-use Rattle.model.specs.Limits.{mostVariables}
+use Rattle.model.specs.Limits.{mostBlocks, mostVariables}
 use Rattle.model.specs.Lists.{writtenOver}
 use Rattle.model.specs.CaseFile.{switchCount, caseOf}
 use Rattle.model.specs.Accept.{verdict}
@@ -105,7 +104,7 @@ module _ {bytes schedule givens zeros : List ℕ} (ready : RunReady bytes schedu
     module _ {k : ℕ} (violates : e .reply ≡ replayeds.Violated k) {numbers : List ℕ}
         (is-left : numbers ≡ putAllUnrun (caseOf bytes) (restsOf bytes (e .threads)) trace)
       where
-        few-blocks : length lengths ≤ wordSize
+        few-blocks : length lengths ≤ mostBlocks
         few-blocks =
             omega (
               arith,

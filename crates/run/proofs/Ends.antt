@@ -7,7 +7,7 @@ use mathlib.Core.List.{List, []}
 use lib.Dec.{eqb}
 use lib.ListN.{length}
 use borrow.Author.Tests.{eq-eqb, ne-eqb}
-use Rattle.model.specs.Word.{wordSize}
+use Rattle.model.specs.Limits.{mostBlocks}
 use Rattle.model.specs.CaseFile.{caseOf}
 use Rattle.model.specs.Machine.{State, Outcome, refused14, cutOff, violated, clean, firstStrayLeft, ending, runBlocks}
 use Rattle.model.specs.Fill.{putBlocks}
@@ -87,7 +87,7 @@ module _ (bytes givens lengths : List ℕ) (threads : List Thread) (shared : Sha
     at-any-end (violated k s) put = put
     at-any-end (clean s) put = put
 
-    pub traced-at-the-end : length lengths ≤ wordSize → AtTheEnd (outcomeFrom bytes givens 0 lengths threads shared) AllPut
+    pub traced-at-the-end : length lengths ≤ mostBlocks → AtTheEnd (outcomeFrom bytes givens 0 lengths threads shared) AllPut
     traced-at-the-end numbered = subst (λ (x : Outcome). AtTheEnd x AllPut) (played .comes) (go (moved .stand) (played .traced numbered))
       where
         finish : Outcome

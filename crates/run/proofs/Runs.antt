@@ -8,7 +8,7 @@ use native.Mathlib.Nat.{mod-lt, add-zero, zero-add}
 use native.Mathlib.Numerals.{add-one}
 use lib.ListN.{getD, set, length, drop, length-set, drop-of-length-le}
 use lib.Seq.{drop-cons, getD-set-same, getD-set-other}
-use Rattle.model.specs.Word.{wordSize}
+use Rattle.model.specs.Limits.{mostBlocks}
 use Rattle.model.specs.CaseFile.{Line, records, threadCount, caseOf}
 use Rattle.model.specs.Machine.{Memory, State, BlockEnd, passed, runBlock, restIn, memoryIn, afterBlock, Outcome, afterSteps, runBlocks}
 use Rattle.model.specs.Runs.{blockSteps, memoryAfter, endMemory, nextState}
@@ -154,7 +154,7 @@ module _ (bytes givens lengths : List ℕ) (i : ℕ) (threads : List Thread) (sh
       state-next : stateOf bytes after (last .items) ≡ nextState (caseOf bytes) (givenBy givens) i steps case-state
       state-next = sym (state-after runs) ∙ ap (afterBlock (caseOf bytes) i steps case-state) memory-after
 
-      trace-next : i < wordSize → (later : List ℕ)
+      trace-next : i < mostBlocks → (later : List ℕ)
           → putBlocks (caseOf bytes) (givenBy givens) (suc i) later (stateOf bytes after (last .items)) trace'
           ≡ putBlocks (caseOf bytes) (givenBy givens) i (steps ∷ later) case-state trace
       trace-next word later =
@@ -180,7 +180,7 @@ pub record Playing (bytes givens lengths : List ℕ) (threads₀ : List Thread) 
     (threads : List Thread) (shared : Shared) (trace : List ℕ) : Type 0 where
   pub does : outcomeFrom bytes givens i (drop i lengths) threads shared ≡ outcomeFrom bytes givens 0 lengths threads₀ shared₀
   pub ready : RunReady bytes givens threads
-  pub traced : length lengths ≤ wordSize → shared .stand ≡ Running
+  pub traced : length lengths ≤ mostBlocks → shared .stand ≡ Running
       → putBlocks (caseOf bytes) (givenBy givens) i (drop i lengths) (stateOf bytes threads (shared .items)) trace
       ≡ putBlocks (caseOf bytes) (givenBy givens) 0 lengths (stateOf bytes threads₀ (shared₀ .items)) trace₀
 
@@ -230,7 +230,7 @@ module _ (bytes lengths givens : List ℕ) (thread : Thread) (shared : Shared) (
     within = ready .within;
   })
 
-  pub moved-by : (number : ℕ) → (i < wordSize → number ≡ i) → (trace between : List ℕ) (moved : Moved) (trace' : List ℕ)
+  pub moved-by : (number : ℕ) → (i < mostBlocks → number ≡ i) → (trace between : List ℕ) (moved : Moved) (trace' : List ℕ)
       → BlockRecorded bytes givens t number (getD lengths i 0) turn (turnOf (moved .thread) (moved .shared)) trace between
       → trace' ≡ putItems (caseOf bytes) i (itemsOf bytes (moved .shared .items)) between → MovedBy bytes givens lengths i thread shared trace moved trace'
   moved-by number is-number trace between moved trace' recorded put =

@@ -6,8 +6,7 @@ use mathlib.Core.Bool.{cond}
 use mathlib.Core.List.{List, []}
 use lib.Dec.{eqb}
 use lib.ListN.{getD, length, set}
-use Rattle.model.specs.Word.{wordSize}
-use Rattle.model.specs.Limits.{mostThreads, mostItems, mostVariables}
+use Rattle.model.specs.Limits.{mostThreads, mostBlocks, mostItems, mostVariables}
 use Rattle.model.specs.CaseFile.{records, threadCount, caseOf}
 use Rattle.model.specs.Machine.{start, Outcome, refused14, cutOff, violated, clean, runBlocks, run}
 use Rattle.model.specs.Fill.{putItems, putBlocks}
@@ -59,10 +58,10 @@ pub record ItemsReady (count from : ℕ) : Type 0 where
   pub few : count ≤ mostItems
   pub low : from ≤ mostVariables
 
--- The trace of block i, of thread t, with so many steps, where its number is one that a trace can hold and the run still goes on: the
--- numbers of its lines and the items where it ends.
+-- The trace of block i, of thread t, with so many steps, where a case can have a block i and the run still goes on: the numbers of its
+-- lines and the items where it ends.
 abbrev pub BlockTraced : List ℕ → List ℕ → ℕ → ℕ → ℕ → Turn → Turn → List ℕ → List ℕ → Type 0
-BlockTraced bytes givens t i steps turn after trace trace' = i < wordSize → after .stand ≡ Running
+BlockTraced bytes givens t i steps turn after trace trace' = i < mostBlocks → after .stand ≡ Running
     → trace' ≡ putItems (caseOf bytes) i (itemsOf bytes (after .items)) (traceAfter bytes givens t i steps turn trace)
 
 -- Block i, by its thread: the turn has run it.
@@ -89,12 +88,12 @@ outcomeFrom bytes givens i lengths threads shared =
     resumed (shared .stand) (itemsOf bytes (shared .items))
     (runBlocks (caseOf bytes) (givenBy givens) i lengths (stateOf bytes threads (shared .items)) (shared .note))
 
--- The blocks with these lengths have been run, and no block is left; their trace, where they have numbers that it can hold.
+-- The blocks with these lengths have been run, and no block is left; their trace, where a case can have as many.
 pub record Played (bytes givens lengths : List ℕ) (threads : List Thread) (shared : Shared) (trace : List ℕ)
     (after : List Thread) (last : Shared) (trace' : List ℕ) : Type 0 where
   pub comes : outcomeFrom bytes givens 0 [] after last ≡ outcomeFrom bytes givens 0 lengths threads shared
   pub ready : RunReady bytes givens after
-  pub traced : length lengths ≤ wordSize → last .stand ≡ Running
+  pub traced : length lengths ≤ mostBlocks → last .stand ≡ Running
       → trace' ≡ putBlocks (caseOf bytes) (givenBy givens) 0 lengths (stateOf bytes threads (shared .items)) trace
 
 -- How a run stands after its last step, where this is the first record that strays among the lines that are left, or 0.
@@ -136,10 +135,10 @@ AtTheEnd (cutOff k items) traced = Unit {0}
 AtTheEnd (violated k s) traced = traced
 AtTheEnd (clean s) traced = traced
 
--- The run of a case in blocks with these lengths: its reply, its threads, each at a record or at its end, and its trace, where the blocks
--- have numbers that it can hold.
+-- The run of a case in blocks with these lengths: its reply, its threads, each at a record or at its end, and its trace, where a case can
+-- have as many blocks.
 pub record Traced (bytes givens lengths trace : List ℕ) (e : Ended) (trace' : List ℕ) : Type 0 where
   pub replies : Replies bytes (run (caseOf bytes) lengths (givenBy givens)) e
   pub within : (t : ℕ) → t < threadCount bytes → threadAt (e .threads) t .next ≤ records bytes
-  pub traced : length lengths ≤ wordSize
+  pub traced : length lengths ≤ mostBlocks
       → AtTheEnd (run (caseOf bytes) lengths (givenBy givens)) (trace' ≡ putBlocks (caseOf bytes) (givenBy givens) 0 lengths (start (caseOf bytes)) trace)

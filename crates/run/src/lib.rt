@@ -3,8 +3,7 @@ ghost use mathlib.Core.Path.{_≡_};
 ghost use Prim.Native.Nat.{ℕ, _%_, _≤_, _<_};
 ghost use lib.ListN.{set, length, take};
 ghost use lib.Seq.{sets};
-ghost use Rattle.model.specs.Word.{wordSize};
-ghost use Rattle.model.specs.Limits.{mostThreads, headerBytes};
+ghost use Rattle.model.specs.Limits.{mostThreads, mostBlocks, headerBytes};
 ghost use Rattle.model.specs.CaseFile.{threadCount, kindOf, caseOf};
 ghost use Rattle.model.specs.Line.{unrunStray};
 ghost use Rattle.model.specs.Machine as machine;
@@ -14,6 +13,7 @@ ghost use Rattle.case_file.specs.Present.{InHeader};
 ghost use Rattle.turn.specs.TurnState.{itemsOf, givenBy};
 ghost use Rattle.run.specs.RunState.{turnOf, restsOf, firstThread, firstThreads, firstShared};
 ghost use Rattle.run.specs.Promises.{AllGiven, BlockReady, RestReady, RunReady, RunAtBlock, ItemsReady, BlockAt, MovedBy, Played, lookedAt, Closed, Traced};
+use model::BLOCKS;
 use model::ITEMS;
 use model::LOCALS;
 use model::Replayed;
@@ -170,11 +170,11 @@ fn thread_of(case: &[u8], i: usize) -> usize
     i % case_file::threads(case) as usize
 }
 
-// Block i as a number of the trace: no case has more blocks than there are numbers.
+// Block i as a number of the trace; past the last block that a case can have, 0.
 fn number_of(i: usize) -> u16
-    ensures { λ r. ⌜ (i < wordSize → r ≡ i) ⌝ }
+    ensures { λ r. ⌜ (i < mostBlocks → r ≡ i) ⌝ }
 {
-    if i < 65536 { i as u16 } else { 0 }
+    if i < BLOCKS { i as u16 } else { 0 }
 }
 
 // A number goes to its place, if the trace has it.
