@@ -1,8 +1,10 @@
-// Document 01's case A on the code: P1 to P10, a line or two each, and request Five's constraint 8. What they must be is in `stdout`.
+// Document 01's case A on the code: P1 to P10, a line or two each, request Five's constraint 8 and the assignments of request Six. What
+// they must be is in `stdout`.
 use libc::STDOUT_FILENO;
 use model::Checked;
 use model::Decoded;
 use model::Encoded;
+use model::Filled;
 use model::Replayed;
 
 // Case A with n 2: 16 fields of the header, then its five records.
@@ -252,6 +254,37 @@ fn late_assert() {
     checked(&case, &[0, 0, 0, 1, 0, 1, 2, 1, 1, 5, 1, 5]);
 }
 
+// The assignment of a schedule of the case: the five lines' block numbers and values, then the block values.
+fn filled(name: &[u8], case: &[u8], schedule: &[u16]) {
+    word(name);
+    let mut assignment = [0u16; 12];
+    match filler::fill(case, schedule, &mut assignment) {
+        Filled::Assignment { numbers } => {
+            word(b" fills ");
+            number(numbers);
+            word(b":");
+            two(b" ", assignment[0], assignment[1]);
+            two(b" ", assignment[2], assignment[3]);
+            two(b" ", assignment[4], assignment[5]);
+            two(b" ", assignment[6], assignment[7]);
+            two(b" ", assignment[8], assignment[9]);
+            two(b" ", assignment[10], assignment[11]);
+        }
+        Filled::Refused { number, place } => {
+            two(b" refused ", number, place);
+        }
+    }
+    word(b"\n");
+}
+
+// P1 and P2 are P6 and P7; P4 does not violate.
+fn filled_and_refused() {
+    let case = case_with(2);
+    filled(b"Six P1", &case, &[2, 1, 2]);
+    filled(b"Six P2", &case, &[0, 1, 4]);
+    filled(b"Six P4", &case, &[3, 1, 1]);
+}
+
 // "every run is clean": every schedule whose lengths fit, and one that has a step too many.
 fn no_switch() {
     let case = case_with(0);
@@ -290,6 +323,7 @@ fn main() {
     violated_and_clean();
     assignments();
     late_assert();
+    filled_and_refused();
     no_switch();
     one_switch();
     word(b"P10 ");
