@@ -2,7 +2,7 @@
 ghost use mathlib.Core.Path.{_≡_};
 ghost use Prim.Native.Nat.{_≤_};
 ghost use Rattle.model.specs.Limits.{mostListingBytes};
-ghost use Rattle.model.specs.Answers.{refusedNumbers, answerNumbers, verdictNumbers, encodedNumbers, checkedNumbers, decodedNumbers, replayedNumbers};
+ghost use Rattle.model.specs.Answers.{refusedNumbers, answerNumbers, verdictNumbers, encodedNumbers, checkedNumbers, decodedNumbers, replayedNumbers, filledNumbers};
 ghost use Rattle.model.specs.Listing.{listedNumbers};
 ghost use Rattle.model.specs.Taking.{takenNumbers};
 ghost use Rattle.script.specs.Text.{spelledNumbers};
@@ -10,6 +10,7 @@ use model::Checked;
 use model::CopyNumbers;
 use model::Decoded;
 use model::Encoded;
+use model::Filled;
 use model::Listed;
 use model::Numbers;
 use model::Replayed;
@@ -94,6 +95,15 @@ pub fn replayed_numbers(p: Replayed) -> Numbers
 }
 
 // A listing's length is a number of 16 bits.
+pub fn filled_numbers(f: Filled) -> Numbers
+    ensures { λ r. ⌜ r ≡ filledNumbers f ⌝ }
+{
+    match f {
+        Filled::Assignment { numbers } => answer(1, numbers, 0),
+        Filled::Refused { number, place } => refusal(number, place),
+    }
+}
+
 pub fn listed_numbers(l: Listed) -> Numbers
     requires { ⌜ listedNumbers l .first ≤ mostListingBytes ⌝ }
     ensures { λ r. ⌜ r ≡ listedNumbers l ⌝ }

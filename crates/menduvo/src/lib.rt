@@ -1,18 +1,19 @@
-// The public library: `accept`, the four calls, the listing, the text for solvers and the call that takes a line by itself, for C and
+// The public library: `accept`, the five calls, the listing, the text for solvers and the call that takes a line by itself, for C and
 // Rust. Each answer comes in the document's numbers; what each call answers and leaves in the lent slices is defined in `model`'s
 // specs/Accept.antt, specs/Answers.antt, specs/Listing.antt and specs/Taking.antt and in `script`'s specs/Text.antt. The one statement
 // about them all is `delivered`'s specs/Delivered.antt.
 ghost use mathlib.Core.Path.{_≡_};
 ghost use lib.ListN.{length};
 ghost use Rattle.model.specs.Accept.{verdict};
-ghost use Rattle.model.specs.Answers.{encoded, encodedInto, checked, decoded, decodedInto, replayed, replayedInto};
-ghost use Rattle.model.specs.Answers.{verdictNumbers, encodedNumbers, checkedNumbers, decodedNumbers, replayedNumbers};
+ghost use Rattle.model.specs.Answers.{encoded, encodedInto, checked, decoded, decodedInto, replayed, replayedInto, filled, filledInto};
+ghost use Rattle.model.specs.Answers.{verdictNumbers, encodedNumbers, checkedNumbers, decodedNumbers, replayedNumbers, filledNumbers};
 ghost use Rattle.model.specs.Listing.{listed, listedInto, listedNumbers};
 ghost use Rattle.model.specs.Taking.{taken, takenInto, takenNumbers};
 ghost use Rattle.script.specs.Text.{measured, spelled, spelledInto, spelledNumbers};
 use answer_numbers::checked_numbers;
 use answer_numbers::decoded_numbers;
 use answer_numbers::encoded_numbers;
+use answer_numbers::filled_numbers;
 use answer_numbers::listed_numbers;
 use answer_numbers::replayed_numbers;
 use answer_numbers::spelled_numbers;
@@ -65,6 +66,15 @@ pub extern "C" fn menduvo_replay(case: &[u8], schedule: &[u16], items: &mut [u16
     ensures { λ r. ⌜ now (items .exit) ≡ replayedInto (now (case .entry)) (now (schedule .entry)) (now (items .entry)) ⌝ }
 {
     replayed_numbers(replayer::replay(case, schedule, items))
+}
+
+// The assignment of a schedule whose run violates and keeps the rule of switches, from the start of the slice.
+#[no_mangle]
+pub extern "C" fn menduvo_fill(case: &[u8], schedule: &[u16], assignment: &mut [u16]) -> Numbers
+    ensures { λ r. ⌜ r ≡ filledNumbers (filled (now (case .entry)) (now (schedule .entry)) (length (now (assignment .entry)))) ⌝ }
+    ensures { λ r. ⌜ now (assignment .exit) ≡ filledInto (now (case .entry)) (now (schedule .entry)) (now (assignment .entry)) ⌝ }
+{
+    filled_numbers(filler::fill(case, schedule, assignment))
 }
 
 // The listing of the case as text, from the start of the slice: its constraints, or the number and place of its refusal.
