@@ -102,11 +102,11 @@ for lie in 'fill answer' 'fill second' 'fill refused, with numbers'; do
 done
 # A schedule that is not filled: its run violates all the same, another line is late first, or none is, or the one that keeps the rule
 # is not filled either. Then no schedule is named.
-lies 'fill violates' 'its run does not violate, and replays it: violated: record 4' fill cases/case-a.case cases/case-a.schedule
+lies 'fill violates' 'the run does not violate, and replays it: violated: record 4' fill cases/case-a.case cases/case-a.schedule
 lies 'fill place' 'the display: there is none' fill cases/case-a.case cases/case-a.schedule
 echo 1 3 1 0 1 >"$scratch/late.schedule"
 lies 'fill place' 'the display: the first is record 3' fill cases/handshake.case "$scratch/late.schedule"
-lies 'fill moved' 'refuses what keeps the rule' fill cases/handshake.case "$scratch/late.schedule"
+lies 'fill moved' 'refuses the schedule that it would name in the place of this one' fill cases/handshake.case "$scratch/late.schedule"
 result 'no other schedule is named' eval '[[ $out != *"1 3 2 0 0"* ]]'
 run env LIE='fill late' "$lying" fill cases/handshake.case "$scratch/late.schedule"
 result 'what is filled is named' eval '[ "$status" = 2 ] && [[ $out = *"the same inputs: 1 3 2 0 0"* ]]'

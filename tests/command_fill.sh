@@ -94,11 +94,15 @@ refusals() {
     result 'no number is printed' eval '[ "$status, $out" = "2, " ] && [ -s "$scratch/errors" ]'
     run bash -c "$menduvo fill - '$scratch/schedule' --switches 6 <cases/handshake.source"
     result 'of a case on standard input' eval '[ "$status" = 2 ] && [[ $out = *"to file that one: give it in the place of this one" ]]'
+    cp "$scratch/schedule" "$scratch/late"
     round 'the schedule that it names' cases/handshake.source "$(sed -n 's/.*the same inputs: //p' tests/command/fill-17-twice.expected)" \
         --switches 6
-    # The command that it names is run as it stands.
-    sed -n 's/.*to file that one: echo \(.*\) | menduvo \(.*\)/\1\n\2/p' tests/command/fill-17-twice.expected >"$scratch/named"
-    run bash -c "echo $(sed -n 1p "$scratch/named") | $menduvo $(sed -n 2p "$scratch/named")"
+    # The command that it names is run as it stands, whatever the case is called.
+    cp cases/handshake.source "$scratch/it's a case.source" && ln -s "$menduvo" "$scratch/menduvo"
+    run bash -c "cd '$scratch' && ./menduvo fill 'it'\\''s a case.source' late --switches 6"
+    out=$(sed -n 's/.*to file that one: //p' "$scratch/out")
+    result 'it names a command' eval '[[ $out = "echo "*" | menduvo fill "*" - --switches 6" ]]'
+    run bash -c "cd '$scratch' && PATH=.:\$PATH && $out"
     result 'the command that it names' eval '[ "$status" = 0 ] && cmp -s "$scratch/out" "$scratch/filled"'
     # Four late lines, with an input: the place is the first by thread and chain, here and where one of thread 1 is late before it.
     printf '%s\n' 'switches 6' 'global g = 0' thread 'g = 1' 'L0 = input' 'assert L0 == 4' thread 'g = 2' 'L0 = 1' 'L1 = 2' \

@@ -58,7 +58,9 @@ impl Why {
         let run = run::replay(loaded, "the schedule", schedule)?;
         let verdict = run::verdict(&loaded.case, run.ending);
         if let Ending::Violated(_) = run.ending {
-            return Err(not_proved(&format!("says of a schedule that its run does not violate, and replays it: {verdict}")));
+            return Err(Failure::Other(format!(
+                "the library says that the run does not violate, and replays it: {verdict}: this is not the proved library"
+            )));
         }
         let more = "'menduvo replay' prints the run line by line".to_string();
         Ok(Why {
@@ -99,9 +101,10 @@ impl Why {
 fn confirmed(loaded: &Loaded, schedule: Vec<u16>) -> Result<Vec<u16>, Failure> {
     match loaded.fill(&schedule) {
         Ok(_) => Ok(schedule),
-        Err(refusal) => {
-            Err(not_proved(&format!("refuses what keeps the rule and does the same as one that violates: {refusal}")))
-        }
+        Err(refusal) => Err(Failure::Other(format!(
+            "THIS COMMAND IS WRONG: the proved library refuses the schedule that it would name in the place of this one\n  {refusal}\n  \
+             Trust the library, and report this case."
+        ))),
     }
 }
 
@@ -121,8 +124,4 @@ fn filing(case: &Source, numbers: &str) -> String {
     let switches = case.switches().map(|switches| format!(" --switches {switches}")).unwrap_or_default();
     let words = [OsStr::new("menduvo"), OsStr::new("fill"), case.path(), OsStr::new("-")];
     format!("echo {numbers} | {}{switches}", quote::line(&words))
-}
-
-fn not_proved(does: &str) -> Failure {
-    Failure::Other(format!("the library {does}: this is not the proved library"))
 }
