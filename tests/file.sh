@@ -207,6 +207,24 @@ list_of_violated() {
 }
 
 # Why the case is filed with its listing: case A with 'assert L1 < 7'.
+# A schedule that was found by thought, filed as a solver's output: the reply is what 'fill' prints. Of a line that the same reply
+# does not reach nothing is known.
+by_thought() {
+    local case=$scratch/thought.source
+    printf '%s\n' 'switches 1' thread 'assert 0' thread 'L0 = 1' 'assume L0 == 2' 'assert L0' >"$case"
+    echo 1 0 >"$scratch/thought.schedule"
+    { echo sat && "$binary" fill "$case" "$scratch/thought.schedule" | tr ' ' '\n' | awk '{ printf "(v%d #x%04x)\n", NR - 1, $1 }'
+    } >"$scratch/thought.reply"
+    run "$menduvo" file "$case" "$scratch/thought" --solver-command "cat $scratch/thought.reply"
+    result 'a schedule found by thought is filed' eval '[ "$status" = 1 ] && [[ $out = *"violated: record 1 "* ]]'
+    whole thought violated case.source reply.txt assignment.txt schedule.txt run.txt picture.svg reached-1.smt2 reached-1-reply.txt
+    has thought MANIFEST '# solver: cat'
+    has thought schedule.txt $'\n1 0'
+    has thought reached.txt 'assert L0): not known whether it is reached: the run that the solver gave for it does not reach it'
+    result 'the assignment is what was filled' cmp -s <(sed 1d "$scratch/thought/assignment.txt") \
+        <("$binary" fill "$case" "$scratch/thought.schedule")
+}
+
 listing_alone() {
     cp cases/case-a.case "$scratch/other.case"
     fields 6 1 16 7 | dd of="$scratch/other.case" bs=2 seek=44 conv=notrunc status=none
@@ -488,6 +506,7 @@ hashes() {
 }
 
 filing
+by_thought
 listing_alone
 again
 refusing

@@ -137,7 +137,7 @@ impl Reach {
                         open = left;
                         continue;
                     }
-                    Reached::NotKnown("a run that should reach it does not: this is not the proved library".to_string())
+                    Reached::NotKnown("the run that the solver gave for it does not reach it".to_string())
                 }
                 (None, Verdict::Unsat) => Reached::Never,
                 (None, other) => Reached::NotKnown(other.trouble().to_string()),
