@@ -7,6 +7,7 @@ ghost use Rattle.model.specs.Accept.{verdict};
 ghost use Rattle.model.specs.Fill.{putUnrun, putAllUnrun, lateIn, firstLate};
 ghost use Rattle.model.specs.Answers.{filled, filledInto};
 ghost use Rattle.model.specs.declared.Verdict.the-variants as verdicts;
+ghost use Rattle.model.specs.declared.Filled.the-variants as filleds;
 ghost use Rattle.laws.specs.Accepted.{Accepted, linesFrom};
 ghost use Rattle.assignment.specs.Numbers.{recordBlock};
 ghost use Rattle.run.specs.RunState.{restsOf};
@@ -42,7 +43,7 @@ pub fn fill(case: &[u8], schedule: &[u16], assignment: &mut [u16]) -> Filled
     ensures { λ r. ⌜ now (assignment .exit) ≡ filledInto (now (case .entry)) (now (schedule .entry)) (now (assignment .entry)) ⌝ }
 {
     match accept(case) {
-        Verdict::Refused { number, place } => Filled::Refused { number, place },
+        Verdict::Refused { number, place } => refused(number, place),
         Verdict::Accepted => fill_accepted(case, schedule, assignment),
     }
 }
@@ -54,18 +55,12 @@ fn fill_accepted(case: &[u8], schedule: &[u16], assignment: &mut [u16]) -> Fille
 {
     let size = variables(case);
     if assignment.len() < size {
-        return Filled::Refused {
-            number: 10,
-            place: 0,
-        };
+        return refused(10, 0);
     }
     let mut given = [0u16; RECORD_PLACES];
     let refusal = refusal_of(case, schedule, &mut given);
     if refusal != 0 {
-        return Filled::Refused {
-            number: refusal,
-            place: 0,
-        };
+        return refused(refusal, 0);
     }
     let mut numbers = [0u16; VARIABLES];
     fill_over(case, schedule, &given, &mut numbers[..size], assignment)
@@ -108,12 +103,15 @@ fn fill_run(case: &[u8], schedule: &[u16], given: &[u16], numbers: &mut [u16]) -
     put_left(case, left, numbers);
     let late = first_late(case, numbers);
     if late != 0 {
-        return Filled::Refused {
-            number: 17,
-            place: late,
-        };
+        return refused(17, late);
     }
     Filled::Assignment { numbers: size }
+}
+
+fn refused(number: u16, place: u16) -> Filled
+    ensures { λ r. ⌜ r ≡ filleds.Refused number place ⌝ }
+{
+    Filled::Refused { number, place }
 }
 
 // The refusal of a run that does not violate.
@@ -121,19 +119,10 @@ fn refused_run(reply: Replayed) -> Filled
     ensures { λ r. ⌜ r ≡ refusedRun reply ⌝ }
 {
     match reply {
-        Replayed::Refused { number, place } => Filled::Refused { number, place },
-        Replayed::Violated(_) => Filled::Refused {
-            number: 16,
-            place: 0,
-        },
-        Replayed::Clean => Filled::Refused {
-            number: 16,
-            place: 0,
-        },
-        Replayed::CutOff(_) => Filled::Refused {
-            number: 16,
-            place: 0,
-        },
+        Replayed::Refused { number, place } => refused(number, place),
+        Replayed::Violated(_) => refused(16, 0),
+        Replayed::Clean => refused(16, 0),
+        Replayed::CutOff(_) => refused(16, 0),
     }
 }
 

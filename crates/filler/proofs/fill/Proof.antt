@@ -11,6 +11,9 @@ accept-requires c κs = search needs
 enum-known-number : tie.Need-enum-known-number
 enum-known-number c = search needs
 
+refused-requires : tie.Need-refused-requires
+refused-requires c κs = search needs
+
 enum-told : tie.Need-enum-told
 enum-told c = search needs
 
@@ -19,8 +22,8 @@ fill-accepted-requires c κs = sym (c .before .before .before .accept .ensures) 
 
 returns : tie.Need-returns
 returns c =
-    let answer = answers-refused _ (c .before .before .before .before .before .before .before .args .schedule .now) _ _ _ (sym (c .before .before .before .accept .ensures) ∙ c .before .number .given .1) in
-    (answer .answer, answer .slice)
+    let answer = answers-refused _ (c .before .before .before .before .before .before .before .before .args .schedule .now) _ _ _ (sym (c .before .before .before .before .accept .ensures) ∙ c .before .before .number .given .1) in
+    (c .refused .ensures ∙ answer .answer, answer .slice)
 
 same-length : tie.Need-same-length
 same-length c = search needs
@@ -34,6 +37,7 @@ fill-spec =
     (tie.spec
     accept-requires
     enum-known-number
+    refused-requires
     enum-told
     fill-accepted-requires
     returns

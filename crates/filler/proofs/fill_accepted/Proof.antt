@@ -10,14 +10,20 @@ use Rattle.filler.proofs.fill_accepted.Tie as tie
 variables-requires : tie.Need-variables-requires
 variables-requires c κs = accepted-of _ (c .before .before .before .pre)
 
+refused-requires : tie.Need-refused-requires
+refused-requires c κs = search needs
+
 returns : tie.Need-returns
-returns c = answers-10 _ _ _ (c .before .before .before .before .before .pre) (c .before .variables .ensures .is) (c .if1 .taken)
+returns c = rw (c .refused .ensures) (answers-10 _ _ _ (c .before .before .before .before .before .before .pre) (c .before .before .variables .ensures .is) (c .before .if1 .taken))
 
 refusal-of-requires : tie.Need-refusal-of-requires
 refusal-of-requires c κs = let ok = accepted-of _ (c .before .before .before .before .before .before .pre) in search needs
 
+refused-requires-2 : tie.Need-refused-requires-2
+refused-requires-2 c κs = search needs
+
 returns-2 : tie.Need-returns-2
-returns-2 c = answers-looked _ _ _ (c .before .before .before .before .before .before .before .before .pre) (c .before .before .before .before .variables .ensures .is) (c .before .before .before .if1 .left) (c .before .refusal-of .ensures) (c .if2 .taken)
+returns-2 c = rw (c .refused2 .ensures) (answers-looked _ _ _ (c .before .before .before .before .before .before .before .before .before .pre) (c .before .before .before .before .before .variables .ensures .is) (c .before .before .before .before .if1 .left) (c .before .before .refusal-of .ensures) (c .before .if2 .taken))
 
 slice-aggregate-fill-over : tie.Need-slice-aggregate-fill-over
 slice-aggregate-fill-over c = sym (c .before .before .refusal-of .ensures .places)
@@ -42,8 +48,10 @@ fill-accepted-spec =
     tie.close
     (tie.spec
     variables-requires
+    refused-requires
     returns
     refusal-of-requires
+    refused-requires-2
     returns-2
     slice-aggregate-fill-over
     array-borrow-prefix-numbers

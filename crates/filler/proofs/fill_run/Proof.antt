@@ -48,11 +48,14 @@ put-left-requires c κs = record { accepted = c .before .before .before .before 
 first-late-requires : tie.Need-first-late-requires
 first-late-requires c κs = search needs
 
+refused-requires : tie.Need-refused-requires
+refused-requires c κs = search needs
+
 same-length-2 : tie.Need-same-length-2
 same-length-2 c = search needs
 
 returns-2 : tie.Need-returns-2
-returns-2 c = run-late (c .before .before .before .before .before .before .before .before .before .before .before .before .before .before .before .before .before .before .before .before .before .pre) (c .before .before .before .before .before .before .before .before .before .before .before .before .before .before .before .switches .ensures) (c .before .before .before .before .before .before .before .before .before .before .before .before .run-case .ensures) (c .before .before .before .before .before .before .before .enum-told .given .1) (c .before .before .before .before .before .put-left .ensures) (c .before .first-late .ensures) (c .if1 .taken)
+returns-2 c = rw (c .refused .ensures) (run-late (c .before .before .before .before .before .before .before .before .before .before .before .before .before .before .before .before .before .before .before .before .before .before .pre) (c .before .before .before .before .before .before .before .before .before .before .before .before .before .before .before .before .switches .ensures) (c .before .before .before .before .before .before .before .before .before .before .before .before .before .run-case .ensures) (c .before .before .before .before .before .before .before .before .enum-told .given .1) (c .before .before .before .before .before .before .put-left .ensures) (c .before .before .first-late .ensures) (c .before .if1 .taken))
 
 same-length-3 : tie.Need-same-length-3
 same-length-3 c = search needs
@@ -77,6 +80,7 @@ fill-run-spec =
     returns
     put-left-requires
     first-late-requires
+    refused-requires
     same-length-2
     returns-2
     same-length-3
