@@ -29,18 +29,13 @@ use Rattle.laws.proofs.OnCase.{on-accepted, on-refused}
 use Rattle.assignment.specs.Numbers.{recordBlock}
 use Rattle.turn.specs.TurnState.{givenBy}
 use Rattle.run.specs.declared.Ended.{Ended}
-use Rattle.run.specs.RunState.{restsOf}
-use Rattle.run.specs.Promises.{EndState, AtTheEnd, Traced}
+use Rattle.run.specs.Promises.{AtTheEnd, wholeTrace, Traced}
+use Rattle.run.proofs.Starts.{take-zeros}
 use Rattle.schedule_check.specs.Refusals.{Looked}
 use Rattle.schedule_check.proofs.Refusals.{refused-by, passed-by, enough-numbers, givens-are, lengths-are, run-is}
 use Rattle.filler.specs.Promises.{refusedRun, RunFilled, Over, Answered}
 use Rattle.filler.specs.Ready.{RunReady, SliceReady}
 use Rattle.filler.proofs.LastState.{violated-state}
-
-take-zeros : (m n : ℕ) → m ≤ n → take {A = ℕ} m (replicate n 0) ≡ replicate m 0
-take-zeros zero n h = refl
-take-zeros (suc m) zero h = absurd (omega arith)
-take-zeros (suc m) (suc n) h = ap (λ (xs : List ℕ). 0 ∷ xs) (take-zeros m n (omega arith))
 
 -- What the run asks for, where nothing has refused the schedule; and the numbers then fit the slice.
 pub slice-ready : (bytes schedule givens slice : List ℕ) (refusal size : ℕ) → Accepted bytes → Looked bytes schedule refusal givens → refusal ≡ 0
@@ -77,7 +72,7 @@ refused-fills-not (replayeds.CutOff k) size e = let z : _≡_ {A = ℕ} 0 1 = cc
 
 -- The run, to the answer to it.
 module _ {bytes schedule givens zeros : List ℕ} (ready : RunReady bytes schedule givens zeros) {switches : ℕ} (is-switches : switches ≡ switchCount bytes)
-    {e : Ended} {trace : List ℕ} (traced : Traced bytes givens (take (switches + 1) schedule) zeros e trace)
+    {e : Ended} {numbers : List ℕ} (traced : Traced bytes givens (take (switches + 1) schedule) zeros e numbers)
   where
     abbrev lengths : List ℕ
     lengths = take (switches + 1) schedule
@@ -85,8 +80,8 @@ module _ {bytes schedule givens zeros : List ℕ} (ready : RunReady bytes schedu
     same-run : run (caseOf bytes) lengths (givenBy givens) ≡ runOf (caseOf bytes) schedule
     same-run = run-is bytes schedule givens 0 (ready .looked) refl is-switches
 
-    pub run-refused : {r : Filled} → r ≡ refusedRun (e .reply) → ((k : ℕ) → e .reply ≢ replayeds.Violated k) → (numbers : List ℕ) → RunFilled bytes schedule r numbers
-    run-refused is none numbers =
+    pub run-refused : {r : Filled} → r ≡ refusedRun (e .reply) → ((k : ℕ) → e .reply ≢ replayeds.Violated k) → RunFilled bytes schedule r numbers
+    run-refused is none =
         let reply-is : e .reply ≡ answerOfRun (runOf (caseOf bytes) schedule) = traced .replies .reply ∙ ap answerOfRun same-run in
         record {
           answer = is ∙ ap refusedRun reply-is ∙ refused-is bytes schedule (runOf (caseOf bytes) schedule) (λ k q. none k (reply-is ∙ q));
@@ -98,70 +93,67 @@ module _ {bytes schedule givens zeros : List ℕ} (ready : RunReady bytes schedu
       note : ℕ
       state : State
       comes : run (caseOf bytes) lengths (givenBy givens) ≡ violated note state
-      left : restsOf bytes (e .threads) ≡ state .rests
-      whole : trace ≡ putBlocks (caseOf bytes) (givenBy givens) 0 lengths (start (caseOf bytes)) zeros
+      whole : numbers ≡ wholeTrace bytes givens lengths (start (caseOf bytes)) zeros (state .rests)
 
-    module _ {k : ℕ} (violates : e .reply ≡ replayeds.Violated k) {numbers : List ℕ}
-        (is-left : numbers ≡ putAllUnrun (caseOf bytes) (restsOf bytes (e .threads)) trace)
-      where
-        few-blocks : length lengths ≤ mostBlocks
-        few-blocks =
-            omega (
-              arith,
-              length-take-le (switches + 1) schedule (enough-numbers bytes schedule givens 0 (ready .looked) refl is-switches),
-              ready .accepted .few-switches,
-              is-switches,
-            )
+    module _ {k : ℕ} (violates : e .reply ≡ replayeds.Violated k) where
+      few-blocks : length lengths ≤ mostBlocks
+      few-blocks =
+          omega (
+            arith,
+            length-take-le (switches + 1) schedule (enough-numbers bytes schedule givens 0 (ready .looked) refl is-switches),
+            ready .accepted .few-switches,
+            is-switches,
+          )
 
-        ends : Ends
-        ends = go (run (caseOf bytes) lengths (givenBy givens)) refl (sym (traced .replies .reply) ∙ violates) (traced .replies .left) (traced .traced few-blocks)
-          where
-            go : (o : Outcome) → run (caseOf bytes) lengths (givenBy givens) ≡ o → answerOfRun o ≡ replayeds.Violated k → EndState bytes o (e .threads) (e .items)
-                → AtTheEnd o (trace ≡ putBlocks (caseOf bytes) (givenBy givens) 0 lengths (start (caseOf bytes)) zeros) → Ends
-            go (refused14 j) is a left whole = absurd (let z : _≡_ {A = ℕ} 0 1 = cc in omega arith)
-            go (cutOff j items) is a left whole = absurd (let z : _≡_ {A = ℕ} 0 1 = cc in omega arith)
-            go (violated j s) is a left whole = record { note = j; state = s; comes = is; left = ap (λ (x : State). x .rests) left; whole = whole }
-            go (clean s) is a left whole = absurd (let z : _≡_ {A = ℕ} 0 1 = cc in omega arith)
+      ends : Ends
+      ends = go (run (caseOf bytes) lengths (givenBy givens)) refl (sym (traced .replies .reply) ∙ violates) (traced .traced few-blocks)
+        where
+          go : (o : Outcome) → run (caseOf bytes) lengths (givenBy givens) ≡ o → answerOfRun o ≡ replayeds.Violated k
+              → AtTheEnd o (λ left. numbers ≡ wholeTrace bytes givens lengths (start (caseOf bytes)) zeros left) → Ends
+          go (refused14 j) is a whole = absurd (let z : _≡_ {A = ℕ} 0 1 = cc in omega arith)
+          go (cutOff j items) is a whole = absurd (let z : _≡_ {A = ℕ} 0 1 = cc in omega arith)
+          go (violated j s) is a whole = record { note = j; state = s; comes = is; whole = whole }
+          go (clean s) is a whole = absurd (let z : _≡_ {A = ℕ} 0 1 = cc in omega arith)
 
-        -- the assignment of a run in blocks with these lengths, from these numbers
-        abbrev filling : List ℕ → (ℕ → ℕ) → List ℕ → List ℕ
-        filling lens given xs =
-            putAllUnrun (caseOf bytes) (lastState (caseOf bytes) given 0 lens (start (caseOf bytes)) .rests)
-            (putBlocks (caseOf bytes) given 0 lens (start (caseOf bytes)) xs)
+      -- the assignment of a run in blocks with these lengths, from these numbers
+      abbrev filling : List ℕ → (ℕ → ℕ) → List ℕ → List ℕ
+      filling lens given xs =
+          putAllUnrun (caseOf bytes) (lastState (caseOf bytes) given 0 lens (start (caseOf bytes)) .rests)
+          (putBlocks (caseOf bytes) given 0 lens (start (caseOf bytes)) xs)
 
-        last-is : ends .state ≡ lastState (caseOf bytes) (givenBy givens) 0 lengths (start (caseOf bytes))
-        unfolding run
-        last-is = violated-state (caseOf bytes) (givenBy givens) (ends .note) (ends .state) 0 lengths (start (caseOf bytes)) 0 (ends .comes)
+      last-is : ends .state ≡ lastState (caseOf bytes) (givenBy givens) 0 lengths (start (caseOf bytes))
+      unfolding run
+      last-is = violated-state (caseOf bytes) (givenBy givens) (ends .note) (ends .state) 0 lengths (start (caseOf bytes)) 0 (ends .comes)
 
-        pub fills-all : numbers ≡ fill (caseOf bytes) schedule
-        unfolding fill
-        fills-all =
-            is-left ∙ ap₂ (putAllUnrun (caseOf bytes)) (ends .left ∙ ap (λ (x : State). x .rests) last-is) (ends .whole)
-            ∙ ap (filling lengths (givenBy givens)) (ready .zeros)
-            ∙ ap₂ (λ (lens : List ℕ) (given : ℕ → ℕ). filling lens given (replicate (variables (caseOf bytes)) 0))
-            (lengths-are bytes schedule givens 0 (ready .looked) refl is-switches) (givens-are bytes schedule givens 0 (ready .looked) refl is-switches)
+      pub fills-all : numbers ≡ fill (caseOf bytes) schedule
+      unfolding fill
+      fills-all =
+          ends .whole ∙ ap (λ (s : State). wholeTrace bytes givens lengths (start (caseOf bytes)) zeros (s .rests)) last-is
+          ∙ ap (filling lengths (givenBy givens)) (ready .zeros)
+          ∙ ap₂ (λ (lens : List ℕ) (given : ℕ → ℕ). filling lens given (replicate (variables (caseOf bytes)) 0))
+          (lengths-are bytes schedule givens 0 (ready .looked) refl is-switches) (givens-are bytes schedule givens 0 (ready .looked) refl is-switches)
 
-        comes-to : runOf (caseOf bytes) schedule ≡ violated (ends .note) (ends .state)
-        comes-to = sym same-run ∙ ends .comes
+      comes-to : runOf (caseOf bytes) schedule ≡ violated (ends .note) (ends .state)
+      comes-to = sym same-run ∙ ends .comes
 
-        module _ {late : ℕ} (is-late : late ≡ firstLate (caseOf bytes) (recordBlock numbers) (caseOf bytes .threads)) where
-          late-is : late ≡ lateRecord (caseOf bytes) schedule
-          unfolding assignmentOf
-          late-is = is-late ∙ ap (λ (xs : List ℕ). firstLate (caseOf bytes) (recordBlock xs) (caseOf bytes .threads)) fills-all
+      module _ {late : ℕ} (is-late : late ≡ firstLate (caseOf bytes) (recordBlock numbers) (caseOf bytes .threads)) where
+        late-is : late ≡ lateRecord (caseOf bytes) schedule
+        unfolding assignmentOf
+        late-is = is-late ∙ ap (λ (xs : List ℕ). firstLate (caseOf bytes) (recordBlock xs) (caseOf bytes .threads)) fills-all
 
-          pub run-late : late ≢ 0 → RunFilled bytes schedule (Refused 17 late) numbers
-          run-late some = record {
-            answer = ap (Refused 17) late-is
-                ∙ sym (ap (answerOfFill (caseOf bytes) schedule) comes-to ∙ rw (ne-eqb (lateRecord (caseOf bytes) schedule) 0 (λ q. some (late-is ∙ q))));
-            fills = λ size q. fills-all;
-          }
+        pub run-late : late ≢ 0 → RunFilled bytes schedule (Refused 17 late) numbers
+        run-late some = record {
+          answer = ap (Refused 17) late-is
+              ∙ sym (ap (answerOfFill (caseOf bytes) schedule) comes-to ∙ rw (ne-eqb (lateRecord (caseOf bytes) schedule) 0 (λ q. some (late-is ∙ q))));
+          fills = λ size q. fills-all;
+        }
 
-          pub run-fills : late ≡ 0 → {size : ℕ} → size ≡ variables (caseOf bytes) → RunFilled bytes schedule (Assignment size) numbers
-          run-fills none is-size = record {
-            answer = ap Assignment is-size
-                ∙ sym (ap (answerOfFill (caseOf bytes) schedule) comes-to ∙ rw (eq-eqb (lateRecord (caseOf bytes) schedule) 0 (sym late-is ∙ none)));
-            fills = λ size q. fills-all;
-          }
+        pub run-fills : late ≡ 0 → {size : ℕ} → size ≡ variables (caseOf bytes) → RunFilled bytes schedule (Assignment size) numbers
+        run-fills none is-size = record {
+          answer = ap Assignment is-size
+              ∙ sym (ap (answerOfFill (caseOf bytes) schedule) comes-to ∙ rw (eq-eqb (lateRecord (caseOf bytes) schedule) 0 (sym late-is ∙ none)));
+          fills = λ size q. fills-all;
+        }
 
 -- The numbers, to the slice.
 module _ {bytes schedule numbers : List ℕ} {r : Filled} (run-filled : RunFilled bytes schedule r numbers) (slice : List ℕ) where

@@ -16,7 +16,7 @@ use Rattle.laws.proofs.Following.{lines-end, lines-more, next-low}
 use Rattle.laws.proofs.Views.{and-false}
 use Rattle.assignment.specs.Numbers.{recordBlock}
 use Rattle.filler.specs.Lateness.{isLate}
-use Rattle.filler.specs.Ready.{ChainReady}
+use Rattle.run.specs.Promises.{ChainReady}
 
 module _ (bytes : List ℕ) (kind before block : ℕ) where
   pub not-run : {run : Bool} → run ≡ wasRun (caseOf bytes) block → run ≡ false → false ≡ isLate bytes kind before block

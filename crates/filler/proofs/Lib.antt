@@ -1,4 +1,3 @@
-pub mod Unrun
 pub mod Lateness
 pub mod LastState
 pub mod Calls

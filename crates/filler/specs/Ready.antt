@@ -1,25 +1,13 @@
 -- What the filler's parts ask for.
 -- Assumes nothing.
 use mathlib.Core.Path.{_≡_}
-use Prim.Native.Nat.{ℕ, _≤_, _<_}
+use Prim.Native.Nat.{ℕ, _≤_}
 use mathlib.Core.List.{List}
 use lib.ListN.{length, replicate}
-use Rattle.model.specs.CaseFile.{records, threadCount, caseOf}
+use Rattle.model.specs.CaseFile.{caseOf}
 use Rattle.model.specs.Assignment.{variables}
 use Rattle.laws.specs.Accepted.{Accepted}
-use Rattle.run.specs.declared.Thread.{Thread}
-use Rattle.run.specs.RunState.{threadAt}
 use Rattle.schedule_check.specs.Refusals.{Looked}
-
--- An accepted case, and a record of it, or the end of a chain where k is 0.
-pub record ChainReady (bytes : List ℕ) (k : ℕ) : Type 0 where
-  pub accepted : Accepted bytes
-  pub within : k ≤ records bytes
-
--- The same of every thread.
-pub record ThreadsReady (bytes : List ℕ) (threads : List Thread) : Type 0 where
-  pub accepted : Accepted bytes
-  pub within : (t : ℕ) → t < threadCount bytes → threadAt threads t .next ≤ records bytes
 
 -- A schedule of an accepted case that neither 12 nor 13 meets, with its input values, and a 0 for each variable.
 pub record RunReady (bytes schedule givens numbers : List ℕ) : Type 0 where

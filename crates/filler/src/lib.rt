@@ -4,16 +4,16 @@ ghost use Prim.Native.Nat.{ℕ};
 ghost use lib.ListN.{length};
 ghost use Rattle.model.specs.CaseFile.{caseOf};
 ghost use Rattle.model.specs.Accept.{verdict};
-ghost use Rattle.model.specs.Fill.{putUnrun, putAllUnrun, lateIn, firstLate};
+ghost use Rattle.model.specs.Fill.{lateIn, firstLate};
 ghost use Rattle.model.specs.Answers.{filled, filledInto};
 ghost use Rattle.model.specs.declared.Verdict.the-variants as verdicts;
 ghost use Rattle.model.specs.declared.Filled.the-variants as filleds;
 ghost use Rattle.laws.specs.Accepted.{Accepted, linesFrom};
 ghost use Rattle.assignment.specs.Numbers.{recordBlock};
-ghost use Rattle.run.specs.RunState.{restsOf};
+ghost use Rattle.run.specs.Promises.{ChainReady};
 ghost use Rattle.filler.specs.Lateness.{isLate};
 ghost use Rattle.filler.specs.Promises.{refusedRun, RunFilled, Over, Answered};
-ghost use Rattle.filler.specs.Ready.{ChainReady, ThreadsReady, RunReady, SliceReady};
+ghost use Rattle.filler.specs.Ready.{RunReady, SliceReady};
 use accept::accept;
 use assignment::block_of;
 use assignment::was_run;
@@ -23,19 +23,15 @@ use case_file::next_of;
 use case_file::switches;
 use case_file::threads;
 use case_file::variables;
-use line::unrun_value;
 use line::visible;
 use model::Filled;
 use model::RECORD_PLACES;
 use model::Replayed;
-use model::THREADS;
 use model::VARIABLES;
 use model::Verdict;
 use numbers::write_over;
-use run::Thread;
 use run::run_case;
 use schedule_check::refusal_of;
-use turn::put_record;
 
 // The assignment of a schedule: refusals 1 to 9, then 10, 12, 13, 14, 16 and 17; else its numbers, from the slice's start.
 pub fn fill(case: &[u8], schedule: &[u16], assignment: &mut [u16]) -> Filled
@@ -85,8 +81,7 @@ fn fill_over(
     answer
 }
 
-// The run of a schedule fills the numbers, which are 0 before it: each line that it runs and each block in the run, and then the lines that
-// it leaves. Refusal 14 is the run's own; a run that does not violate is refused with 16, and then a late line with 17.
+// The run of a schedule fills the numbers, which are 0 before it. Refusal 14 is the run's own; a run that does not violate is refused with 16, and then a late line with 17.
 fn fill_run(case: &[u8], schedule: &[u16], given: &[u16], numbers: &mut [u16]) -> Filled
     requires { ⌜ RunReady (now case) (now schedule) (now given) (now numbers) ⌝ }
     ensures { λ r. ⌜ RunFilled (now (case .entry)) (now (schedule .entry)) r (now (numbers .exit)) ⌝ }
@@ -96,11 +91,9 @@ fn fill_run(case: &[u8], schedule: &[u16], given: &[u16], numbers: &mut [u16]) -
     let lengths = &schedule[..blocks];
     let e = run_case(case, lengths, given, numbers);
     let reply = e.reply;
-    let left = e.threads;
     let Replayed::Violated(_) = reply else {
         return refused_run(reply);
     };
-    put_left(case, left, numbers);
     let late = first_late(case, numbers);
     if late != 0 {
         return refused(17, late);
@@ -123,33 +116,6 @@ fn refused_run(reply: Replayed) -> Filled
         Replayed::Violated(_) => refused(16, 0),
         Replayed::Clean => refused(16, 0),
         Replayed::CutOff(_) => refused(16, 0),
-    }
-}
-
-// The lines that the threads have left were not run.
-fn put_left(case: &[u8], left: [Thread; THREADS], numbers: &mut [u16])
-    requires { ⌜ ThreadsReady (now case) left ⌝ }
-    ensures { λ r. ⌜ now (numbers .exit) ≡ putAllUnrun (caseOf (now (case .entry))) (restsOf (now (case .entry)) left) (now (numbers .entry)) ⌝ }
-{
-    let count = threads(case) as usize;
-    let mut t = 0;
-    while t < count {
-        put_unrun(case, left[t].next, numbers);
-        t += 1;
-    }
-}
-
-// The lines from record k on were not run: each has block number n + 1, and the value of such a line.
-fn put_unrun(case: &[u8], k: usize, numbers: &mut [u16])
-    requires { ⌜ ChainReady (now case) k ⌝ }
-    ensures { λ r. ⌜ ((t : ℕ) → now (numbers .exit) ≡ putUnrun (caseOf (now (case .entry))) (linesFrom (now (case .entry)) t k) (now (numbers .entry))) ⌝ }
-{
-    let block = switches(case) + 1;
-    let mut at = k;
-    while at != 0 {
-        let value = unrun_value(kind_of(case, at));
-        put_record(numbers, at, block, value);
-        at = next_of(case, at);
     }
 }
 

@@ -12,7 +12,7 @@ use Rattle.model.specs.Limits.{mostItems}
 use Rattle.model.specs.Lists.{writtenOver}
 use Rattle.model.specs.CaseFile.{switchCount, caseOf, itemCount}
 use Rattle.model.specs.Accept.{verdict}
-use Rattle.model.specs.Machine.{State, Outcome, refused14, cutOff, violated, clean}
+use Rattle.model.specs.Machine.{Outcome, refused14, cutOff, violated, clean}
 use Rattle.model.specs.Schedule.{runOf}
 use Rattle.model.specs.Answers.{answerOfRun, itemsAfter, afterReplayed, replayed, replayedInto}
 use Rattle.model.specs.declared.Verdict.the-variants as verdicts
@@ -21,7 +21,7 @@ use Rattle.model.specs.declared.Replayed.the-variants.{Violated, Clean, CutOff,
 use Rattle.laws.proofs.OnCase.{on-accepted, on-refused}
 use Rattle.turn.specs.TurnState.{itemsOf}
 use Rattle.run.specs.declared.Ended.{Ended}
-use Rattle.run.specs.Promises.{EndState, Replies}
+use Rattle.run.specs.Promises.{EndItems, Replies}
 use Rattle.schedule_check.specs.Refusals.{Looked}
 use Rattle.schedule_check.proofs.Refusals.{refused-by, passed-by, run-is}
 use Rattle.replayer.specs.Promises.{outcomeIn, Ran, Answered}
@@ -44,12 +44,12 @@ writes-by r r' e w = rw e w
 -- The run, to what is written.
 module _ (bytes lengths givens : List ℕ) (e : Ended) (replies : Replies bytes (outcomeIn bytes lengths givens) e) where
   -- what is left of the run is what is written of it
-  writes : (outcome : Outcome) → EndState bytes outcome (e .threads) (e .items) → (slice : List ℕ)
+  writes : (outcome : Outcome) → EndItems bytes outcome (e .items) → (slice : List ℕ)
       → afterReplayed (answerOfRun outcome) (itemsOf bytes (e .items)) slice ≡ afterReplayed (answerOfRun outcome) (itemsAfter outcome) slice
   writes (refused14 k) left slice = refl
   writes (cutOff k items) left slice = ap (λ (xs : List ℕ). writtenOver xs slice) left
-  writes (violated k s) left slice = ap (λ (x : State). writtenOver (x .items) slice) left
-  writes (clean s) left slice = ap (λ (x : State). writtenOver (x .items) slice) left
+  writes (violated k s) left slice = ap (λ (xs : List ℕ). writtenOver xs slice) left
+  writes (clean s) left slice = ap (λ (xs : List ℕ). writtenOver xs slice) left
 
   pub ends-written : (slice after : List ℕ) (count : ℕ) → count ≡ itemCount (caseOf bytes) → Writes (e .reply)
       → after ≡ writtenOver (take count (e .items)) slice → Ran bytes lengths givens slice (e .reply) after

@@ -2,15 +2,15 @@
 -- Assumes nothing.
 use mathlib.Core.Path.{_≡_, refl, ap, _∙_, subst}
 use Prim.Native.Nat.{ℕ, _≤_}
-use mathlib.Core.Bool.{cond}
+use mathlib.Core.Bool.{Bool, true, false, cond}
 use mathlib.Core.List.{List, []}
 use lib.Dec.{eqb}
 use lib.ListN.{length}
 use borrow.Author.Tests.{eq-eqb, ne-eqb}
 use Rattle.model.specs.Limits.{mostBlocks}
-use Rattle.model.specs.CaseFile.{caseOf}
+use Rattle.model.specs.CaseFile.{Line, caseOf}
 use Rattle.model.specs.Machine.{State, Outcome, refused14, cutOff, violated, clean, firstStrayLeft, ending, runBlocks}
-use Rattle.model.specs.Fill.{putBlocks}
+use Rattle.model.specs.Fill.{putBlocks, putAllUnrun}
 use Rattle.model.specs.declared.Replayed.the-variants.{Violated, Clean, CutOff, Refused}
 use Rattle.laws.proofs.Views.{EqView, same, diff, eq-view}
 use Rattle.turn.specs.declared.Stand.{Stand}
@@ -20,7 +20,7 @@ use Rattle.run.specs.declared.Thread.{Thread}
 use Rattle.run.specs.declared.Shared.{Shared}
 use Rattle.run.specs.declared.Ended.{Ended}
 use Rattle.run.specs.RunState.{restsOf, stateOf}
-use Rattle.run.specs.Promises.{resumed, outcomeFrom, Played, standAfter, lookedAt, outcomeOf, Replies, AtTheEnd}
+use Rattle.run.specs.Promises.{resumed, outcomeFrom, Played, standAfter, lookedAt, outcomeOf, Replies, AtTheEnd, wholeTrace}
 
 module _ (bytes : List ℕ) (threads : List Thread) (shared : Shared) where
   abbrev state : State
@@ -36,20 +36,20 @@ module _ (bytes : List ℕ) (threads : List Thread) (shared : Shared) where
   resumes : (stand : Stand) → shared .stand ≡ stand → outcomeOf bytes threads shared ≡ resumed stand (itemsOf bytes (shared .items)) finished
   resumes stand is = ap (λ (x : Stand). resumed x (itemsOf bytes (shared .items)) finished) is
 
-  pub ends-stray : (k : ℕ) → shared .stand ≡ Strayed k → Ends (record { reply = Refused 14 k; threads = threads; items = shared .items })
+  pub ends-stray : (k : ℕ) → shared .stand ≡ Strayed k → Ends (record { reply = Refused 14 k; items = shared .items })
   ends-stray k is = let o : outcomeOf bytes threads shared ≡ refused14 k = resumes (Strayed k) is in rw o (record { reply = refl; left = tt })
 
-  pub ends-cut : (k : ℕ) → shared .stand ≡ Stopped k → Ends (record { reply = CutOff k; threads = threads; items = shared .items })
+  pub ends-cut : (k : ℕ) → shared .stand ≡ Stopped k → Ends (record { reply = CutOff k; items = shared .items })
   ends-cut k is =
       let o : outcomeOf bytes threads shared ≡ cutOff k (itemsOf bytes (shared .items)) = resumes (Stopped k) is in
       rw o (record { reply = refl; left = refl })
 
-  pub ends-clean : shared .stand ≡ Running → shared .note ≡ 0 → Ends (record { reply = Clean; threads = threads; items = shared .items })
+  pub ends-clean : shared .stand ≡ Running → shared .note ≡ 0 → Ends (record { reply = Clean; items = shared .items })
   ends-clean is zero =
       let o : outcomeOf bytes threads shared ≡ clean state = resumes Running is ∙ rw (eq-eqb (shared .note) 0 zero) in
       rw o (record { reply = refl; left = refl })
 
-  pub ends-violated : shared .stand ≡ Running → (shared .note ≡ 0 → ⊥) → Ends (record { reply = Violated (shared .note); threads = threads; items = shared .items })
+  pub ends-violated : shared .stand ≡ Running → (shared .note ≡ 0 → ⊥) → Ends (record { reply = Violated (shared .note); items = shared .items })
   ends-violated is some =
       let o : outcomeOf bytes threads shared ≡ violated (shared .note) state = resumes Running is ∙ rw (ne-eqb (shared .note) 0 some) in
       rw o (record { reply = refl; left = refl })
@@ -74,26 +74,31 @@ module _ (bytes givens lengths : List ℕ) (threads : List Thread) (shared : Sha
     (trace' : List ℕ) (played : Played bytes givens lengths threads shared trace after moved trace')
   where
     pub comes : (last : Shared) (e : Ended) → last ≡ lookedAt (firstStrayLeft (givenBy givens) (restsOf bytes after)) moved
-        → ((bs : List ℕ) → Replies bs (outcomeOf bs after last) e) → Replies bytes (outcomeFrom bytes givens 0 lengths threads shared) e
+        → ((bs : List ℕ) (ts : List Thread) → Replies bs (outcomeOf bs ts last) e) → Replies bytes (outcomeFrom bytes givens 0 lengths threads shared) e
     comes last e is-last ended =
-        subst (λ (x : Outcome). Replies bytes x e) (ap (outcomeOf bytes after) is-last ∙ looked bytes after moved givens ∙ played .comes) (ended bytes)
+        subst (λ (x : Outcome). Replies bytes x e) (ap (outcomeOf bytes after) is-last ∙ looked bytes after moved givens ∙ played .comes) (ended bytes after)
 
-    abbrev AllPut : Type 0
-    AllPut = trace' ≡ putBlocks (caseOf bytes) (givenBy givens) 0 lengths (stateOf bytes threads (shared .items)) trace
-
-    at-any-end : (outcome : Outcome) → AllPut → AtTheEnd outcome AllPut
-    at-any-end (refused14 k) put = tt
-    at-any-end (cutOff k items) put = tt
-    at-any-end (violated k s) put = put
-    at-any-end (clean s) put = put
-
-    pub traced-at-the-end : length lengths ≤ mostBlocks → AtTheEnd (outcomeFrom bytes givens 0 lengths threads shared) AllPut
-    traced-at-the-end numbered = subst (λ (x : Outcome). AtTheEnd x AllPut) (played .comes) (go (moved .stand) (played .traced numbered))
+    -- The lines that are left have their numbers too.
+    pub traced-at-the-end : (whole : List ℕ) → whole ≡ putAllUnrun (caseOf bytes) (restsOf bytes after) trace' → length lengths ≤ mostBlocks
+        → AtTheEnd (outcomeFrom bytes givens 0 lengths threads shared) (λ left. whole ≡ wholeTrace bytes givens lengths (stateOf bytes threads (shared .items)) trace left)
+    unfolding runBlocks
+    traced-at-the-end whole put numbered = subst (λ (x : Outcome). AtTheEnd x IsWhole) (played .comes) (go (moved .stand) (played .traced numbered))
       where
-        finish : Outcome
-        finish = runBlocks (caseOf bytes) (givenBy givens) 0 [] (stateOf bytes after (moved .items)) (moved .note)
+        IsWhole : List (List Line) → Type 0
+        IsWhole left = whole ≡ wholeTrace bytes givens lengths (stateOf bytes threads (shared .items)) trace left
 
-        go : (stand : Stand) → (stand ≡ Running → AllPut) → AtTheEnd (resumed stand (itemsOf bytes (moved .items)) finish) AllPut
-        go Running put = at-any-end finish (put refl)
-        go (Strayed k) put = tt
-        go (Stopped k) put = tt
+        last : State
+        last = stateOf bytes after (moved .items)
+
+        at-ending : (none-left none : Bool) (note k : ℕ) → IsWhole (last .rests) → AtTheEnd (cond none-left (cond none (clean last) (violated note last)) (refused14 k)) IsWhole
+        at-ending true true note k is = is
+        at-ending true false note k is = is
+        at-ending false none note k is = tt
+
+        go : (stand : Stand) → (stand ≡ Running → trace' ≡ putBlocks (caseOf bytes) (givenBy givens) 0 lengths (stateOf bytes threads (shared .items)) trace)
+            → AtTheEnd (resumed stand (itemsOf bytes (moved .items)) (ending (givenBy givens) (moved .note) last)) IsWhole
+        go Running traced =
+            at-ending (eqb (firstStrayLeft (givenBy givens) (last .rests)) 0) (eqb (moved .note) 0) (moved .note) (firstStrayLeft (givenBy givens) (last .rests))
+            (put ∙ ap (putAllUnrun (caseOf bytes) (restsOf bytes after)) (traced refl))
+        go (Strayed k) traced = tt
+        go (Stopped k) traced = tt

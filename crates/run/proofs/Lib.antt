@@ -5,3 +5,4 @@ pub mod Ends
 pub mod LentAgain
 pub mod WalkValues
 pub mod Looks
+pub mod Unrun

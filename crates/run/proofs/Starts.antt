@@ -11,7 +11,6 @@ use Rattle.model.specs.Limits.{mostThreads, mostItems, localCount}
 use Rattle.model.specs.Lists.{numbersFrom}
 use Rattle.model.specs.CaseFile.{Line, records, threadCount, globalCount, mutexCount, initialValue, chains, caseOf}
 use Rattle.model.specs.Machine.{State, start, Outcome, run, runBlocks}
-use Rattle.model.specs.Fill.{putBlocks}
 use Rattle.laws.specs.Accepted.{Accepted, threadLines, linesFrom}
 use Rattle.laws.proofs.Ranges.{length-numbersFrom}
 use Rattle.case_file.specs.FirstItems.{firstItems}
@@ -20,10 +19,10 @@ use Rattle.run.specs.declared.Thread.{Thread}
 use Rattle.run.specs.declared.Shared.{Shared}
 use Rattle.run.specs.declared.Ended.{Ended}
 use Rattle.run.specs.RunState.{threadAt, listFrom, restAt, stateOf, firstThread, firstThreads, firstShared}
-use Rattle.run.specs.Promises.{RunReady, outcomeFrom, Replies, AtTheEnd}
+use Rattle.run.specs.Promises.{RunReady, outcomeFrom, Replies, AtTheEnd, wholeTrace}
 use Rattle.run.proofs.Runs.{listFrom-same}
 
-take-zeros : (m n : ℕ) → m ≤ n → take {A = ℕ} m (replicate n 0) ≡ replicate m 0
+pub take-zeros : (m n : ℕ) → m ≤ n → take {A = ℕ} m (replicate n 0) ≡ replicate m 0
 take-zeros zero n h = refl
 take-zeros (suc m) zero h = absurd (omega arith)
 take-zeros (suc m) (suc n) h = ap (λ (xs : List ℕ). 0 ∷ xs) (take-zeros m n (omega arith))
@@ -91,11 +90,10 @@ module _ (bytes : List ℕ) where
       run-replies e replies = subst (λ (x : Outcome). Replies bytes x e) comes-from-start replies
 
       pub run-traced : (trace trace' : List ℕ)
-          → AtTheEnd (outcomeFrom bytes givens 0 lengths threads shared)
-          (trace' ≡ putBlocks (caseOf bytes) (givenBy givens) 0 lengths (stateOf bytes threads (shared .items)) trace)
-          → AtTheEnd (run (caseOf bytes) lengths (givenBy givens)) (trace' ≡ putBlocks (caseOf bytes) (givenBy givens) 0 lengths (start (caseOf bytes)) trace)
+          → AtTheEnd (outcomeFrom bytes givens 0 lengths threads shared) (λ left. trace' ≡ wholeTrace bytes givens lengths (stateOf bytes threads (shared .items)) trace left)
+          → AtTheEnd (run (caseOf bytes) lengths (givenBy givens)) (λ left. trace' ≡ wholeTrace bytes givens lengths (start (caseOf bytes)) trace left)
       run-traced trace trace' traced =
           let from-start : stateOf bytes threads (shared .items) ≡ start (caseOf bytes) =
           ap₂ (λ (x : List Thread) (y : Shared). stateOf bytes x (y .items)) are-threads is-shared ∙ state-start in
-          subst (λ (x : State). AtTheEnd (run (caseOf bytes) lengths (givenBy givens)) (trace' ≡ putBlocks (caseOf bytes) (givenBy givens) 0 lengths x trace)) from-start
-          (subst (λ (x : Outcome). AtTheEnd x (trace' ≡ putBlocks (caseOf bytes) (givenBy givens) 0 lengths (stateOf bytes threads (shared .items)) trace)) comes-from-start traced)
+          subst (λ (x : State). AtTheEnd (run (caseOf bytes) lengths (givenBy givens)) (λ left. trace' ≡ wholeTrace bytes givens lengths x trace left)) from-start
+          (subst (λ (x : Outcome). AtTheEnd x (λ left. trace' ≡ wholeTrace bytes givens lengths (stateOf bytes threads (shared .items)) trace left)) comes-from-start traced)

@@ -7,9 +7,9 @@ use mathlib.Core.List.{List, []}
 use lib.Dec.{eqb}
 use lib.ListN.{getD, length, set}
 use Rattle.model.specs.Limits.{mostThreads, mostBlocks, mostItems, mostVariables}
-use Rattle.model.specs.CaseFile.{records, threadCount, caseOf}
-use Rattle.model.specs.Machine.{start, Outcome, refused14, cutOff, violated, clean, runBlocks, run}
-use Rattle.model.specs.Fill.{putItems, putBlocks}
+use Rattle.model.specs.CaseFile.{Line, records, threadCount, caseOf}
+use Rattle.model.specs.Machine.{State, start, Outcome, refused14, cutOff, violated, clean, runBlocks, run}
+use Rattle.model.specs.Fill.{putItems, putBlocks, putAllUnrun}
 use Rattle.model.specs.Answers.{answerOfRun}
 use Rattle.laws.specs.Accepted.{Accepted}
 use Rattle.turn.specs.declared.Stand.{Stand}
@@ -52,6 +52,15 @@ pub record BlockReady (bytes lengths givens : List ℕ) (thread : Thread) (i : �
   pub all-given : records bytes < length givens
   pub within : thread .next ≤ records bytes
   pub is-block : i < length lengths
+
+-- An accepted case, and a record of it, or the end of a chain where k is 0; the same of every thread.
+pub record ChainReady (bytes : List ℕ) (k : ℕ) : Type 0 where
+  pub accepted : Accepted bytes
+  pub within : k ≤ records bytes
+
+pub record ThreadsReady (bytes : List ℕ) (threads : List Thread) : Type 0 where
+  pub accepted : Accepted bytes
+  pub within : (t : ℕ) → t < threadCount bytes → threadAt threads t .next ≤ records bytes
 
 -- So many items, and where their places start.
 pub record ItemsReady (count from : ℕ) : Type 0 where
@@ -111,34 +120,31 @@ outcomeOf bytes threads shared =
     let s = stateOf bytes threads (shared .items) in
     resumed (shared .stand) (itemsOf bytes (shared .items)) (cond (eqb (shared .note) 0) (clean s) (violated (shared .note) s))
 
--- Threads and items at the end of a run with this outcome: they stand for its state; of a run that is cut off, the items do.
-abbrev pub EndState : List ℕ → Outcome → List Thread → List ℕ → Type 0
-EndState bytes (refused14 k) threads items = Unit {0}
-EndState bytes (cutOff k left) threads items = itemsOf bytes items ≡ left
-EndState bytes (violated k s) threads items = stateOf bytes threads items ≡ s
-EndState bytes (clean s) threads items = stateOf bytes threads items ≡ s
+-- The items at the end of a run with this outcome.
+abbrev pub EndItems : List ℕ → Outcome → List ℕ → Type 0
+EndItems bytes (refused14 k) items = Unit {0}
+EndItems bytes (cutOff k left) items = itemsOf bytes items ≡ left
+EndItems bytes (violated k s) items = itemsOf bytes items ≡ s .items
+EndItems bytes (clean s) items = itemsOf bytes items ≡ s .items
 
--- A run that came to this outcome: the reply, and what is left.
+-- A run that came to this outcome: the reply, and the items.
 pub record Replies (bytes : List ℕ) (outcome : Outcome) (e : Ended) : Type 0 where
   pub reply : e .reply ≡ answerOfRun outcome
-  pub left : EndState bytes outcome (e .threads) (e .items)
+  pub left : EndItems bytes outcome (e .items)
 
--- The reply to a run that has come to its end in these threads.
-pub record Closed (threads : List Thread) (shared : Shared) (e : Ended) : Type 0 where
-  pub replies : (bytes : List ℕ) → Replies bytes (outcomeOf bytes threads shared) e
-  pub same : e .threads ≡ threads
+-- What holds of the lines that a run leaves which comes to its last block's end.
+abbrev pub AtTheEnd : Outcome → (List (List Line) → Type 0) → Type 0
+AtTheEnd (refused14 k) holds = Unit {0}
+AtTheEnd (cutOff k items) holds = Unit {0}
+AtTheEnd (violated k s) holds = holds (s .rests)
+AtTheEnd (clean s) holds = holds (s .rests)
 
--- What holds of the trace of a run that comes to its last block's end.
-abbrev pub AtTheEnd : Outcome → Type 0 → Type 0
-AtTheEnd (refused14 k) traced = Unit {0}
-AtTheEnd (cutOff k items) traced = Unit {0}
-AtTheEnd (violated k s) traced = traced
-AtTheEnd (clean s) traced = traced
+-- The trace of a run in blocks with these lengths from a state on, which leaves these lines.
+abbrev pub wholeTrace : List ℕ → List ℕ → List ℕ → State → List ℕ → List (List Line) → List ℕ
+wholeTrace bytes givens lengths s trace left = putAllUnrun (caseOf bytes) left (putBlocks (caseOf bytes) (givenBy givens) 0 lengths s trace)
 
--- The run of a case in blocks with these lengths: its reply, its threads, each at a record or at its end, and its trace, where a case can
--- have as many blocks.
+-- The run of a case in blocks with these lengths: its reply, and its trace, where a case can have as many blocks.
 pub record Traced (bytes givens lengths trace : List ℕ) (e : Ended) (trace' : List ℕ) : Type 0 where
   pub replies : Replies bytes (run (caseOf bytes) lengths (givenBy givens)) e
-  pub within : (t : ℕ) → t < threadCount bytes → threadAt (e .threads) t .next ≤ records bytes
   pub traced : length lengths ≤ mostBlocks
-      → AtTheEnd (run (caseOf bytes) lengths (givenBy givens)) (trace' ≡ putBlocks (caseOf bytes) (givenBy givens) 0 lengths (start (caseOf bytes)) trace)
+      → AtTheEnd (run (caseOf bytes) lengths (givenBy givens)) (λ left. trace' ≡ wholeTrace bytes givens lengths (start (caseOf bytes)) trace left)

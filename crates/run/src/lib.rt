@@ -1,18 +1,20 @@
 // The run of an accepted case: its threads stand in a lent slice, and each block moves one of them.
 ghost use mathlib.Core.Path.{_≡_};
 ghost use Prim.Native.Nat.{ℕ, _%_, _≤_, _<_};
+ghost use mathlib.Core.List.{List};
 ghost use lib.ListN.{set, length, take};
 ghost use lib.Seq.{sets};
 ghost use Rattle.model.specs.Limits.{mostThreads, mostBlocks, headerBytes};
 ghost use Rattle.model.specs.CaseFile.{threadCount, kindOf, caseOf};
 ghost use Rattle.model.specs.Line.{unrunStray};
 ghost use Rattle.model.specs.Machine as machine;
-ghost use Rattle.model.specs.Fill.{putItems};
+ghost use Rattle.model.specs.Fill.{putItems, putUnrun, putAllUnrun};
 ghost use Rattle.laws.specs.Accepted.{Accepted, linesFrom};
 ghost use Rattle.case_file.specs.Present.{InHeader};
 ghost use Rattle.turn.specs.TurnState.{itemsOf, givenBy};
+ghost use Rattle.run.specs.declared.Thread.{Thread};
 ghost use Rattle.run.specs.RunState.{turnOf, restsOf, firstThread, firstThreads, firstShared};
-ghost use Rattle.run.specs.Promises.{AllGiven, BlockReady, RestReady, RunReady, RunAtBlock, ItemsReady, BlockAt, MovedBy, Played, lookedAt, Closed, Traced};
+ghost use Rattle.run.specs.Promises.{AllGiven, BlockReady, RestReady, RunReady, RunAtBlock, ItemsReady, ChainReady, ThreadsReady, BlockAt, MovedBy, Played, lookedAt, outcomeOf, Replies, Traced};
 use model::BLOCKS;
 use model::ITEMS;
 use model::LOCALS;
@@ -46,15 +48,14 @@ pub struct AllMoved {
     pub shared: Shared,
 }
 
-// The reply, and the threads and the items at the run's end.
+// The reply, and the items at the run's end.
 pub struct Ended {
     pub reply: Replayed,
-    pub threads: [Thread; THREADS],
     pub items: [u16; ITEMS],
 }
 
 // The run of a case in blocks with these lengths, from its start. What its lines and its blocks come to goes to their places in the trace,
-// where it has them.
+// where it has them; so do the numbers of the lines that it leaves.
 pub fn run_case(case: &[u8], lengths: &[u16], given: &[u16], trace: &mut [u16]) -> Ended
     requires { ⌜ AllGiven (now case) (now given) ⌝ }
     ensures { λ r. ⌜ Traced (now (case .entry)) (now (given .entry)) (now (lengths .entry)) (now (trace .entry)) r (now (trace .exit)) ⌝ }
@@ -64,7 +65,8 @@ pub fn run_case(case: &[u8], lengths: &[u16], given: &[u16], trace: &mut [u16]) 
     let all = lend(first, case, lengths, given, shared, trace);
     let threads = all.threads;
     let last = look_left(threads, all.shared, case, given);
-    end_of(threads, last)
+    put_left(case, threads, trace);
+    end_of(last)
 }
 
 // The threads where a run starts; an absent thread is at its end.
@@ -334,9 +336,39 @@ fn look_left(threads: [Thread; THREADS], shared: Shared, case: &[u8], given: &[u
     }
 }
 
+// The lines from record k on were not run: each has block number n + 1, and the value of such a line.
+fn put_unrun(case: &[u8], k: usize, trace: &mut [u16])
+    requires { ⌜ ChainReady (now case) k ⌝ }
+    ensures { λ r. ⌜ ((t : ℕ) → now (trace .exit) ≡ putUnrun (caseOf (now (case .entry))) (linesFrom (now (case .entry)) t k) (now (trace .entry))) ⌝ }
+{
+    let block = case_file::switches(case) + 1;
+    let mut at = k;
+    while at != 0 {
+        let value = line::unrun_value(case_file::kind_of(case, at));
+        turn::put_record(trace, at, block, value);
+        at = case_file::next_of(case, at);
+    }
+}
+
+// The lines that the threads have left were not run; a trace without a place for any is left alone.
+fn put_left(case: &[u8], ts: [Thread; THREADS], trace: &mut [u16])
+    requires { ⌜ ThreadsReady (now case) ts ⌝ }
+    ensures { λ r. ⌜ now (trace .exit) ≡ putAllUnrun (caseOf (now (case .entry))) (restsOf (now (case .entry)) ts) (now (trace .entry)) ⌝ }
+{
+    if trace.len() == 0 {
+        return;
+    }
+    let count = case_file::threads(case) as usize;
+    let mut t = 0;
+    while t < count {
+        put_unrun(case, ts[t].next, trace);
+        t += 1;
+    }
+}
+
 // What a run has come to.
-fn end_of(threads: [Thread; THREADS], shared: Shared) -> Ended
-    ensures { λ r. ⌜ Closed threads shared r ⌝ }
+fn end_of(shared: Shared) -> Ended
+    ensures { λ r. ⌜ ((bytes : List ℕ) (threads : List Thread) → Replies bytes (outcomeOf bytes threads shared) r) ⌝ }
 {
     let items = shared.items;
     let stand = shared.stand;
@@ -347,34 +379,18 @@ fn end_of(threads: [Thread; THREADS], shared: Shared) -> Ended
                 number: 14,
                 place: k,
             };
-            return Ended {
-                reply,
-                threads,
-                items,
-            };
+            return Ended { reply, items };
         }
         Stand::Stopped(k) => {
             let reply = Replayed::CutOff(k);
-            return Ended {
-                reply,
-                threads,
-                items,
-            };
+            return Ended { reply, items };
         }
     }
     let note = shared.note;
     if note == 0 {
         let reply = Replayed::Clean;
-        return Ended {
-            reply,
-            threads,
-            items,
-        };
+        return Ended { reply, items };
     }
     let reply = Replayed::Violated(note);
-    Ended {
-        reply,
-        threads,
-        items,
-    }
+    Ended { reply, items }
 }

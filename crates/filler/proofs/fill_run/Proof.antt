@@ -40,10 +40,7 @@ same-length : tie.Need-same-length
 same-length c = search needs
 
 returns : tie.Need-returns
-returns c = run-refused (c .before .before .before .before .before .before .before .before .before .before .before .before .before .before .pre) (c .before .before .before .before .before .before .before .before .switches .ensures) (c .before .before .before .before .before .run-case .ensures) (c .refused-run .ensures) (λ k e. ⊎-elim (λ z. omega (arith, z)) (⊎-elim (λ z. omega (arith, z)) (λ z. omega (arith, z))) (rw e at (c .before .match .keys2))) _
-
-put-left-requires : tie.Need-put-left-requires
-put-left-requires c κs = record { accepted = c .before .before .before .before .before .before .before .before .before .before .before .before .before .before .before .pre .accepted; within = c .before .before .before .before .before .before .run-case .ensures .within }
+returns c = run-refused (c .before .before .before .before .before .before .before .before .before .before .before .before .before .pre) (c .before .before .before .before .before .before .before .switches .ensures) (c .before .before .before .before .run-case .ensures) (c .refused-run .ensures) (λ k e. ⊎-elim (λ z. omega (arith, z)) (⊎-elim (λ z. omega (arith, z)) (λ z. omega (arith, z))) (rw e at (c .before .match .keys2)))
 
 first-late-requires : tie.Need-first-late-requires
 first-late-requires c κs = search needs
@@ -55,13 +52,13 @@ same-length-2 : tie.Need-same-length-2
 same-length-2 c = search needs
 
 returns-2 : tie.Need-returns-2
-returns-2 c = rw (c .refused .ensures) (run-late (c .before .before .before .before .before .before .before .before .before .before .before .before .before .before .before .before .before .before .before .before .before .before .pre) (c .before .before .before .before .before .before .before .before .before .before .before .before .before .before .before .before .switches .ensures) (c .before .before .before .before .before .before .before .before .before .before .before .before .before .run-case .ensures) (c .before .before .before .before .before .before .before .before .enum-told .given .1) (c .before .before .before .before .before .before .put-left .ensures) (c .before .before .first-late .ensures) (c .before .if1 .taken))
+returns-2 c = rw (c .refused .ensures) (run-late (c .before .before .before .before .before .before .before .before .before .before .before .before .before .before .before .before .before .pre) (c .before .before .before .before .before .before .before .before .before .before .before .switches .ensures) (c .before .before .before .before .before .before .before .before .run-case .ensures) (c .before .before .before .before .enum-told .given .1) (c .before .before .first-late .ensures) (c .before .if1 .taken))
 
 same-length-3 : tie.Need-same-length-3
 same-length-3 c = search needs
 
 returns-3 : tie.Need-returns-3
-returns-3 c = run-fills (c .before .before .before .before .before .before .before .before .before .before .before .before .before .before .before .before .before .before .before .before .before .pre) (c .before .before .before .before .before .before .before .before .before .before .before .before .before .before .before .switches .ensures) (c .before .before .before .before .before .before .before .before .before .before .before .before .run-case .ensures) (c .before .before .before .before .before .before .before .enum-told .given .1) (c .before .before .before .before .before .put-left .ensures) (c .before .first-late .ensures) (c .if1 .left) (c .before .before .before .before .before .before .before .before .before .before .before .before .before .before .before .before .variables .ensures .is)
+returns-3 c = run-fills (c .before .before .before .before .before .before .before .before .before .before .before .before .before .before .before .before .pre) (c .before .before .before .before .before .before .before .before .before .before .switches .ensures) (c .before .before .before .before .before .before .before .run-case .ensures) (c .before .before .before .enum-told .given .1) (c .before .first-late .ensures) (c .if1 .left) (c .before .before .before .before .before .before .before .before .before .before .before .variables .ensures .is)
 
 pub fill-run-spec : {M : Type 1} → statement M
 fill-run-spec =
@@ -78,7 +75,6 @@ fill-run-spec =
     refused-run-requires
     same-length
     returns
-    put-left-requires
     first-late-requires
     refused-requires
     same-length-2

@@ -17,6 +17,9 @@ lend-requires c κs = rw (c .before .before .first-threads .ensures) (ready-star
 look-left-requires : tie.Need-look-left-requires
 look-left-requires c κs = search needs
 
+put-left-requires : tie.Need-put-left-requires
+put-left-requires c κs = record { accepted = c .before .before .before .before .before .before .before .before .before .before .before .before .before .pre .accepted; within = c .before .before .before .before .before .lend .ensures .ready .within }
+
 end-of-requires : tie.Need-end-of-requires
 end-of-requires c κs = search needs
 
@@ -25,16 +28,11 @@ same-length c = search needs
 
 returns : tie.Need-returns
 returns c =
-    let ran = c .before .before .before .before .before in
-    let shared = ran .before .before in
-    let threads = shared .before in
-    let entry = threads .before .before .before .before .before in
     record {
-      replies = run-replies _ (entry .pre .accepted) (entry .args .given .now) (entry .args .lengths .now) _ _ (threads .first-threads .ensures) (shared .first-shared .ensures) _
-          (comes _ _ _ _ _ _ _ _ _ (ran .lend .ensures) _ _ (c .before .look-left .ensures) (c .end-of .ensures .replies));
-      within = rw (c .end-of .ensures .same) (ran .lend .ensures .ready .within);
-      traced = λ numbered. run-traced _ (entry .pre .accepted) (entry .args .given .now) (entry .args .lengths .now) _ _ (threads .first-threads .ensures) (shared .first-shared .ensures) _ _
-          (traced-at-the-end _ _ _ _ _ _ _ _ _ (ran .lend .ensures) numbered);
+      replies = run-replies _ (c .before .before .before .before .before .before .before .before .before .before .before .before .before .before .before .before .before .pre .accepted) (c .before .before .before .before .before .before .before .before .before .before .before .before .before .before .before .before .before .args .given .now) (c .before .before .before .before .before .before .before .before .before .before .before .before .before .before .before .before .before .args .lengths .now) _ _ (c .before .before .before .before .before .before .before .before .before .before .before .before .first-threads .ensures) (c .before .before .before .before .before .before .before .before .before .before .before .first-shared .ensures) _
+          (comes _ _ _ _ _ _ _ _ _ (c .before .before .before .before .before .before .before .before .before .lend .ensures) _ _ (c .before .before .before .before .before .look-left .ensures) (c .end-of .ensures));
+      traced = λ few. run-traced _ (c .before .before .before .before .before .before .before .before .before .before .before .before .before .before .before .before .before .pre .accepted) (c .before .before .before .before .before .before .before .before .before .before .before .before .before .before .before .before .before .args .given .now) (c .before .before .before .before .before .before .before .before .before .before .before .before .before .before .before .before .before .args .lengths .now) _ _ (c .before .before .before .before .before .before .before .before .before .before .before .before .first-threads .ensures) (c .before .before .before .before .before .before .before .before .before .before .before .first-shared .ensures) _ _
+          (traced-at-the-end _ _ _ _ _ _ _ _ _ (c .before .before .before .before .before .before .before .before .before .lend .ensures) _ (c .before .before .before .put-left .ensures) few);
     }
 
 pub run-case-spec : {M : Type 1} → statement M
@@ -45,6 +43,7 @@ run-case-spec =
     first-shared-requires
     lend-requires
     look-left-requires
+    put-left-requires
     end-of-requires
     same-length
     returns)

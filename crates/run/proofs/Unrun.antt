@@ -3,18 +3,18 @@
 use mathlib.Core.Path.{_≡_, refl, sym, ap, _∙_}
 use mathlib.Core.Logic.{_≢_}
 use Prim.Native.Nat.{ℕ, suc, _+_, _-_, _≤_, _<_}
-use mathlib.Core.List.{List}
+use mathlib.Core.List.{List, [], _∷_}
 use native.Mathlib.Omega.{arith}
 use lib.ListN.{set, length, length-set}
-use Rattle.model.specs.CaseFile.{Line, records, threadCount, switchCount, nextRecord, recordField, kindOf, caseOf}
+use Rattle.model.specs.CaseFile.{Line, Case, records, threadCount, switchCount, nextRecord, recordField, kindOf, caseOf}
 use Rattle.model.specs.Line.{unrunValue}
 use Rattle.model.specs.Assignment.{blockPlace, valuePlace}
 use Rattle.model.specs.Fill.{putRecord, putUnrun, putAllUnrun}
 use Rattle.laws.specs.Accepted.{linesFrom}
 use Rattle.laws.proofs.Following.{lines-end, lines-more, next-low}
 use Rattle.run.specs.declared.Thread.{Thread}
 use Rattle.run.specs.RunState.{threadAt, listFrom, restAt, restsOf}
-use Rattle.filler.specs.Ready.{ChainReady, ThreadsReady}
+use Rattle.run.specs.Promises.{ChainReady, ThreadsReady}
 
 pub length-put-record : (k block value : ℕ) (xs : List ℕ) → length (putRecord k block value xs) ≡ length xs
 length-put-record k block value xs = length-set (set xs (blockPlace k) block) (valuePlace k) value ∙ length-set xs (blockPlace k) block
@@ -77,3 +77,16 @@ module _ {bytes : List ℕ} {threads : List Thread} (ready : ThreadsReady bytes 
           does = rw next (ap (putAllUnrun (caseOf bytes) (listFrom (restAt bytes threads) (suc t) (threadCount bytes - suc t))) (put t)
               ∙ sym (ap (λ (x : ℕ). putAllUnrun (caseOf bytes) (listFrom (restAt bytes threads) t x) xs) less) ∙ v .does);
         }
+
+-- A trace of no numbers stays one.
+none-put : (case : Case) (ls : List Line) → putUnrun case ls [] ≡ []
+none-put case [] = refl
+none-put case (l ∷ ls) = none-put case ls
+
+all-none-put : (case : Case) (rests : List (List Line)) → putAllUnrun case rests [] ≡ []
+all-none-put case [] = refl
+all-none-put case (ls ∷ rests) = ap (putAllUnrun case rests) (none-put case ls) ∙ all-none-put case rests
+
+pub nothing-put : (bytes : List ℕ) (threads : List Thread) (xs : List ℕ) → length xs ≡ 0 → xs ≡ putAllUnrun (caseOf bytes) (restsOf bytes threads) xs
+nothing-put bytes threads [] none = sym (all-none-put (caseOf bytes) (restsOf bytes threads))
+nothing-put bytes threads (x ∷ xs) none = absurd (omega (arith, none))

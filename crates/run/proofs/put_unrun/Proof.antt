@@ -1,17 +1,17 @@
--- `filler::put_unrun` meets its contract. The invariant: the lines that are left decide. Assumes nothing.
+-- `run::put_unrun` meets its contract. The invariant: the lines that are left decide. Assumes nothing.
 use lib.ListN.{length}
 use Rattle.laws.specs.Accepted.{linesFrom}
 use Rattle.laws.proofs.Following.{lines-less}
-use Rattle.filler.proofs.Unrun.{Leaving, leaving-start, leaving-more, leaving-end}
+use Rattle.run.proofs.Unrun.{Leaving, leaving-start, leaving-more, leaving-end}
 use borrow.Author.Needs.{needs}
-use Rattle.filler.proofs.put_unrun.Statement.{statement}
-use Rattle.filler.proofs.put_unrun.Tie as tie
+use Rattle.run.proofs.put_unrun.Statement.{statement}
+use Rattle.run.proofs.put_unrun.Tie as tie
 
 abbrev Inv-loop : tie.InvT-loop
-Inv-loop case k numbers₀ block at₀ numbers at = Leaving case k numbers₀ at numbers
+Inv-loop case k trace₀ block at₀ trace at = Leaving case k trace₀ at trace
 
 abbrev μ-loop : tie.MeasureT-loop
-μ-loop case k numbers₀ block at₀ numbers at = length (linesFrom case 0 at)
+μ-loop case k trace₀ block at₀ trace at = length (linesFrom case 0 at)
 
 switches-requires : tie.Need-switches-requires Inv-loop μ-loop
 switches-requires c κs = search needs
