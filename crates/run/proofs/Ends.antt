@@ -79,10 +79,10 @@ module _ (bytes givens lengths : List ℕ) (threads : List Thread) (shared : Sha
         subst (λ (x : Outcome). Replies bytes x e) (ap (outcomeOf bytes after) is-last ∙ looked bytes after moved givens ∙ played .comes) (ended bytes after)
 
     -- The lines that are left have their numbers too.
-    pub traced-at-the-end : (whole : List ℕ) → whole ≡ putAllUnrun (caseOf bytes) (restsOf bytes after) trace' → length lengths ≤ mostBlocks
+    pub traced-at-the-end : (whole : List ℕ) → (moved .stand ≡ Running → whole ≡ putAllUnrun (caseOf bytes) (restsOf bytes after) trace') → length lengths ≤ mostBlocks
         → AtTheEnd (outcomeFrom bytes givens 0 lengths threads shared) (λ left. whole ≡ wholeTrace bytes givens lengths (stateOf bytes threads (shared .items)) trace left)
     unfolding runBlocks
-    traced-at-the-end whole put numbered = subst (λ (x : Outcome). AtTheEnd x IsWhole) (played .comes) (go (moved .stand) (played .traced numbered))
+    traced-at-the-end whole put numbered = subst (λ (x : Outcome). AtTheEnd x IsWhole) (played .comes) (go (moved .stand) put (played .traced numbered))
       where
         IsWhole : List (List Line) → Type 0
         IsWhole left = whole ≡ wholeTrace bytes givens lengths (stateOf bytes threads (shared .items)) trace left
@@ -95,10 +95,10 @@ module _ (bytes givens lengths : List ℕ) (threads : List Thread) (shared : Sha
         at-ending true false note k is = is
         at-ending false none note k is = tt
 
-        go : (stand : Stand) → (stand ≡ Running → trace' ≡ putBlocks (caseOf bytes) (givenBy givens) 0 lengths (stateOf bytes threads (shared .items)) trace)
+        go : (stand : Stand) → (stand ≡ Running → whole ≡ putAllUnrun (caseOf bytes) (restsOf bytes after) trace') → (stand ≡ Running → trace' ≡ putBlocks (caseOf bytes) (givenBy givens) 0 lengths (stateOf bytes threads (shared .items)) trace)
             → AtTheEnd (resumed stand (itemsOf bytes (moved .items)) (ending (givenBy givens) (moved .note) last)) IsWhole
-        go Running traced =
+        go Running left traced =
             at-ending (eqb (firstStrayLeft (givenBy givens) (last .rests)) 0) (eqb (moved .note) 0) (moved .note) (firstStrayLeft (givenBy givens) (last .rests))
-            (put ∙ ap (putAllUnrun (caseOf bytes) (restsOf bytes after)) (traced refl))
-        go (Strayed k) traced = tt
-        go (Stopped k) traced = tt
+            (left refl ∙ ap (putAllUnrun (caseOf bytes) (restsOf bytes after)) (traced refl))
+        go (Strayed k) left traced = tt
+        go (Stopped k) left traced = tt

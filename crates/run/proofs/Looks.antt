@@ -16,7 +16,7 @@ use Rattle.laws.specs.Accepted.{linesFrom}
 use Rattle.laws.proofs.Following.{lines-end, lines-more, next-low}
 use Rattle.line.proofs.KindNumbers.{kind-4, input-other}
 use Rattle.turn.specs.declared.Stand.{Stand}
-use Rattle.turn.specs.declared.Stand.the-variants.{Running, Strayed}
+use Rattle.turn.specs.declared.Stand.the-variants.{Running, Strayed, Stopped}
 use Rattle.turn.specs.TurnState.{givenBy}
 use Rattle.run.specs.declared.Thread.{Thread}
 use Rattle.run.specs.declared.Shared.{Shared}
@@ -106,3 +106,10 @@ module _ (stray : ℕ) (shared : Shared) where
 
     pub some-left : found ≢ 0 → Strayed found ≡ standAfter stray Running
     some-left some = rw (ne-eqb stray 0 (λ e. some (is-found ∙ e))) (ap Strayed is-found)
+
+-- A run that has ended does not go on.
+pub never-strayed : {P : Type 0} {stand : Stand} {k : ℕ} → stand ≡ Strayed k → stand ≡ Running → P
+never-strayed {P} {stand} {k} ended runs = absurd (let e : Running ≡ Strayed k = sym runs ∙ ended in let z : _≡_ {A = ℕ} 0 1 = cc in omega arith)
+
+pub never-stopped : {P : Type 0} {stand : Stand} {k : ℕ} → stand ≡ Stopped k → stand ≡ Running → P
+never-stopped {P} {stand} {k} ended runs = absurd (let e : Running ≡ Stopped k = sym runs ∙ ended in let z : _≡_ {A = ℕ} 0 1 = cc in omega arith)

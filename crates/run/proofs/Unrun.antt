@@ -14,7 +14,7 @@ use Rattle.laws.specs.Accepted.{linesFrom}
 use Rattle.laws.proofs.Following.{lines-end, lines-more, next-low}
 use Rattle.run.specs.declared.Thread.{Thread}
 use Rattle.run.specs.RunState.{threadAt, listFrom, restAt, restsOf}
-use Rattle.run.specs.Promises.{ChainReady, ThreadsReady}
+use Rattle.run.specs.Promises.{ChainReady}
 
 pub length-put-record : (k block value : ℕ) (xs : List ℕ) → length (putRecord k block value xs) ≡ length xs
 length-put-record k block value xs = length-set (set xs (blockPlace k) block) (valuePlace k) value ∙ length-set xs (blockPlace k) block
@@ -53,7 +53,7 @@ pub record LeavingAll (bytes : List ℕ) (threads : List Thread) (xs₀ : List �
   pub size : length xs ≡ length xs₀
   pub does : putAllUnrun (caseOf bytes) (listFrom (restAt bytes threads) t (threadCount bytes - t)) xs ≡ putAllUnrun (caseOf bytes) (restsOf bytes threads) xs₀
 
-module _ {bytes : List ℕ} {threads : List Thread} (ready : ThreadsReady bytes threads) (xs₀ : List ℕ) where
+module _ {bytes : List ℕ} {threads : List Thread} (xs₀ : List ℕ) where
   pub all-start : LeavingAll bytes threads xs₀ 0 xs₀
   all-start =
       let all : threadCount bytes - 0 ≡ threadCount bytes = omega arith in
@@ -83,10 +83,6 @@ none-put : (case : Case) (ls : List Line) → putUnrun case ls [] ≡ []
 none-put case [] = refl
 none-put case (l ∷ ls) = none-put case ls
 
-all-none-put : (case : Case) (rests : List (List Line)) → putAllUnrun case rests [] ≡ []
-all-none-put case [] = refl
-all-none-put case (ls ∷ rests) = ap (putAllUnrun case rests) (none-put case ls) ∙ all-none-put case rests
-
-pub nothing-put : (bytes : List ℕ) (threads : List Thread) (xs : List ℕ) → length xs ≡ 0 → xs ≡ putAllUnrun (caseOf bytes) (restsOf bytes threads) xs
-nothing-put bytes threads [] none = sym (all-none-put (caseOf bytes) (restsOf bytes threads))
-nothing-put bytes threads (x ∷ xs) none = absurd (omega (arith, none))
+pub nothing-put : (bytes : List ℕ) (k : ℕ) (xs : List ℕ) → length xs ≡ 0 → (t : ℕ) → xs ≡ putUnrun (caseOf bytes) (linesFrom bytes t k) xs
+nothing-put bytes k [] none t = sym (none-put (caseOf bytes) (linesFrom bytes t k))
+nothing-put bytes k (x ∷ xs) none t = absurd (omega (arith, none))

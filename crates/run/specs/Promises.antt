@@ -8,7 +8,7 @@ use lib.Dec.{eqb}
 use lib.ListN.{getD, length, set}
 use Rattle.model.specs.Limits.{mostThreads, mostBlocks, mostItems, mostVariables}
 use Rattle.model.specs.CaseFile.{Line, records, threadCount, caseOf}
-use Rattle.model.specs.Machine.{State, start, Outcome, refused14, cutOff, violated, clean, runBlocks, run}
+use Rattle.model.specs.Machine.{State, start, Outcome, refused14, cutOff, violated, clean, firstStrayLeft, runBlocks, run}
 use Rattle.model.specs.Fill.{putItems, putBlocks, putAllUnrun}
 use Rattle.model.specs.Answers.{answerOfRun}
 use Rattle.laws.specs.Accepted.{Accepted}
@@ -21,7 +21,7 @@ use Rattle.run.specs.declared.Thread.{Thread}
 use Rattle.run.specs.declared.Shared.{Shared}
 use Rattle.run.specs.declared.Moved.{Moved}
 use Rattle.run.specs.declared.Ended.{Ended}
-use Rattle.run.specs.RunState.{threadAt, turnOf, turnAt, stateOf}
+use Rattle.run.specs.RunState.{threadAt, turnOf, turnAt, restsOf, stateOf}
 
 -- The case is accepted, and each of its records is given a value.
 pub record AllGiven (bytes givens : List ℕ) : Type 0 where
@@ -53,14 +53,10 @@ pub record BlockReady (bytes lengths givens : List ℕ) (thread : Thread) (i : �
   pub within : thread .next ≤ records bytes
   pub is-block : i < length lengths
 
--- An accepted case, and a record of it, or the end of a chain where k is 0; the same of every thread.
+-- An accepted case, and a record of it, or the end of a chain where k is 0.
 pub record ChainReady (bytes : List ℕ) (k : ℕ) : Type 0 where
   pub accepted : Accepted bytes
   pub within : k ≤ records bytes
-
-pub record ThreadsReady (bytes : List ℕ) (threads : List Thread) : Type 0 where
-  pub accepted : Accepted bytes
-  pub within : (t : ℕ) → t < threadCount bytes → threadAt threads t .next ≤ records bytes
 
 -- So many items, and where their places start.
 pub record ItemsReady (count from : ℕ) : Type 0 where
@@ -113,6 +109,16 @@ standAfter stray (Stopped k) = Stopped k
 
 abbrev pub lookedAt : ℕ → Shared → Shared
 lookedAt stray shared = record { items = shared .items; stand = standAfter stray (shared .stand); note = shared .note }
+
+-- The lines that the threads have left have been looked at: the first record that strays among them, and their numbers in the trace.
+pub record LeftSeen (bytes givens : List ℕ) (threads : List Thread) (trace : List ℕ) (r : ℕ) (trace' : List ℕ) : Type 0 where
+  pub found : r ≡ firstStrayLeft (givenBy givens) (restsOf bytes threads)
+  pub put : trace' ≡ putAllUnrun (caseOf bytes) (restsOf bytes threads) trace
+
+-- The same after the last step of a run, if it still goes on.
+pub record LeftLooked (bytes givens : List ℕ) (threads : List Thread) (shared : Shared) (trace : List ℕ) (r : Shared) (trace' : List ℕ) : Type 0 where
+  pub looks : r ≡ lookedAt (firstStrayLeft (givenBy givens) (restsOf bytes threads)) shared
+  pub put : shared .stand ≡ Running → trace' ≡ putAllUnrun (caseOf bytes) (restsOf bytes threads) trace
 
 -- What a run has come to, when the lines that are left have been looked at.
 abbrev pub outcomeOf : List ℕ → List Thread → Shared → Outcome

@@ -8,13 +8,13 @@ ghost use Rattle.model.specs.Limits.{mostThreads, mostBlocks, headerBytes};
 ghost use Rattle.model.specs.CaseFile.{threadCount, kindOf, caseOf};
 ghost use Rattle.model.specs.Line.{unrunStray};
 ghost use Rattle.model.specs.Machine as machine;
-ghost use Rattle.model.specs.Fill.{putItems, putUnrun, putAllUnrun};
+ghost use Rattle.model.specs.Fill.{putItems, putUnrun};
 ghost use Rattle.laws.specs.Accepted.{Accepted, linesFrom};
 ghost use Rattle.case_file.specs.Present.{InHeader};
 ghost use Rattle.turn.specs.TurnState.{itemsOf, givenBy};
 ghost use Rattle.run.specs.declared.Thread.{Thread};
 ghost use Rattle.run.specs.RunState.{turnOf, restsOf, firstThread, firstThreads, firstShared};
-ghost use Rattle.run.specs.Promises.{AllGiven, BlockReady, RestReady, RunReady, RunAtBlock, ItemsReady, ChainReady, ThreadsReady, BlockAt, MovedBy, Played, lookedAt, outcomeOf, Replies, Traced};
+ghost use Rattle.run.specs.Promises.{AllGiven, BlockReady, RestReady, RunReady, RunAtBlock, ItemsReady, ChainReady, BlockAt, MovedBy, Played, LeftSeen, LeftLooked, outcomeOf, Replies, Traced};
 use model::BLOCKS;
 use model::ITEMS;
 use model::LOCALS;
@@ -64,8 +64,7 @@ pub fn run_case(case: &[u8], lengths: &[u16], given: &[u16], trace: &mut [u16]) 
     let shared = first_shared(case);
     let all = lend(first, case, lengths, given, shared, trace);
     let threads = all.threads;
-    let last = look_left(threads, all.shared, case, given);
-    put_left(case, threads, trace);
+    let last = look_left(threads, all.shared, case, given, trace);
     end_of(last)
 }
 
@@ -294,13 +293,41 @@ fn stray_left(case: &[u8], given: &[u16], k: usize, others: u16) -> u16
     others
 }
 
-// The first that strays among the lines that all threads have left; 0 if there is none. The threads are looked at from the last
-// to the first, so that the earliest decides.
-fn first_stray_left(threads: [Thread; THREADS], case: &[u8], given: &[u16]) -> u16
-    requires { ⌜ RunReady (now case) (now given) threads ⌝ }
-    ensures { λ r. ⌜ r ≡ machine.firstStrayLeft (givenBy (now (given .entry))) (restsOf (now (case .entry)) threads) ⌝ }
+// The lines from record k on were not run: each has block number n + 1, and the value of such a line. A trace of no numbers stays one.
+fn put_unrun(case: &[u8], k: usize, trace: &mut [u16])
+    requires { ⌜ ChainReady (now case) k ⌝ }
+    ensures { λ r. ⌜ ((t : ℕ) → now (trace .exit) ≡ putUnrun (caseOf (now (case .entry))) (linesFrom (now (case .entry)) t k) (now (trace .entry))) ⌝ }
 {
-    let mut t = case_file::threads(case) as usize;
+    if trace.len() == 0 {
+        return;
+    }
+    let block = case_file::switches(case) + 1;
+    let mut at = k;
+    while at != 0 {
+        let value = line::unrun_value(case_file::kind_of(case, at));
+        turn::put_record(trace, at, block, value);
+        at = case_file::next_of(case, at);
+    }
+}
+
+// The first that strays among the lines that all threads have left; 0 if there is none. The threads are looked at from the last
+// to the first, so that the earliest decides. These lines were not run, and have their numbers in the trace.
+fn first_stray_left(
+    threads: [Thread; THREADS],
+    case: &[u8],
+    given: &[u16],
+    trace: &mut [u16],
+) -> u16
+    requires { ⌜ RunReady (now case) (now given) threads ⌝ }
+    ensures { λ r. ⌜ LeftSeen (now (case .entry)) (now (given .entry)) threads (now (trace .entry)) r (now (trace .exit)) ⌝ }
+{
+    let count = case_file::threads(case) as usize;
+    let mut u = 0;
+    while u < count {
+        put_unrun(case, threads[u].next, trace);
+        u += 1;
+    }
+    let mut t = count;
     let mut found = 0;
     while 0 < t {
         t -= 1;
@@ -310,9 +337,15 @@ fn first_stray_left(threads: [Thread; THREADS], case: &[u8], given: &[u16]) -> u
 }
 
 // What the threads share after the last step: the run strays where an unrun input does, unless it has ended before.
-fn look_left(threads: [Thread; THREADS], shared: Shared, case: &[u8], given: &[u16]) -> Shared
+fn look_left(
+    threads: [Thread; THREADS],
+    shared: Shared,
+    case: &[u8],
+    given: &[u16],
+    trace: &mut [u16],
+) -> Shared
     requires { ⌜ RunReady (now case) (now given) threads ⌝ }
-    ensures { λ r. ⌜ r ≡ lookedAt (machine.firstStrayLeft (givenBy (now (given .entry))) (restsOf (now (case .entry)) threads)) shared ⌝ }
+    ensures { λ r. ⌜ LeftLooked (now (case .entry)) (now (given .entry)) threads shared (now (trace .entry)) r (now (trace .exit)) ⌝ }
 {
     let stand = shared.stand;
     match stand {
@@ -324,7 +357,7 @@ fn look_left(threads: [Thread; THREADS], shared: Shared, case: &[u8], given: &[u
             return shared;
         }
     }
-    let found = first_stray_left(threads, case, given);
+    let found = first_stray_left(threads, case, given, trace);
     if found == 0 {
         return shared;
     }
@@ -333,36 +366,6 @@ fn look_left(threads: [Thread; THREADS], shared: Shared, case: &[u8], given: &[u
         items,
         stand: Stand::Strayed(found),
         note: shared.note,
-    }
-}
-
-// The lines from record k on were not run: each has block number n + 1, and the value of such a line.
-fn put_unrun(case: &[u8], k: usize, trace: &mut [u16])
-    requires { ⌜ ChainReady (now case) k ⌝ }
-    ensures { λ r. ⌜ ((t : ℕ) → now (trace .exit) ≡ putUnrun (caseOf (now (case .entry))) (linesFrom (now (case .entry)) t k) (now (trace .entry))) ⌝ }
-{
-    let block = case_file::switches(case) + 1;
-    let mut at = k;
-    while at != 0 {
-        let value = line::unrun_value(case_file::kind_of(case, at));
-        turn::put_record(trace, at, block, value);
-        at = case_file::next_of(case, at);
-    }
-}
-
-// The lines that the threads have left were not run; a trace without a place for any is left alone.
-fn put_left(case: &[u8], ts: [Thread; THREADS], trace: &mut [u16])
-    requires { ⌜ ThreadsReady (now case) ts ⌝ }
-    ensures { λ r. ⌜ now (trace .exit) ≡ putAllUnrun (caseOf (now (case .entry))) (restsOf (now (case .entry)) ts) (now (trace .entry)) ⌝ }
-{
-    if trace.len() == 0 {
-        return;
-    }
-    let count = case_file::threads(case) as usize;
-    let mut t = 0;
-    while t < count {
-        put_unrun(case, ts[t].next, trace);
-        t += 1;
     }
 }
 

@@ -17,9 +17,6 @@ lend-requires c κs = rw (c .before .before .first-threads .ensures) (ready-star
 look-left-requires : tie.Need-look-left-requires
 look-left-requires c κs = search needs
 
-put-left-requires : tie.Need-put-left-requires
-put-left-requires c κs = record { accepted = c .before .before .before .before .before .before .before .before .before .before .before .before .before .pre .accepted; within = c .before .before .before .before .before .lend .ensures .ready .within }
-
 end-of-requires : tie.Need-end-of-requires
 end-of-requires c κs = search needs
 
@@ -29,10 +26,10 @@ same-length c = search needs
 returns : tie.Need-returns
 returns c =
     record {
-      replies = run-replies _ (c .before .before .before .before .before .before .before .before .before .before .before .before .before .before .before .before .before .pre .accepted) (c .before .before .before .before .before .before .before .before .before .before .before .before .before .before .before .before .before .args .given .now) (c .before .before .before .before .before .before .before .before .before .before .before .before .before .before .before .before .before .args .lengths .now) _ _ (c .before .before .before .before .before .before .before .before .before .before .before .before .first-threads .ensures) (c .before .before .before .before .before .before .before .before .before .before .before .first-shared .ensures) _
-          (comes _ _ _ _ _ _ _ _ _ (c .before .before .before .before .before .before .before .before .before .lend .ensures) _ _ (c .before .before .before .before .before .look-left .ensures) (c .end-of .ensures));
-      traced = λ few. run-traced _ (c .before .before .before .before .before .before .before .before .before .before .before .before .before .before .before .before .before .pre .accepted) (c .before .before .before .before .before .before .before .before .before .before .before .before .before .before .before .before .before .args .given .now) (c .before .before .before .before .before .before .before .before .before .before .before .before .before .before .before .before .before .args .lengths .now) _ _ (c .before .before .before .before .before .before .before .before .before .before .before .before .first-threads .ensures) (c .before .before .before .before .before .before .before .before .before .before .before .first-shared .ensures) _ _
-          (traced-at-the-end _ _ _ _ _ _ _ _ _ (c .before .before .before .before .before .before .before .before .before .lend .ensures) _ (c .before .before .before .put-left .ensures) few);
+      replies = run-replies _ (c .before .before .before .before .before .before .before .before .before .before .before .before .before .before .before .before .pre .accepted) (c .before .before .before .before .before .before .before .before .before .before .before .before .before .before .before .before .args .given .now) (c .before .before .before .before .before .before .before .before .before .before .before .before .before .before .before .before .args .lengths .now) _ _ (c .before .before .before .before .before .before .before .before .before .before .before .first-threads .ensures) (c .before .before .before .before .before .before .before .before .before .before .first-shared .ensures) _
+          (comes _ _ _ _ _ _ _ _ _ (c .before .before .before .before .before .before .before .before .lend .ensures) _ _ (c .before .before .before .look-left .ensures .looks) (c .end-of .ensures));
+      traced = λ few. run-traced _ (c .before .before .before .before .before .before .before .before .before .before .before .before .before .before .before .before .pre .accepted) (c .before .before .before .before .before .before .before .before .before .before .before .before .before .before .before .before .args .given .now) (c .before .before .before .before .before .before .before .before .before .before .before .before .before .before .before .before .args .lengths .now) _ _ (c .before .before .before .before .before .before .before .before .before .before .before .first-threads .ensures) (c .before .before .before .before .before .before .before .before .before .before .first-shared .ensures) _ _
+          (traced-at-the-end _ _ _ _ _ _ _ _ _ (c .before .before .before .before .before .before .before .before .lend .ensures) _ (c .before .before .before .look-left .ensures .put) few);
     }
 
 pub run-case-spec : {M : Type 1} → statement M
@@ -43,7 +40,6 @@ run-case-spec =
     first-shared-requires
     lend-requires
     look-left-requires
-    put-left-requires
     end-of-requires
     same-length
     returns)
