@@ -27,47 +27,44 @@ module _ (G : ℕ) (l : Line) (reads : Reads) (e : Effect) where
           stopping = stops' ∙ ap (λ (x : Kind). stops x l reads) (sym kind);
           breaking = breaks' ∙ (λ i. breaks true (sym kind i) l reads (is i));
           naming = rw on (name' ∙ ap (λ (x : Kind). nameOfTarget G x (l .target)) (sym kind));
-          giving = is;
+          giving = λ _. is;
         }
 
   -- its guard is false
-  module _ (off : guardTrue l reads ≡ false) (stops' : e .stops ≡ false) (breaks' : e .breaks ≡ false) (name' : e .name ≡ noName)
-      (value' : e .value ≡ guardedOutValue (l .kind) reads)
-    where
-      out-goes : (κ : Kind) → false ≡ stops κ l reads
-      unfolding stops
-      out-goes compute = refl
-      out-goes store = refl
-      out-goes load = refl
-      out-goes input = refl
-      out-goes assert = refl
-      out-goes assume = rw off
-      out-goes lock = rw off
-      out-goes unlock = refl
+  module _ (off : guardTrue l reads ≡ false) (stops' : e .stops ≡ false) (breaks' : e .breaks ≡ false) (name' : e .name ≡ noName) where
+    out-goes : (κ : Kind) → false ≡ stops κ l reads
+    unfolding stops
+    out-goes compute = refl
+    out-goes store = refl
+    out-goes load = refl
+    out-goes input = refl
+    out-goes assert = refl
+    out-goes assume = rw off
+    out-goes lock = rw off
+    out-goes unlock = refl
 
-      out-sound : (κ : Kind) → false ≡ breaks true κ l reads (valueBy κ l reads)
-      unfolding valueBy
-      out-sound κ = rw off (sym (out-breaks-nothing true κ l reads off))
+    out-sound : (κ : Kind) → false ≡ breaks true κ l reads (valueBy κ l reads)
+    unfolding valueBy
+    out-sound κ = rw off (sym (out-breaks-nothing true κ l reads off))
 
-      out-does : e .strays ≡ strayInput (l .kind) l reads → Effective G l reads e
-      unfolding valueBy
-      out-does strays' = record {
-        straying = strays';
-        stopping = stops' ∙ out-goes (l .kind);
-        breaking = breaks' ∙ out-sound (l .kind);
-        naming = rw off name';
-        giving = rw off value';
-      }
+    out-does : e .strays ≡ strayInput (l .kind) l reads → Effective G l reads e
+    out-does strays' = record {
+      straying = strays';
+      stopping = stops' ∙ out-goes (l .kind);
+      breaking = breaks' ∙ out-sound (l .kind);
+      naming = rw off name';
+      giving = λ on. absurd (let z : _≡_ {A = ℕ} 0 1 = cc in omega arith);
+    }
 
-      pub out-input : l .kind ≡ input → e .strays ≡ nonzero (reads .given) → Effective G l reads e
-      unfolding strayInput
-      out-input kind strays' =
-          let is : strayInput input l reads ≡ nonzero (reads .given) = rw off in
-          out-does (strays' ∙ sym is ∙ ap (λ (x : Kind). strayInput x l reads) (sym kind))
+    pub out-input : l .kind ≡ input → e .strays ≡ nonzero (reads .given) → Effective G l reads e
+    unfolding strayInput
+    out-input kind strays' =
+        let is : strayInput input l reads ≡ nonzero (reads .given) = rw off in
+        out-does (strays' ∙ sym is ∙ ap (λ (x : Kind). strayInput x l reads) (sym kind))
 
-      pub out-other : isInput (l .kind) ≡ false → e .strays ≡ false → Effective G l reads e
-      unfolding strayInput
-      out-other other strays' = out-does (rw other strays')
+    pub out-other : isInput (l .kind) ≡ false → e .strays ≡ false → Effective G l reads e
+    unfolding strayInput
+    out-other other strays' = out-does (rw other strays')
 
 -- With a true guard, an assume ends the run by its expression, and a lock by its mutex.
 module _ (l : Line) (reads : Reads) (on : guardTrue l reads ≡ true) (value : ℕ) where
@@ -93,3 +90,8 @@ old-other k reads n = go (kindOf k) (kind-view k)
     go assume (is6 e) = absurd (n .1 e)
     go lock v = refl
     go unlock v = refl
+
+-- With a false guard, this is the line's value.
+pub old-is-value : (l : Line) (reads : Reads) (value : ℕ) → value ≡ guardedOutValue (l .kind) reads → guardTrue l reads ≡ false → value ≡ valueOf l reads
+unfolding valueBy
+old-is-value l reads value is off = rw off is

@@ -22,7 +22,7 @@ use Rattle.turn.specs.declared.Stand.{Stand}
 use Rattle.turn.specs.declared.Stand.the-variants.{Running, Strayed, Stopped}
 use Rattle.turn.specs.declared.Turn.{Turn}
 use Rattle.turn.specs.TurnState.{itemsOf, memoryOf, givenBy}
-use Rattle.turn.specs.Promises.{endBy, endOf, continued, Effective, goneOn}
+use Rattle.turn.specs.Promises.{endBy, endOf, continued, Effective, LineTraced, goneOn}
 
 put-nothing : (name value : ℕ) (xs : List ℕ) → xs ≡ putItem false name value xs
 unfolding putItem
@@ -30,14 +30,14 @@ put-nothing name value xs = refl
 
 -- A name and its value where `on` is true, and no name otherwise.
 module _ (name target value value' : ℕ) where
-  put-local : (on : Bool) (xs : List ℕ) → name ≡ cond on target noName → value ≡ value' → putLocal true name value xs ≡ putLocal on target value' xs
+  put-local : (on : Bool) (xs : List ℕ) → name ≡ cond on target noName → (on ≡ true → value ≡ value') → putLocal true name value xs ≡ putLocal on target value' xs
   unfolding putLocal
-  put-local true xs is gives = rw (is, gives)
+  put-local true xs is gives = rw (is, gives refl)
   put-local false xs is gives = rw is
 
-  put-item : (on : Bool) (count : ℕ) (xs : List ℕ) → count ≤ mostItems → name ≡ cond on target noName → value ≡ value'
+  put-item : (on : Bool) (count : ℕ) (xs : List ℕ) → count ≤ mostItems → name ≡ cond on target noName → (on ≡ true → value ≡ value')
       → putItem true name value (take count xs) ≡ putItem on target value' (take count xs)
-  put-item true count xs few is gives = rw (is, gives)
+  put-item true count xs few is gives = rw (is, gives refl)
   put-item false count xs few is gives = rw is (sym (put-beyond xs count value noName (omega arith) few) ∙ put-nothing target value' (take count xs))
 
 -- The next line of a turn of thread t is run, and then the turn is so.
@@ -104,9 +104,9 @@ module _ {bytes : List ℕ} (givens : List ℕ) (t : ℕ) (turn : Turn) {counts 
               ∙ sym (ap (λ (x : Stand). continued (endBy bytes x after) (runBlock (caseOf bytes) (givenBy givens) steps ls)) runs))
 
           -- the record of the line in the trace
-          pub step-traced : (i : ℕ) (trace trace' : List ℕ) → trace' ≡ putRecord (turn .next) i (e .value) trace
+          pub step-traced : (i : ℕ) (trace trace' : List ℕ)
+              → LineTraced (turn .next) i (asLine l (turn .next)) (readsBy counts (givenBy givens (turn .next)) (turn .locals) (turn .items) (asLine l (turn .next))) (e .value) trace trace'
               → StepTraced bytes givens t i turn after trace trace'
-          step-traced i trace trace' put = record {
-            memory = step-memory;
-            record-put = put ∙ ap (λ (x : ℕ). putRecord (turn .next) i x trace) (does-it .giving);
-          }
+          step-traced i trace trace' puts =
+              let puts-it : LineTraced (turn .next) i line reads (e .value) trace trace' = rw (is-l, are .globals, are .items) at puts in
+              record { memory = step-memory; record-put = puts-it (does-it .giving) }

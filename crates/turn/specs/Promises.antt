@@ -6,12 +6,17 @@ use mathlib.Core.Bool.{Bool, true, cond}
 use mathlib.Core.List.{List}
 use lib.Dec.{eqb}
 use lib.ListN.{length, drop}
+use Rattle.model.specs.Limits.{mostRecords}
 use Rattle.model.specs.CaseFile.{Line, records, threadCount, caseOf}
 use Rattle.model.specs.Line.{Reads, noName, targetName, guardTrue, valueOf, stops, breaks, strayInput}
 use Rattle.model.specs.Machine.{Memory, BlockEnd, strayed, stopped, passed, runBlock}
 use Rattle.model.specs.Runs.{blockSteps}
-use Rattle.model.specs.Fill.{putSteps}
+use Rattle.model.specs.Fill.{putRecord, putSteps}
 use Rattle.laws.specs.Accepted.{Accepted}
+use Rattle.laws.specs.RecordNumber.{RecordNumber}
+use Rattle.case_file.specs.declared.Record.{Record}
+use Rattle.line.specs.CaseCounts.{OfCase}
+use Rattle.line.specs.declared.Counts.{Counts}
 use Rattle.turn.specs.declared.Effect.{Effect}
 use Rattle.turn.specs.declared.Stand.{Stand}
 use Rattle.turn.specs.declared.Stand.the-variants.{Running, Strayed, Stopped}
@@ -46,11 +51,20 @@ pub record Effective (G : ℕ) (l : Line) (reads : Reads) (e : Effect) : Type 0 
   pub stopping : e .stops ≡ stops (l .kind) l reads
   pub breaking : e .breaks ≡ breaks true (l .kind) l reads (valueOf l reads)
   pub naming : e .name ≡ cond (guardTrue l reads) (targetName G l) noName
-  pub giving : e .value ≡ valueOf l reads
+  pub giving : guardTrue l reads ≡ true → e .value ≡ valueOf l reads
 
 -- The same, where the line's guard is so.
 abbrev pub Does : Bool → ℕ → Line → Reads → Effect → Type 0
 Does on G l reads e = guardTrue l reads ≡ on → Effective G l reads e
+
+-- A record of a case with such counts, and its number.
+pub record Numbered (k : ℕ) (counts : Counts) (l : Record) : Type 0 where
+  pub number : RecordNumber mostRecords k
+  pub of-case : OfCase counts l
+
+-- The block number and the value of a line with these reads, record k, go to the trace, if `value` is its value where its guard is true.
+abbrev pub LineTraced : ℕ → ℕ → Line → Reads → ℕ → List ℕ → List ℕ → Type 0
+LineTraced k block l reads value trace trace' = (guardTrue l reads ≡ true → value ≡ valueOf l reads) → trace' ≡ putRecord k block (valueOf l reads) trace
 
 -- A turn whose thread has gone on to its next record, after line k.
 abbrev pub goneOn : Turn → ℕ → ℕ → Bool → Turn

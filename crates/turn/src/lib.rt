@@ -3,6 +3,7 @@
 ghost use mathlib.Core.Path.{_≡_};
 ghost use mathlib.Core.Bool.{true, false};
 ghost use Prim.Native.Nat.{ℕ};
+ghost use mathlib.Core.List.{List};
 ghost use Rattle.model.specs.Limits.{mostRecords};
 ghost use Rattle.model.specs.CaseFile.{kindOf};
 ghost use Rattle.model.specs.Line.{guardedOutValue};
@@ -11,8 +12,9 @@ ghost use Rattle.laws.specs.RecordNumber.{RecordNumber};
 ghost use Rattle.case_file.specs.Records.{asLine};
 ghost use Rattle.line.specs.CaseCounts.{OfCase};
 ghost use Rattle.line.specs.LineReads.{readsBy};
+ghost use Rattle.line.specs.declared.Counts.{Counts};
 ghost use Rattle.turn.specs.TurnState.{isRunning};
-ghost use Rattle.turn.specs.Promises.{Ready, Does, Effective, goneOn, BlockRecorded};
+ghost use Rattle.turn.specs.Promises.{Ready, Does, Effective, Numbered, LineTraced, goneOn, BlockRecorded};
 use case_file::Record;
 use line::Counts;
 use model::ITEMS;
@@ -36,8 +38,8 @@ pub struct Turn {
     pub note: u16,
 }
 
-// What a line does: whether it strays, whether it ends the run, whether it violates, the name that it writes, and its value, which it
-// writes there.
+// What a line does: whether it strays, whether it ends the run, whether it violates, the name that it writes, and the value that
+// it writes there.
 pub struct Effect {
     pub strays: bool,
     pub stops: bool,
@@ -127,41 +129,10 @@ fn effect_in<'a>(
     }
 }
 
-// The value of a line with a false guard: its target's old value, and 1 for assert and assume.
-fn old_value<'a>(
-    locals: &'a [u16; LOCALS],
-    items: &'a [u16; ITEMS],
-    counts: Counts,
-    l: Record,
-) -> u16
-    requires { ⌜ OfCase counts l ⌝ }
-    ensures { λ r. ⌜ ((given k : ℕ) → r ≡ guardedOutValue (kindOf (l .kind)) (readsBy counts given (now (locals .entry)) (now (items .entry)) (asLine l k))) ⌝ }
-{
-    let kind = l.kind;
-    let target = l.target as usize;
-    match kind {
-        1 => line::local_at(locals, l.target),
-        2 => line::item_at(items, counts.items, target),
-        3 => line::local_at(locals, l.target),
-        4 => line::local_at(locals, l.target),
-        5 => 1,
-        6 => 1,
-        _ => line::item_at(items, counts.items, counts.globals + target),
-    }
-}
-
 // What a line with a false guard does: nothing, and an input must be given 0.
-fn effect_out<'a>(
-    locals: &'a [u16; LOCALS],
-    items: &'a [u16; ITEMS],
-    counts: Counts,
-    l: Record,
-    given: u16,
-) -> Effect
-    requires { ⌜ OfCase counts l ⌝ }
-    ensures { λ r. ⌜ ((k : ℕ) → Does false (counts .globals) (asLine l k) (readsBy counts given (now (locals .entry)) (now (items .entry)) (asLine l k)) r) ⌝ }
+fn effect_out(l: Record, given: u16) -> Effect
+    ensures { λ r. ⌜ ((counts : Counts) (locals items : List ℕ) (k : ℕ) → Does false (counts .globals) (asLine l k) (readsBy counts given locals items (asLine l k)) r) ⌝ }
 {
-    let value = old_value(locals, items, counts, l);
     let kind = l.kind;
     match kind {
         4 => Effect {
@@ -169,9 +140,9 @@ fn effect_out<'a>(
             stops: false,
             breaks: false,
             name: NAMES,
-            value,
+            value: 0,
         },
-        _ => put(NAMES, value),
+        _ => put(NAMES, 0),
     }
 }
 
@@ -189,7 +160,7 @@ fn effect_of<'a>(
     if line::guarded(locals, l) {
         return effect_in(locals, items, counts, l, given);
     }
-    effect_out(locals, items, counts, l, given)
+    effect_out(l, given)
 }
 
 // Whether the run goes on.
@@ -216,6 +187,55 @@ pub fn put_record(trace: &mut [u16], k: usize, block: u16, value: u16)
             trace[second] = value;
         }
     }
+}
+
+// The value of a line with a false guard: its target's old value, and 1 for assert and assume.
+fn old_value<'a>(
+    locals: &'a [u16; LOCALS],
+    items: &'a [u16; ITEMS],
+    counts: Counts,
+    l: Record,
+) -> u16
+    requires { ⌜ OfCase counts l ⌝ }
+    ensures { λ r. ⌜ ((given k : ℕ) → r ≡ guardedOutValue (kindOf (l .kind)) (readsBy counts given (now (locals .entry)) (now (items .entry)) (asLine l k))) ⌝ }
+{
+    let kind = l.kind;
+    let target = l.target as usize;
+    match kind {
+        1 => line::local_at(locals, l.target),
+        2 => line::item_at(items, counts.items, target),
+        3 => line::local_at(locals, l.target),
+        4 => line::local_at(locals, l.target),
+        5 => 1,
+        6 => 1,
+        _ => line::item_at(items, counts.items, counts.globals + target),
+    }
+}
+
+// The block number and the value of line l, record k, go to the trace. Where its guard is false its value is looked up, but not for
+// an empty trace.
+fn trace_line<'a>(
+    trace: &mut [u16],
+    k: usize,
+    block: u16,
+    locals: &'a [u16; LOCALS],
+    items: &'a [u16; ITEMS],
+    counts: Counts,
+    l: Record,
+    value: u16,
+)
+    requires { ⌜ Numbered k counts l ⌝ }
+    ensures { λ r. ⌜ ((given j : ℕ) → LineTraced k block (asLine l j) (readsBy counts given (now (locals .entry)) (now (items .entry)) (asLine l j)) value (now (trace .entry)) (now (trace .exit))) ⌝ }
+{
+    if trace.len() == 0 {
+        return;
+    }
+    if line::guarded(locals, l) {
+        put_record(trace, k, block, value);
+        return;
+    }
+    let old = old_value(locals, items, counts, l);
+    put_record(trace, k, block, old);
 }
 
 impl Turn {
@@ -277,7 +297,7 @@ impl Turn {
             if e.stops {
                 return self.ended(Stand::Stopped(k));
             }
-            put_record(trace, at, i, e.value);
+            trace_line(trace, at, i, &self.locals, &self.items, counts, l, e.value);
             line::put_local(&mut self.locals, e.name, e.value);
             line::put_item(&mut self.items, counts.items, e.name, e.value);
             self = self.step(case_file::next_of(case, at), k, e.breaks);

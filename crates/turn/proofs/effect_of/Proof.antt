@@ -17,7 +17,7 @@ effect-out-requires : tie.Need-effect-out-requires
 effect-out-requires c κs = search needs
 
 returns-2 : tie.Need-returns-2
-returns-2 c = λ k. c .effect-out .ensures k (sym (c .before .before .guarded .ensures _ _ _ _ k (c .before .before .before .pre .few .items)) ∙ c .before .if1 .left)
+returns-2 c = λ k. c .effect-out .ensures (c .before .before .before .args .counts) (c .before .before .before .args .locals .now) (c .before .before .before .args .items .now) k (sym (c .before .before .guarded .ensures _ (c .before .before .before .args .counts .items) _ _ k (c .before .before .before .pre .few .items)) ∙ c .before .if1 .left)
 
 pub effect-of-spec : {M : Type 1} → statement M
 effect-of-spec =

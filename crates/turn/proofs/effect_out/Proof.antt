@@ -6,17 +6,14 @@ use borrow.Author.Needs.{needs}
 use Rattle.turn.proofs.effect_out.Statement.{statement}
 use Rattle.turn.proofs.effect_out.Tie as tie
 
-old-value-requires : tie.Need-old-value-requires
-old-value-requires c κs = search needs
-
 put-requires : tie.Need-put-requires
 put-requires c κs = search needs
 
 returns : tie.Need-returns
-returns c = λ k off. out-input _ _ _ _ off refl refl refl (c .before .old-value .ensures _ k) (kind-4 _ (c .match .keys1)) refl
+returns c = λ counts locals items k off. out-input _ _ _ _ off refl refl refl (kind-4 _ (c .match .keys1)) refl
 
 returns-2 : tie.Need-returns-2
-returns-2 c = λ k off. rw (c .put .ensures) (out-other _ _ _ _ off refl refl refl (c .before .before .old-value .ensures _ k) (input-other _ (c .before .match .rest)) refl)
+returns-2 c = λ counts locals items k off. rw (c .put .ensures) (out-other _ _ _ _ off refl refl refl (input-other _ (c .before .match .rest)) refl)
 
 pub effect-out-spec : {M : Type 1} → statement M
-effect-out-spec = tie.close (tie.spec old-value-requires put-requires returns returns-2)
+effect-out-spec = tie.close (tie.spec put-requires returns returns-2)

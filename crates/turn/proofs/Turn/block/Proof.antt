@@ -81,43 +81,50 @@ returns-4 c =
     (line-ends _ _ _ _ _ _ _ (line .before .before .loop .inv) (start .pre .accepted) (line .before .loop-test .taken) (line .if2 .left) _
     (step-stops (start .args .given .now) _ (line .before .before .loop .self) (line .before .before .before .counts-of .ensures) (read .record-at .ensures) (c .before .before .before .effect-of .ensures _) (c .before .before .if3 .left) (c .before .if4 .taken)) refl (line .before .before .loop .inv .within))
 
-put-record-requires : tie.Need-put-record-requires Inv-loop μ-loop
-put-record-requires c κs =
-    let line = c .before .before .before .before .before .before .before .before .before in
+trace-line-requires : tie.Need-trace-line-requires Inv-loop μ-loop
+trace-line-requires c κs =
+    let read = c .before .before .before .before .before .before .before .before .before .before .before in
+    let line = read .before in
     let start = line .before .before .before .before .before .before .before .before .before in
-    record { some = omega (arith, line .if2 .left); low = omega (arith, line .before .before .loop .inv .within, start .pre .accepted .few-records) }
+    record {
+      number = record { some = omega (arith, line .if2 .left); low = omega (arith, line .before .before .loop .inv .within, start .pre .accepted .few-records) };
+      of-case = of-case (start .pre .accepted) (start .pre .thread) (line .before .before .before .counts-of .ensures) _ (read .record-at .ensures);
+    }
 
 put-local-requires : tie.Need-put-local-requires Inv-loop μ-loop
 put-local-requires c κs = search needs
 
 put-item-requires : tie.Need-put-item-requires Inv-loop μ-loop
-put-item-requires c κs = search needs
+put-item-requires c κs = omega (arith, c .before .before .before .before .before .before .before .before .before .before .before .before .before .before .before .before .before .before .before .before .before .counts-of .ensures .few .items)
 
 next-of-requires : tie.Need-next-of-requires Inv-loop μ-loop
-next-of-requires c κs = search needs
+next-of-requires c κs =
+    let line = c .before .before .before .before .before .before .before .before .before .before .before .before .before .before .before .before .before .before .before in
+    let start = line .before .before .before .before .before .before .before .before .before in
+    record { counted = omega (arith, line .if2 .left); inside = omega (arith, line .before .before .loop .inv .within, start .pre .accepted .size) }
 
 step-requires : tie.Need-step-requires Inv-loop μ-loop
 step-requires c κs = search needs
 
 sub-left : tie.Need-sub-left Inv-loop μ-loop
-sub-left c = omega (arith, c .before .before .before .before .before .before .before .before .before .before .before .before .before .before .before .before .before .before .before .loop-test .taken)
+sub-left c = omega (arith, c .before .before .before .before .before .before .before .before .before .before .before .before .before .before .before .before .before .before .before .before .before .before .loop-test .taken)
 
 loop-less : tie.Need-loop-less Inv-loop μ-loop
-loop-less c = omega (arith, c .before .before .before .before .before .before .before .before .before .before .before .before .before .before .before .before .before .before .before .loop-test .taken)
+loop-less c = omega (arith, c .before .before .before .before .before .before .before .before .before .before .before .before .before .before .before .before .before .before .before .before .before .before .loop-test .taken)
 
 loop-again : tie.Need-loop-again Inv-loop μ-loop
 loop-again c =
     let put = c .before .before .before .before .before .before .before .before in
-    let does = put .before .before .before .before in
+    let does = put .before .before .before .before .before .before .before in
     let read = does .before .before .before .before .before in
     let line = read .before in
     let start = line .before .before .before .before .before .before .before .before .before in
     rw (c .step .ensures)
     (stepping-on _ _ _ _ _ _ _ (line .before .before .loop .inv) (start .pre .accepted) (line .before .loop-test .taken) (line .if2 .left) _
-    (step-goes (start .args .given .now) _ (line .before .before .loop .self) (line .before .before .before .counts-of .ensures) (read .record-at .ensures) (does .effect-of .ensures _) (put .before .before .before .if3 .left)
-    _ _ (c .before .before .before .before .put-local .ensures) (c .before .before .put-item .ensures) _ (put .before .before .if4 .left) (line .before .before .loop .inv .runs)) _
-    (step-traced (start .args .given .now) _ (line .before .before .loop .self) (line .before .before .before .counts-of .ensures) (read .record-at .ensures) (does .effect-of .ensures _) (put .before .before .before .if3 .left)
-    _ _ (c .before .before .before .before .put-local .ensures) (c .before .before .put-item .ensures) _ _ _ _ (put .put-record .ensures)) refl (c .before .next-of .ensures))
+    (step-goes (start .args .given .now) _ (line .before .before .loop .self) (line .before .before .before .counts-of .ensures) (read .record-at .ensures) (does .effect-of .ensures _) (put .before .before .before .before .before .before .if3 .left)
+    _ _ (c .before .before .before .before .put-local .ensures) (c .before .before .put-item .ensures) _ (put .before .before .before .before .before .if4 .left) (line .before .before .loop .inv .runs)) _
+    (step-traced (start .args .given .now) _ (line .before .before .loop .self) (line .before .before .before .counts-of .ensures) (read .record-at .ensures) (does .effect-of .ensures _) (put .before .before .before .before .before .before .if3 .left)
+    _ _ (c .before .before .before .before .put-local .ensures) (c .before .before .put-item .ensures) _ _ _ _ (put .trace-line .ensures _ _)) refl (c .before .next-of .ensures))
 
 same-length-4 : tie.Need-same-length-4 Inv-loop μ-loop
 same-length-4 c = c .before .loop .inv .size
@@ -148,7 +155,7 @@ block-spec =
     ended-requires-2
     same-length-3
     returns-4
-    put-record-requires
+    trace-line-requires
     put-local-requires
     put-item-requires
     next-of-requires
