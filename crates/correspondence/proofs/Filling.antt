@@ -13,9 +13,8 @@ use lib.ListN.{getD, set, length, length-set}
 use lib.Seq.{sets, length-sets, getD-set-same, getD-set-other}
 use Rattle.laws.specs.RecordNumber.{RecordNumber}
 use Rattle.laws.proofs.Counting.{own-number-counts}
-use Rattle.laws.proofs.Views.{EqView, same, diff, eq-view}
 use Rattle.model.specs.CaseFile.{Line, Case, itemCount, hasNumber}
-use Rattle.model.specs.Assignment.{Assignment, variables, blockPlace, valuePlace, itemsPlace, assignmentOf}
+use Rattle.model.specs.Assignment.{variables, blockPlace, valuePlace, itemsPlace, assignmentOf}
 use Rattle.model.specs.Machine.{Memory, State, stepped, restIn, memoryIn}
 use Rattle.model.specs.Runs.{Step, blockSteps, memoryAfter, nextState, lastState}
 use Rattle.model.specs.Fill.{putRecord, putSteps, putItems, putBlocks, putUnrun, putAllUnrun}

@@ -5,8 +5,8 @@ use Prim.Native.Nat.{ℕ, zero, suc, _+_, _-_, _*_, _≤_, _<_}
 use mathlib.Core.List.{List, _∷_, _++_}
 use native.Mathlib.Omega.{arith}
 use native.Mathlib.Nat.{zero-add, add-zero, suc-mul, zero-mul}
-use lib.ListN.{getD, length, length-append, List·getD-append}
-use lib.Seq.{getD-append-add, ext-getD}
+use lib.ListN.{getD, length}
+use lib.Seq.{ext-getD}
 use Rattle.laws.proofs.Ranges.{length-numbersFrom, numbers-at, same-numbers}
 use Rattle.model.specs.Lists.{numbersFrom}
 use Rattle.model.specs.CaseFile.{Case, itemCount}

@@ -1,7 +1,7 @@
 -- Demand 3 over cases, assignments and given values: an assignment that meets constraints 1 to 6 and decodes to block lengths and
 -- given values is one that agrees with the trace of a run with these that finishes, and the trace determines it.
 -- Assumes nothing. Met again in Claims, for assignments and schedules as lists.
-use mathlib.Core.Path.{_≡_, refl, sym, ap, _∙_}
+use mathlib.Core.Path.{_≡_, refl, ap, _∙_}
 use Prim.Native.Nat.{ℕ, suc, _+_, _<_}
 use mathlib.Core.Bool.{Bool}
 use mathlib.Core.List.{List, []}

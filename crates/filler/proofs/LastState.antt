@@ -7,8 +7,8 @@ use mathlib.Core.List.{List, [], _∷_}
 use native.Mathlib.Omega.{arith}
 use lib.Dec.{eqb}
 use Rattle.model.specs.CaseFile.{Case}
-use Rattle.model.specs.Machine.{Memory, State, Outcome, refused14, cutOff, violated, clean, BlockEnd, strayed, stopped, passed, restIn, memoryIn, afterBlock, afterSteps, runBlock, firstStrayLeft, runBlocks}
-use Rattle.model.specs.Runs.{memoryAfter, nextState, lastState}
+use Rattle.model.specs.Machine.{Memory, State, refused14, violated, clean, BlockEnd, strayed, stopped, passed, restIn, memoryIn, afterBlock, afterSteps, runBlock, firstStrayLeft, runBlocks}
+use Rattle.model.specs.Runs.{nextState, lastState}
 use Rattle.laws.proofs.Passing.{passed-memory}
 
 ended : (p q : Bool) (note stray k : ℕ) (s s' : State) → cond p (cond q (clean s) (violated note s)) (refused14 stray) ≡ violated k s' → s' ≡ s

@@ -13,7 +13,7 @@ ghost use Rattle.laws.specs.Accepted.{Accepted, linesFrom};
 ghost use Rattle.case_file.specs.Present.{InHeader};
 ghost use Rattle.turn.specs.TurnState.{itemsOf, givenBy};
 ghost use Rattle.run.specs.declared.Thread.{Thread};
-ghost use Rattle.run.specs.RunState.{turnOf, restsOf, firstThread, firstThreads, firstShared};
+ghost use Rattle.run.specs.RunState.{turnOf, firstThread, firstThreads, firstShared};
 ghost use Rattle.run.specs.Promises.{AllGiven, BlockReady, RestReady, RunReady, RunAtBlock, ItemsReady, ChainReady, BlockAt, MovedBy, Played, LeftSeen, LeftLooked, outcomeOf, Replies, Traced};
 use model::BLOCKS;
 use model::ITEMS;

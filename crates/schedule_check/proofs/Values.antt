@@ -10,7 +10,7 @@ use lib.ListN.{getD, set, length, drop, replicate, length-set, length-replicate,
 use lib.Seq.{getD-set-same, getD-set-other, drop-cons}
 use borrow.Author.Tests.{eq-eqb}
 use Rattle.model.specs.Limits.{recordPlaces}
-use Rattle.model.specs.CaseFile.{Line, records, caseOf, sumOfLines, sumOfThreads, hasNumber}
+use Rattle.model.specs.CaseFile.{Line, caseOf, sumOfLines, sumOfThreads, hasNumber}
 use Rattle.model.specs.Line.{isInput}
 use Rattle.model.specs.Schedule.{inputLines, allInputLines, valueGiven}
 use Rattle.laws.specs.Accepted.{Accepted}

@@ -17,7 +17,7 @@ use Rattle.turn.specs.declared.Stand.{Stand}
 use Rattle.turn.specs.declared.Stand.the-variants.{Running, Strayed, Stopped}
 use Rattle.turn.specs.declared.Turn.{Turn}
 use Rattle.turn.specs.TurnState.{memoryOf, linesLeft, givenBy, isRunning}
-use Rattle.turn.specs.Promises.{endBy, endOf, continued, endAfter, BlockRan, traceAfter, BlockRecorded}
+use Rattle.turn.specs.Promises.{endBy, endOf, continued, endAfter, traceAfter, BlockRecorded}
 use Rattle.turn.proofs.Steps.{Stepped, StepTraced}
 
 -- After some of the steps of block i, of thread t, with so many left: the run goes on.
