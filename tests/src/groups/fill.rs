@@ -102,10 +102,9 @@ fn each_kind(calls: &dyn Calls, tally: &mut Tally) -> Outcome {
     goes_round(calls, &empty().with_thread(1, &without_demand), &[0, 7, 0, 0], &numbers, tally)
 }
 
-/// Each kind with a guard on local 15, which has 0, after lines that give its target
-/// another value.
-fn passed_lines(calls: &dyn Calls, tally: &mut Tally) -> Outcome {
-    let never = [
+/// A line of each kind.
+fn kinds() -> [Line; 8] {
+    [
         compute(0, constant(6)),
         load(0, 1),
         input(0),
@@ -115,7 +114,12 @@ fn passed_lines(calls: &dyn Calls, tally: &mut Tally) -> Outcome {
         assert(constant(0)),
         assume(constant(0)),
     ]
-    .map(|line| line.guarded(16));
+}
+
+/// Each kind with a guard on local 15, which has 0, after lines that give its target
+/// another value.
+fn passed_lines(calls: &dyn Calls, tally: &mut Tally) -> Outcome {
+    let never = kinds().map(|line| line.guarded(16));
     let before = [compute(0, constant(5)), store(1, constant(3)), lock(0)];
     let lines = [&before[..], &never, &[assert(constant(0))]].concat();
     let draft = empty().with_thread(0, &lines);
@@ -134,16 +138,7 @@ fn passed_lines(calls: &dyn Calls, tally: &mut Tally) -> Outcome {
 
 /// A line that is not run has block number n + 1 and 0, or 1 for a test.
 fn lines_left(calls: &dyn Calls, tally: &mut Tally) -> Outcome {
-    let left = [
-        compute(0, constant(6)),
-        load(0, 1),
-        input(0),
-        store(1, constant(7)),
-        lock(0),
-        unlock(0),
-        assert(constant(0)),
-        assume(constant(0)),
-    ];
+    let left = kinds();
     let values = [0, 0, 0, 0, 0, 0, 1, 1];
     for switches in [0, 1, 2, 15] {
         let draft = Draft { switches, ..empty() };
