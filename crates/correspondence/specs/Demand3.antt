@@ -1,5 +1,6 @@
 -- Demand 3, one statement over all accepted cases, assignments and schedules: what the encoder writes, the checker's yes, the
--- decoder's schedule, the replayer's answer and what the filler fills in, by the definitions that the contracts of these calls promise to equal.
+-- decoder's schedule, the replayer's answer and the filler's assignment, by the definitions that the contracts of these calls promise
+-- to equal.
 -- It is proved in proofs/Demand3.antt.
 -- Assumes nothing.
 use mathlib.Core.Path.{_≡_}

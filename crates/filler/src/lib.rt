@@ -81,7 +81,8 @@ fn fill_over(
     answer
 }
 
-// The run of a schedule fills the numbers, which are 0 before it. Refusal 14 is the run's own; a run that does not violate is refused with 16, and then a late line with 17.
+// The run of a schedule fills the numbers, which are 0 before it. Refusal 14 is the run's own; a run that does not violate is refused
+// with 16, and then a late line with 17.
 fn fill_run(case: &[u8], schedule: &[u16], given: &[u16], numbers: &mut [u16]) -> Filled
     requires { ⌜ RunReady (now case) (now schedule) (now given) (now numbers) ⌝ }
     ensures { λ r. ⌜ RunFilled (now (case .entry)) (now (schedule .entry)) r (now (numbers .exit)) ⌝ }
