@@ -131,10 +131,11 @@ def main():
         return token.sub(one, text)
 
     for path, text in texts.items():
-        new = written(text, path.endswith("/Proof.antt"))
+        new = text
         for where, old, to in twice:
             if path in where:
                 new = re.sub(r"(?<![\w'\-])" + old + r"(?![\w'\-])", to, new)
+        new = written(new, path.endswith("/Proof.antt"))
         if new != text:
             with open(path, "w", encoding="utf-8", newline="") as it:
                 it.write(new)

@@ -11,7 +11,7 @@ use lib.Dec.{leb, eqb}
 use Rattle.model.specs.Limits.{most_threads, most_globals}
 use Rattle.model.specs.Lists.{all_from, unless}
 use Rattle.model.specs.CaseFile.{thread_count, global_count, first_record, initial_value}
-use Rattle.model.specs.Accept.{size_ok_lem, threads_ok, switches_ok, items_ok, absent_ok, links_ok, reached_ok, lengths_ok, broken_record, verdict}
+use Rattle.model.specs.Accept.{size_ok, threads_ok, switches_ok, items_ok, absent_ok, links_ok, reached_ok, lengths_ok, broken_record, verdict}
 use Rattle.model.specs.declared.Verdict.{Verdict}
 use Rattle.model.specs.declared.Verdict.TheVariants.{Accepted, Refused}
 use Rattle.links.specs.Links.{failing6to8, links_refusal}
@@ -19,11 +19,11 @@ use Rattle.accept.specs.HeaderPassed.{HeaderPassed}
 
 -- The first of 1 to 5 that fails.
 module _ (bytes : List ℕ) where
-  pub refused_1 : size_ok_lem bytes ≡ false → Refused 1 0 ≡ verdict bytes
+  pub refused_1 : size_ok bytes ≡ false → Refused 1 0 ≡ verdict bytes
   unfolding verdict
   refused_1 bad = rw bad
 
-  module _ (one : size_ok_lem bytes ≡ true) where
+  module _ (one : size_ok bytes ≡ true) where
     pub refused_2 : threads_ok bytes ≡ false → Refused 2 0 ≡ verdict bytes
     unfolding verdict
     refused_2 bad = rw (one, bad)

@@ -1,5 +1,6 @@
 // Document 01's case A on the code: P1 to P10, a line or two each, request Five's constraint 8 and the assignments of request Six. What
 // they must be is in `stdout`.
+#![tactic(auto)]
 use libc::STDOUT_FILENO;
 use model::{Checked, Decoded, Encoded, Filled, Replayed};
 

@@ -1,4 +1,5 @@
 // Reading a case: its header, its records, and how many variables it has.
+#![tactic(auto)]
 ghost use Rattle.std.specs.Prelude.{◌≡◌, ◌+◌, ◌-◌, ◌*◌, ◌<◌, ◌≤◌, leb, length};
 ghost use Rattle.model.specs.Limits.{most_threads, most_switches, most_globals, most_items, most_variables, header_bytes};
 ghost use Rattle.model.specs.CaseFile.{field, records, thread_count, switch_count, global_count, mutex_count, first_record, initial_value, next_record, record_field, case_of, item_count};
@@ -16,7 +17,7 @@ pub const FIRSTS: usize = 4;
 pub const INITIALS: usize = 8;
 
 // A record as a line of a thread: the thread, and the record's fields but for its next number.
-#[derive(Drop)]
+#[derive(Clone, Copy)]
 pub struct Record {
     pub thread: u16,
     pub kind: u16,
@@ -29,7 +30,7 @@ pub struct Record {
 }
 
 // A line where it stands in its chain: its record, its kind, and the records before and after it; 0 where there is none.
-#[derive(Drop)]
+#[derive(Clone, Copy)]
 pub struct Link {
     pub before: u16,
     pub line: u16,

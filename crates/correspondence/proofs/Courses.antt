@@ -9,7 +9,7 @@ use native.Mathlib.Omega.{arith}
 use borrow.Author.Tests.{ne_eqb}
 use Rattle.model.specs.CaseFile.{Kind, compute, store, load, input, assert, assume, lock, unlock, Line, Case}
 use Rattle.model.specs.Line.{Reads, stops, stray_input}
-use Rattle.model.specs.Machine.{Memory, BlockEnd, strayed, stopped, State, Outcome, refused14, ended_cut_off, reads_in, stepped, noted, noted_at, rest_in, memory_in, after_block, ending, run_block, run_blocks}
+use Rattle.model.specs.Machine.{Memory, BlockEnd, strayed, stopped, State, Outcome, refused14, cut_off, reads_in, stepped, noted, noted_at, rest_in, memory_in, after_block, ending, run_block, run_blocks}
 use Rattle.model.specs.Machine as machine
 use Rattle.model.specs.Runs.{Step, block_steps, memory_after, next_state, course, last_state, ends, strays, broken, up_to_first, None, First}
 
@@ -80,19 +80,19 @@ module _ (stray end break : Step → Bool) where
   along [] note next = next note
   along (s ∷ steps) note next =
       cond (stray s) (refused14 s.line.number)
-      (cond (end s) (ended_cut_off s.line.number s.memory.items)
+      (cond (end s) (cut_off s.line.number s.memory.items)
       (along steps (noted note s.line (break s)) next))
 
   along_append : (xs ys : List Step) (note : ℕ) (next : ℕ → Outcome) → along (xs ++ ys) note next ≡ along xs note (λ note'. along ys note' next)
   along_append [] ys note next = refl
   along_append (s ∷ xs) ys note next =
-      ap (λ (o : Outcome). cond (stray s) (refused14 s.line.number) (cond (end s) (ended_cut_off s.line.number s.memory.items) o))
+      ap (λ (o : Outcome). cond (stray s) (refused14 s.line.number) (cond (end s) (cut_off s.line.number s.memory.items) o))
       (along_append xs ys (noted note s.line (break s)) next)
 
   along_same : (xs : List Step) (note : ℕ) (next next' : ℕ → Outcome) → ((note' : ℕ) → next note' ≡ next' note') → along xs note next ≡ along xs note next'
   along_same [] note next next' same = same note
   along_same (s ∷ xs) note next next' same =
-      ap (λ (o : Outcome). cond (stray s) (refused14 s.line.number) (cond (end s) (ended_cut_off s.line.number s.memory.items) o))
+      ap (λ (o : Outcome). cond (stray s) (refused14 s.line.number) (cond (end s) (cut_off s.line.number s.memory.items) o))
       (along_same xs (noted note s.line (break s)) next next' same)
 
   -- The note after steps that all run.
@@ -123,7 +123,7 @@ module _ (stray end break : Step → Bool) where
     met : (s : Step) → First stray (up_to_first end steps) s → ((note : ℕ) (next : ℕ → Outcome) → along steps note next ≡ refused14 s.line.number)
         → Fate steps
     cut : (s : Step) → None stray (up_to_first end steps) → First end steps s
-        → ((note : ℕ) (next : ℕ → Outcome) → along steps note next ≡ ended_cut_off s.line.number s.memory.items) → Fate steps
+        → ((note : ℕ) (next : ℕ → Outcome) → along steps note next ≡ cut_off s.line.number s.memory.items) → Fate steps
     through : None stray (up_to_first end steps) → None end steps
         → ((note : ℕ) (next : ℕ → Outcome) → along steps note next ≡ next (note_over note steps)) → Fate steps
 
@@ -172,7 +172,7 @@ module _ (case : Case) (given : ℕ → ℕ) where
 
   after_step : (p q : Bool) (k : ℕ) (items : List ℕ) (rest : BlockEnd) (next : Memory → ℕ → Outcome)
       → machine.after_steps (cond p (strayed k) (cond q (stopped k items) rest)) next
-      ≡ cond p (refused14 k) (cond q (ended_cut_off k items) (machine.after_steps rest next))
+      ≡ cond p (refused14 k) (cond q (cut_off k items) (machine.after_steps rest next))
   after_step true q k items rest next = refl
   after_step false true k items rest next = refl
   after_step false false k items rest next = refl
@@ -187,7 +187,7 @@ module _ (case : Case) (given : ℕ → ℕ) where
       after_step (stray_input l.kind l (reads_in case given l m)) (stops l.kind l (reads_in case given l m)) l.number m.items
       (run_block case given steps ls (stepped case given l m) (noted_at case given note l m)) next
       ∙ ap (λ (o : Outcome). cond (stray_input l.kind l (reads_in case given l m)) (refused14 l.number)
-      (cond (stops l.kind l (reads_in case given l m)) (ended_cut_off l.number m.items) o))
+      (cond (stops l.kind l (reads_in case given l m)) (cut_off l.number m.items) o))
       (block_goes i steps ls (stepped case given l m) (noted_at case given note l m) next)
 
   -- The machine's answer is made along the steps.

@@ -12,7 +12,7 @@ use Rattle.model.specs.Lists.{unless}
 use Rattle.model.specs.CaseFile.{Case, case_of}
 use Rattle.model.specs.Accept.{verdict}
 use Rattle.model.specs.Assignment.{variables}
-use Rattle.model.specs.Machine.{Outcome, refused14, ended_cut_off, violated, clean}
+use Rattle.model.specs.Machine.{Outcome, refused14, cut_off, violated, clean}
 use Rattle.model.specs.Schedule.{schedule_size, block_lengths, lengths_fit, run_of}
 use Rattle.model.specs.Answers.{answer_of_run, answer_of_fill, late_record, replayed, filled}
 use Rattle.model.specs.declared.Verdict.TheVariants.{Accepted}
@@ -60,7 +60,7 @@ module _ (bytes : List ℕ) (accepted : verdict bytes ≡ Accepted) (schedule : 
 
   answers_alike : (o : Outcome) → answer_of_fill case schedule o ≡ alike (answer_of_run o) violating
   answers_alike (refused14 k) = refl
-  answers_alike (ended_cut_off k items) = refl
+  answers_alike (cut_off k items) = refl
   answers_alike (violated k s) = refl
   answers_alike (clean s) = refl
 
@@ -87,7 +87,7 @@ module _ (bytes : List ℕ) (accepted : verdict bytes ≡ Accepted) (schedule : 
         go false fit o = omega arith
         go true false o = omega arith
         go true true (refused14 k) = omega arith
-        go true true (ended_cut_off k items) = tt
+        go true true (cut_off k items) = tt
         go true true (violated k s) = tt
         go true true (clean s) = tt
 

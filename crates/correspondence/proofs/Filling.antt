@@ -13,7 +13,7 @@ use lib.ListN.{get_or, set, length, length-set}
 use lib.Seq.{sets, length-sets, get_or-set_same, get_or-set_other}
 use Rattle.laws.specs.RecordNumber.{RecordNumber}
 use Rattle.laws.proofs.Counting.{own_number_counts}
-use Rattle.model.specs.CaseFile.{Line, Case, item_count_lem, has_number}
+use Rattle.model.specs.CaseFile.{Line, Case, item_count, has_number}
 use Rattle.model.specs.Assignment.{variables, block_place, value_place, items_place, assignment_of}
 use Rattle.model.specs.Machine.{Memory, State, stepped, rest_in, memory_in}
 use Rattle.model.specs.Runs.{Step, block_steps, memory_after, next_state, last_state}
@@ -232,7 +232,7 @@ module _ (case : Case) where
         ap (λ (ys : List ℕ). get_or ys p 0) (put_of_all_unrun i (sym (add-zero i) ∙ last) s.rests xs) ∙ item_kept_by_events p past (all_left_events i s.rests) within xs
     item_kept i (len ∷ lens) s xs last within p past h =
         item_kept (suc i) lens (next_state case given i len s) (block_on i len s xs) (omega arith) (within_later i len lens s within) p past
-        (omega (arith, suc-mul i (item_count_lem case)))
+        (omega (arith, suc-mul i (item_count case)))
         ∙ item_kept_by_items p i (next_state case given i len s).items (stepped_on_lem i len s xs) h
         ∙ ap (λ (ys : List ℕ). get_or ys p 0) (as_events i len s xs)
         ∙ item_kept_by_events p past (here i len s) (within_here i len lens s within) xs
@@ -243,20 +243,20 @@ module _ (case : Case) where
     items_after_lem (suc steps) (l ∷ ls) m = items_after_lem steps ls (stepped case given l m) ∙ length_put_item _ _ _ m.items
 
     pub filled_agrees_items_from : (i : ℕ) (lens : List ℕ) (s : State) (xs : List ℕ) → i + length lens ≡ suc case.n → Within (events case given i lens s)
-        → length s.items ≡ item_count_lem case → variables case ≤ length xs
+        → length s.items ≡ item_count case → variables case ≤ length xs
         → AgreesItems case (assignment_of case (filled_from i lens s xs)) i (snapshots case given i lens s)
     unfolding assignment_of
     filled_agrees_items_from i [] s xs last within all room = tt
     filled_agrees_items_from i (len ∷ lens) s xs last within all room =
         let next = next_state case given i len s in
-        let sized : length next.items ≡ item_count_lem case = items_after_lem len (rest_in case i s) (memory_in case i s) ∙ all in
+        let sized : length next.items ≡ item_count case = items_after_lem len (rest_in case i s) (memory_in case i s) ∙ all in
         let long = length_of_block i len s xs in (
           (λ few g hg.
               let p = items_place case i + g in
-              let low : suc i * item_count_lem case ≤ case.n * item_count_lem case = mul-le-mul few (le_refl (item_count_lem case)) in
-              item_kept (suc i) lens next (block_on i len s xs) (omega arith) (within_later i len lens s within) p (omega arith) (omega (arith, suc-mul i (item_count_lem case)))
+              let low : suc i * item_count case ≤ case.n * item_count case = mul-le-mul few (le_refl (item_count case)) in
+              item_kept (suc i) lens next (block_on i len s xs) (omega arith) (within_later i len lens s within) p (omega arith) (omega (arith, suc-mul i (item_count case)))
               ∙ rw (lt-ltb i case.n few)
               (in_sets (stepped_on_lem i len s xs) (items_place case i) next.items g (omega (arith, sized))
-              (omega (arith, low, suc-mul i (item_count_lem case), room, ap length (as_events i len s xs), length_of_events (here i len s) xs)))),
+              (omega (arith, low, suc-mul i (item_count case), room, ap length (as_events i len s xs), length_of_events (here i len s) xs)))),
           filled_agrees_items_from (suc i) lens next (block_on i len s xs) (omega arith) (within_later i len lens s within) sized (omega (arith, room, long)),
         )

@@ -11,10 +11,10 @@ use lib.ListN.{get_or, length, drop}
 use lib.Seq.{set_out}
 use Rattle.model.specs.Word.{bit, nonzero}
 use Rattle.model.specs.Limits.{local_count, most_globals, most_mutexes, highest_guard}
-use Rattle.model.specs.CaseFile.{Kind, compute, store, load, input, assert, assume, lock, unlock, Line, Case, item_count_lem, records, thread_count, line_of, case_of, lines_of}
+use Rattle.model.specs.CaseFile.{Kind, compute, store, load, input, assert, assume, lock, unlock, Line, Case, item_count, records, thread_count, line_of, case_of, lines_of}
 use Rattle.model.specs.Accept.{expression_ok, kind_rule}
 use Rattle.model.specs.Line.{no_name, local_name, item_name, guard_name, name_of_a, name_of_b, name_of_target, Reads, guard_true, apply, operand_value, expression, holder, guarded_in_value, guarded_out_value, value_by, stops, breaks, stray_input}
-use Rattle.model.specs.Machine.{Memory, State, look, put_local_lem, put_item_lem, stepped, start, rest_in, memory_in}
+use Rattle.model.specs.Machine.{Memory, State, look, put_local, put_item, stepped, start, rest_in, memory_in}
 use Rattle.model.specs.Schedule.{block_lengths, given_in}
 use Rattle.model.specs.Runs.{Step, block_steps, memory_after, next_state, course}
 use Rattle.laws.specs.Accepted.{Accepted}
@@ -76,17 +76,17 @@ module _ (l : Line) (m : Memory) where
 -- A name that gets a value: a local, an item, or none.
 put_local_lem : (x value : ℕ) (m : Memory) → x < local_count
     → put true (local_name x) value m ≡ local_gets x value m
-unfolding put_local_lem put_item_lem local_name
+unfolding put_local put_item local_name
 put_local_lem x value m h = rw (lt-ltb x local_count h, lt-ltb x local_count h)
 
 put_item_lem : (g value : ℕ) (m : Memory)
     → put true (item_name g) value m ≡ global_gets g value m
-unfolding put_local_lem put_item_lem
+unfolding put_local put_item
 put_item_lem g value m = rw (le-ltb (local_count + g) local_count (omega arith), item_of_name g)
 
 put_nothing : (value : ℕ) (m : Memory) → length m.items ≤ most_globals + most_mutexes
     → put true no_name value m ≡ m
-unfolding put_local_lem put_item_lem
+unfolding put_local put_item
 put_nothing value m h = rw (set_out m.items (most_globals + most_mutexes) value h)
 
 zero_and : (guard is_zero : Bool) → eqb (cond guard (bit (not is_zero)) 1) 0 ≡ (guard && is_zero)
@@ -166,7 +166,7 @@ module _ (case : Case) (t : ℕ) (given : ℕ → ℕ) (l : Line) (own : l.threa
     refused_is unlock = sym (and_false (not (guard_holds l m)))
 
     step_is : Rule l.kind → length m.items ≤ most_globals + most_mutexes → stepped case given l m ≡ step_by_kind case t given l m
-    unfolding value_by put_local_lem put_item_lem
+    unfolding value_by put_local put_item
     step_is r h = rw (guard_is l m (reads_for l.kind) small refl) (go (guard_holds l m))
       where
         kind : Kind
@@ -187,11 +187,11 @@ step_keeps_item_count case given l m = length_put_item _ _ _ m.items
 
 -- Every line of every thread of an accepted case, in a memory that has the case's items.
 pub lines_are_done_as_said : (bytes : List ℕ) → Accepted bytes → (t : ℕ)
-    → AllLines (λ l. (given : ℕ → ℕ) (m : Memory) → length m.items ≡ item_count_lem (case_of bytes) → DoneAsSaid (case_of bytes) t given l m)
+    → AllLines (λ l. (given : ℕ → ℕ) (m : Memory) → length m.items ≡ item_count (case_of bytes) → DoneAsSaid (case_of bytes) t given l m)
     (lines_of (case_of bytes) t)
 lines_are_done_as_said bytes ok t = all_lines_by bytes ok _ t each
   where
-    each : (k : ℕ) → t < thread_count bytes → 0 < k → k ≤ records bytes → (given : ℕ → ℕ) (m : Memory) → length m.items ≡ item_count_lem (case_of bytes)
+    each : (k : ℕ) → t < thread_count bytes → 0 < k → k ≤ records bytes → (given : ℕ → ℕ) (m : Memory) → length m.items ≡ item_count (case_of bytes)
         → DoneAsSaid (case_of bytes) t given (line_of bytes t k) m
     each k thread low high given m h =
         let rule = records_obey bytes ok t k low high in
@@ -207,7 +207,7 @@ module _ (bytes : List ℕ) (given : ℕ → ℕ) where
   case = case_of bytes
 
   abbrev Whole : List ℕ → Type 0
-  Whole items = length items ≡ item_count_lem case
+  Whole items = length items ≡ item_count case
 
   abbrev Said : ℕ → Line → Type 0
   Said t l = (given : ℕ → ℕ) (m : Memory) → Whole m.items → DoneAsSaid case t given l m

@@ -11,8 +11,8 @@ use lib.Dec.{eqb, ltb}
 use lib.ListN.{get_or}
 use Rattle.model.specs.Word.{bit, nonzero}
 use Rattle.model.specs.Limits.{local_count}
-use Rattle.model.specs.CaseFile.{Kind, compute, store, load, input, assert, assume, lock, unlock, Line, Case, lines_of, item_count_lem, sum_of_lines, sum_of_threads, has_number}
-use Rattle.model.specs.Line.{is_no_name, item_name, local_name, guard_name, name_of_a, name_of_b, name_of_target, operand_a, operand_b, target_name, has_expression, reads_of, Reads, breaks, visible}
+use Rattle.model.specs.CaseFile.{Kind, compute, store, load, input, assert, assume, lock, unlock, Line, Case, lines_of, item_count, sum_of_lines, sum_of_threads, has_number}
+use Rattle.model.specs.Line.{no_name, item_name, local_name, guard_name, name_of_a, name_of_b, name_of_target, operand_a, operand_b, target_name, has_expression, reads_of, Reads, breaks, visible}
 use Rattle.model.specs.Assignment.{Assignment, was_run}
 use Rattle.model.specs.Copies.{latest, value_before, read_local, read_item, read_name, read_after, reads_after, walk_back}
 use Rattle.model.specs.Schedule.{decoded_values, all_decoded_values}
@@ -156,13 +156,13 @@ module _ (case : Case) (block : ℕ → ℕ) where
 -- ---- Invisible lines name locals alone, and what has an item as target is visible.
 data LocalOrNone (name : ℕ) : Type 0 where
   a_local : name < local_count → LocalOrNone name
-  is_no_name : name ≡ is_no_name → LocalOrNone name
+  is_no_name : name ≡ no_name → LocalOrNone name
 
 local_names : (x : ℕ) → LocalOrNone (local_name x)
 unfolding local_name
 local_names x = go (lt_view x local_count)
   where
-    go : LtView x local_count → LocalOrNone (cond (ltb x local_count) x is_no_name)
+    go : LtView x local_count → LocalOrNone (cond (ltb x local_count) x no_name)
     go (below h q) = rw q (a_local h)
     go (above h q) = rw q (is_no_name refl)
 
@@ -201,7 +201,7 @@ target_names G assume target unseen = is_no_name refl
 target_names G lock target unseen = absurd (true≢false unseen)
 target_names G unlock target unseen = absurd (true≢false unseen)
 
-item_is_seen : (G name : ℕ) (l : Line) → target_name G l ≡ name → local_count ≤ name → name < is_no_name → visible l.kind ≡ true
+item_is_seen : (G name : ℕ) (l : Line) → target_name G l ≡ name → local_count ≤ name → name < no_name → visible l.kind ≡ true
 item_is_seen G name l e low high = go (visible l.kind) refl
   where
     neither : LocalOrNone (target_name G l) → ⊥
@@ -223,7 +223,7 @@ module _ (case : Case) (wf : WellFormed case) (α : Assignment) (block' : ℕ �
   before_stays (suc i) g = refl
 
   -- A copy of an item has its block number still.
-  copy_stays : (i name : ℕ) (earlier : List Line) → local_count ≤ name → name < is_no_name → AllLines (Kept case α.block block') earlier
+  copy_stays : (i name : ℕ) (earlier : List Line) → local_count ≤ name → name < no_name → AllLines (Kept case α.block block') earlier
       → (nonzero (latest case.G name earlier) && eqb (block' (latest case.G name earlier)) i)
       ≡ (nonzero (latest case.G name earlier) && eqb (α.block (latest case.G name earlier)) i)
   unfolding latest
@@ -237,7 +237,7 @@ module _ (case : Case) (wf : WellFormed case) (α : Assignment) (block' : ℕ �
       go (same e q) ih = rw q (ap (λ (x : ℕ). nonzero l.number && eqb x i) (kept.0.seen (item_is_seen case.G name l e low high)))
       go (diff e q) ih = rw q ih
 
-  item_stays : (i name : ℕ) (earlier : List Line) → local_count ≤ name → name < is_no_name → AllLines (Kept case α.block block') earlier
+  item_stays : (i name : ℕ) (earlier : List Line) → local_count ≤ name → name < no_name → AllLines (Kept case α.block block') earlier
       → read_item case moved i (name - local_count) (latest case.G name earlier) ≡ read_item case α i (name - local_count) (latest case.G name earlier)
   unfolding read_item
   item_stays i name earlier low high kept =
@@ -247,9 +247,9 @@ module _ (case : Case) (wf : WellFormed case) (α : Assignment) (block' : ℕ �
   name_stays : (i name : ℕ) (earlier : List Line) → AllLines (Kept case α.block block') earlier
       → read_after case moved i earlier name ≡ read_after case α i earlier name
   unfolding read_after read_name read_local
-  name_stays i name earlier kept = go (lt_view name local_count) (lt_view (name - local_count) (item_count_lem case))
+  name_stays i name earlier kept = go (lt_view name local_count) (lt_view (name - local_count) (item_count case))
     where
-      go : LtView name local_count → LtView (name - local_count) (item_count_lem case) → read_after case moved i earlier name ≡ read_after case α i earlier name
+      go : LtView name local_count → LtView (name - local_count) (item_count case) → read_after case moved i earlier name ≡ read_after case α i earlier name
       go (below h q) _ = rw q
       go (above h q) (below h' q') = rw (q, q') (item_stays i name earlier h (omega (arith, wf.few_items)) kept)
       go (above h q) (above h' q') = rw (q, q')
@@ -263,7 +263,7 @@ module _ (case : Case) (wf : WellFormed case) (α : Assignment) (block' : ℕ �
       go (above more q) = absurd (omega arith)
   local_stays i j name earlier (is_no_name h) =
       let copy = latest case.G name earlier in
-      let past : local_count + item_count_lem case ≤ name = omega (arith, h, wf.few_items) in
+      let past : local_count + item_count case ≤ name = omega (arith, h, wf.few_items) in
       read_name_no_name case moved i name copy past ∙ sym (read_name_no_name case α j name copy past)
 
   reads_stay : (earlier : List Line) (l : Line) → AllLines (Kept case α.block block') earlier → Kept case α.block block' l
@@ -316,7 +316,7 @@ module _ (case : Case) (wf : WellFormed case) (α : Assignment) (block' : ℕ �
   all_values_stay [] kept = refl
   all_values_stay (ls ∷ threads) kept = rw (values_stay [] ls tt kept.0, all_values_stay threads kept.1)
 
-  walk_stays : (i g : ℕ) (ls : List Line) → g < item_count_lem case → AllLines (Kept case α.block block') ls → walk_back case moved i g ls ≡ walk_back case α i g ls
+  walk_stays : (i g : ℕ) (ls : List Line) → g < item_count case → AllLines (Kept case α.block block') ls → walk_back case moved i g ls ≡ walk_back case α i g ls
   unfolding walk_back
   walk_stays i g [] few kept = before_stays i g
   walk_stays i g (l ∷ ls) few kept = go (eq_view (target_name case.G l) (item_name g)) (walk_stays i g ls few kept.1)

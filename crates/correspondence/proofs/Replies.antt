@@ -9,7 +9,7 @@ use lib.Dec.{leb, eqb}
 use lib.ListN.{length}
 use borrow.Author.Tests.{leb-true, le-leb, lt-leb, eqb-true, eq-eqb}
 use Rattle.model.specs.Lists.{written_over}
-use Rattle.model.specs.CaseFile.{case_of, item_count_lem}
+use Rattle.model.specs.CaseFile.{case_of, item_count}
 use Rattle.model.specs.Accept.{verdict}
 use Rattle.model.specs.Assignment.{variables, assignment_of}
 use Rattle.model.specs.Table.{table, numbers_of}
@@ -26,7 +26,7 @@ use Rattle.correspondence.specs.Demand3.{NotRefused}
 -- What refusals 1 to 13 leave to a schedule that is answered.
 pub record Fits (bytes schedule : List ℕ) (room : ℕ) : Type 0 where
   pub accepted : verdict bytes ≡ Accepted
-  pub has_room : item_count_lem (case_of bytes) ≤ room
+  pub has_room : item_count (case_of bytes) ≤ room
   pub has_size : length schedule ≡ schedule_size (case_of bytes)
   pub fit : lengths_fit (case_of bytes) (block_lengths (case_of bytes) schedule) ≡ true
 
@@ -34,7 +34,7 @@ pub fits_of_answered : (bytes schedule : List ℕ) (room : ℕ) → NotRefused (
 unfolding replayed
 fits_of_answered bytes schedule room taken =
     let case = past_refusals NotRefused (verdict bytes) _ _ (λ number place t. t) taken in
-    let items = past_unless NotRefused (leb (item_count_lem (case_of bytes)) room) _ _ (λ t. t) case.later in
+    let items = past_unless NotRefused (leb (item_count (case_of bytes)) room) _ _ (λ t. t) case.later in
     let size = past_unless NotRefused (eqb (length schedule) (schedule_size (case_of bytes))) _ _ (λ t. t) items.later in
     let fit = past_unless NotRefused (lengths_fit (case_of bytes) (block_lengths (case_of bytes) schedule)) _ _ (λ t. t) size.later in
     record { accepted = case.here; has_room = leb-true _ _ items.here; has_size = eqb-true _ _ size.here; fit = fit.here }
@@ -94,6 +94,6 @@ module _ (bytes : List ℕ) (accepted : verdict bytes ≡ Accepted) where
     decoded_into_lem slice h = rw (decoded_with_room (length slice) h)
 
   -- The replayer.
-  pub replayed_short : (schedule : List ℕ) (room : ℕ) → room < item_count_lem (case_of bytes) → replayed bytes schedule room ≡ replayeds.Refused 10 0
+  pub replayed_short : (schedule : List ℕ) (room : ℕ) → room < item_count (case_of bytes) → replayed bytes schedule room ≡ replayeds.Refused 10 0
   unfolding replayed
   replayed_short schedule room h = rw (on_accepted _ _ _ accepted, lt-leb _ _ h)

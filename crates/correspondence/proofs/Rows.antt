@@ -14,7 +14,7 @@ use lib.ListN.{get_or, length}
 use borrow.Author.Tests.{eqb-true, eq-eqb}
 use Rattle.laws.proofs.Views.{EqView, same, diff, eq_view}
 use Rattle.model.specs.Word.{bit}
-use Rattle.model.specs.CaseFile.{Line, Case, lines_of, item_count_lem}
+use Rattle.model.specs.CaseFile.{Line, Case, lines_of, item_count}
 use Rattle.model.specs.Line.{item_name, target_name}
 use Rattle.model.specs.Assignment.{Assignment}
 use Rattle.model.specs.Copies.{latest, reads_after, walk_back}
@@ -55,7 +55,9 @@ module _ (case : Case) (α : Assignment) where
       go : EqView (target_name case.G l) (item_name g) → walk_back case α i g (from_record (latest case.G (item_name g) ls) ls) ≡ walk_back case α i g ls
           → walk_back case α i g (from_record (latest case.G (item_name g) (l ∷ ls)) (l ∷ ls)) ≡ walk_back case α i g (l ∷ ls)
       go (same e q) ih = rw (latest_target case.G (item_name g) l ls e, eq-eqb l.number l.number refl)
-      go (diff e q) ih = rw (latest_other case.G (item_name g) l ls e) (past (eqb l.number (latest case.G (item_name g) ls)) ih e)
+      go (diff e q) ih =
+          subst (λ (k : ℕ). walk_back case α i g (from_record k (l ∷ ls)) ≡ walk_back case α i g (l ∷ ls))
+          (sym (latest_other case.G (item_name g) l ls e)) (past (eqb l.number (latest case.G (item_name g) ls)) ih e)
 
   abbrev block_lines : ℕ → List Line
   block_lines i = reverse (lines_of case (i % case.T))
@@ -84,25 +86,25 @@ module _ (case : Case) (α : Assignment) where
   rows_of_items i first (suc many) m = (row_of_block i first (m first (omega arith)), rows_of_items i (suc first) many (λ g h. m g (omega arith)))
 
   blocks_of_rows : (first many : ℕ) → AllHold case α (block_rows case first many)
-      → (i : ℕ) → first ≤ i → i < first + many → (g : ℕ) → g < item_count_lem case → BlockMet case α i g
+      → (i : ℕ) → first ≤ i → i < first + many → (g : ℕ) → g < item_count case → BlockMet case α i g
   unfolding block_rows
   blocks_of_rows first zero h i low high g few = absurd (omega arith)
   blocks_of_rows first (suc many) h i low high g few =
-      let parts = all_hold_split case α (item_rows case (block_lines first) first 0 (item_count_lem case)) (block_rows case (suc first) many) h in
+      let parts = all_hold_split case α (item_rows case (block_lines first) first 0 (item_count case)) (block_rows case (suc first) many) h in
       go (eq_view first i) parts.front (λ low' high'. blocks_of_rows (suc first) many parts.back i low' high' g few)
     where
-      go : EqView first i → AllHold case α (item_rows case (block_lines first) first 0 (item_count_lem case))
+      go : EqView first i → AllHold case α (item_rows case (block_lines first) first 0 (item_count case))
           → (suc first ≤ i → i < suc first + many → BlockMet case α i g) → BlockMet case α i g
-      go (same e q) items ih = subst (λ (x : ℕ). BlockMet case α x g) e (items_of_rows first 0 (item_count_lem case) items g (omega arith) (omega arith))
+      go (same e q) items ih = subst (λ (x : ℕ). BlockMet case α x g) e (items_of_rows first 0 (item_count case) items g (omega arith) (omega arith))
       go (diff e q) items ih = ih (omega arith) (omega arith)
 
-  rows_of_blocks : (first many : ℕ) → ((i : ℕ) → i < first + many → (g : ℕ) → g < item_count_lem case → BlockMet case α i g)
+  rows_of_blocks : (first many : ℕ) → ((i : ℕ) → i < first + many → (g : ℕ) → g < item_count case → BlockMet case α i g)
       → AllHold case α (block_rows case first many)
   unfolding block_rows
   rows_of_blocks first zero m = tt
   rows_of_blocks first (suc many) m =
-      all_hold_append case α (item_rows case (block_lines first) first 0 (item_count_lem case)) (block_rows case (suc first) many)
-      (rows_of_items first 0 (item_count_lem case) (λ g h. m first (omega arith) g (omega arith)))
+      all_hold_append case α (item_rows case (block_lines first) first 0 (item_count case)) (block_rows case (suc first) many)
+      (rows_of_items first 0 (item_count case) (λ g h. m first (omega arith) g (omega arith)))
       (rows_of_blocks (suc first) many (λ i h. m i (omega arith)))
 
   -- Row 7.

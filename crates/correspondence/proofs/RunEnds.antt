@@ -12,7 +12,7 @@ use lib.ListN.{get_or, length, take, take-append-drop}
 use lib.Seq.{take-add}
 use borrow.Author.Tests.{ne_eqb, eq-eqb}
 use Rattle.model.specs.CaseFile.{Line, Case, lines_of}
-use Rattle.model.specs.Machine.{Memory, State, Outcome, refused14, ended_cut_off, violated, clean, stepped, start, rest_in, memory_in, ending, run}
+use Rattle.model.specs.Machine.{Memory, State, Outcome, refused14, cut_off, violated, clean, stepped, start, rest_in, memory_in, ending, run}
 use Rattle.model.specs.Schedule.{block_lengths, given_in, steps_of, run_of}
 use Rattle.model.specs.Runs.{Step, block_steps, next_state, course, last_state, ends, strays, broken, First, course_of, run_steps, thread_steps, lines_run, Legal, Takes, FirstEnding, NoneStrays, NoneBroken, unrun_input, Meets14, on_the_way, after_the_last_step}
 use Rattle.laws.proofs.Views.{EqView, same, diff, eq_view}
@@ -165,7 +165,7 @@ module _ (case : Case) (wf : WellFormed case) (schedule : List ℕ) where
   pub data RunEnding : Type 0 where
     met_14 : (k : ℕ) → Meets14 case schedule k → run_of case schedule ≡ refused14 k → RunEnding
     ended_cut_off : (s : Step) → NotMet14 case schedule → FirstEnding case schedule s
-        → run_of case schedule ≡ ended_cut_off s.line.number s.memory.items → RunEnding
+        → run_of case schedule ≡ cut_off s.line.number s.memory.items → RunEnding
     ended_clean : NotMet14 case schedule → Legal case schedule → NoneBroken case schedule → run_of case schedule ≡ clean last → RunEnding
     ended_violated : (s : Step) → NotMet14 case schedule → Legal case schedule → First (broken case given) (run_steps case schedule) s
         → run_of case schedule ≡ violated s.line.number last → RunEnding

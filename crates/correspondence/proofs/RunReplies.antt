@@ -12,7 +12,7 @@ use lib.ListN.{length}
 use Rattle.model.specs.Lists.{unless}
 use Rattle.model.specs.CaseFile.{Case, case_of}
 use Rattle.model.specs.Accept.{verdict}
-use Rattle.model.specs.Machine.{Outcome, refused14, ended_cut_off, violated, clean}
+use Rattle.model.specs.Machine.{Outcome, refused14, cut_off, violated, clean}
 use Rattle.model.specs.Schedule.{schedule_size, block_lengths, given_in, lengths_fit, run_of}
 use Rattle.model.specs.Runs.{Step, course_of, run_steps, last_items, ends, broken, Legal, Violates, InBlocks, Takes, FirstBroken, NoneBroken, FirstEnding, Meets14}
 use Rattle.model.specs.Answers.{answer_of_run, items_after, replayed, replayed_into}
@@ -188,13 +188,13 @@ module _ (bytes : List ℕ) (accepted : verdict bytes ≡ Accepted) (wf : WellFo
         go (ended_violated s other legal first e) = absurd (not_met_has_no_record case schedule other k found)
 
   -- The outcome at the first line that ends the run.
-  outcome_of_cut_off : Takes case schedule → (s : Step) → FirstEnding case schedule s → run_of case schedule ≡ ended_cut_off s.line.number s.memory.items
+  outcome_of_cut_off : Takes case schedule → (s : Step) → FirstEnding case schedule s → run_of case schedule ≡ cut_off s.line.number s.memory.items
   outcome_of_cut_off takes s found = go (run_ending case wf schedule)
     where
-      go : RunEnding case wf schedule → run_of case schedule ≡ ended_cut_off s.line.number s.memory.items
+      go : RunEnding case wf schedule → run_of case schedule ≡ cut_off s.line.number s.memory.items
       go (met_14 k found' e) = absurd (taken_is_not_met takes k found')
       go (ended_cut_off s' other first e) =
-          e ∙ ap (λ (x : Step). ended_cut_off x.line.number x.memory.items) (first_is_one (ends case given) (course_of case schedule) s' s first found)
+          e ∙ ap (λ (x : Step). cut_off x.line.number x.memory.items) (first_is_one (ends case given) (course_of case schedule) s' s first found)
       go (ended_clean other legal _ e) = absurd (none_has_no_first (ends case given) (course_of case schedule) s legal found)
       go (ended_violated _ other legal _ e) = absurd (none_has_no_first (ends case given) (course_of case schedule) s legal found)
 
@@ -206,7 +206,7 @@ module _ (bytes : List ℕ) (accepted : verdict bytes ≡ Accepted) (wf : WellFo
   leaves_of_run : Takes case schedule → (o : Outcome) → run_of case schedule ≡ o → NotRefused (answer_of_run o) → Leaves bytes schedule (items_after o)
   unfolding replayed_into
   leaves_of_run takes (refused14 k) e answered slice h = absurd answered
-  leaves_of_run takes (ended_cut_off k items) e answered slice h = rw (replies_of_run (length slice) h takes (ended_cut_off k items) e, e)
+  leaves_of_run takes (cut_off k items) e answered slice h = rw (replies_of_run (length slice) h takes (cut_off k items) e, e)
   leaves_of_run takes (violated k items) e answered slice h = rw (replies_of_run (length slice) h takes (violated k items) e, e)
   leaves_of_run takes (clean items) e answered slice h = rw (replies_of_run (length slice) h takes (clean items) e, e)
 

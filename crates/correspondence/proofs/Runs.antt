@@ -9,7 +9,7 @@ use native.Mathlib.Omega.{arith}
 use native.Mathlib.Nat.{zero-add}
 use lib.ListN.{get_or, length, replicate, get_or-replicate, length-replicate}
 use Rattle.model.specs.Limits.{local_count}
-use Rattle.model.specs.CaseFile.{Line, Case, item_count_lem, sum_of_threads, has_number}
+use Rattle.model.specs.CaseFile.{Line, Case, item_count, sum_of_threads, has_number}
 use Rattle.model.specs.Machine.{start}
 use Rattle.model.specs.Assignment.{Assignment}
 use Rattle.model.specs.Copies.{latest, value_before, read_local}
@@ -111,7 +111,7 @@ module _ (case : Case) (wf : WellFormed case) where
 
   pub same_blocks : (α β : Assignment) (lens : List ℕ) (given : ℕ → ℕ) → length lens ≡ suc case.n
       → AgreesItems case α 0 (snapshots case given 0 lens (start case)) → AgreesItems case β 0 (snapshots case given 0 lens (start case))
-      → (i g : ℕ) → i < case.n → g < item_count_lem case → α.block_value i g ≡ β.block_value i g
+      → (i g : ℕ) → i < case.n → g < item_count case → α.block_value i g ≡ β.block_value i g
   same_blocks α β lens given all_blocks a b i g few hg =
       agreeing_blocks_are_same α β case 0 (snapshots case given 0 lens (start case)) a b i g (omega arith)
       (omega (arith, length_of_snapshots case given 0 lens (start case), all_blocks)) few hg

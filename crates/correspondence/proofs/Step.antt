@@ -9,7 +9,7 @@ use lib.Dec.{ltb}
 use lib.ListN.{set, length, length-set}
 use Rattle.laws.proofs.Views.{EqView, same, diff, eq_view, LtView, below, above, lt_view}
 use Rattle.model.specs.Limits.{local_count}
-use Rattle.model.specs.CaseFile.{Kind, compute, store, load, input, assert, assume, lock, unlock, Line, Case, item_count_lem}
+use Rattle.model.specs.CaseFile.{Kind, compute, store, load, input, assert, assume, lock, unlock, Line, Case, item_count}
 use Rattle.model.specs.Line.{no_name, Reads, name_of_target, target_name, guard_true, guarded_out_value, value_by, value_of}
 use Rattle.model.specs.Machine.{Memory, look, put_local, put_item, reads_in, stepped}
 use Rattle.model.specs.Assignment.{Assignment}
@@ -21,7 +21,7 @@ use Rattle.laws.proofs.Copies.{read_name_no_name, read_name_own_block, read_afte
 -- A memory of 16 locals and all items.
 pub record MemoryFits (case : Case) (m : Memory) : Type 0 where
   pub all_locals : length m.locals ≡ local_count
-  pub all_items : length m.items ≡ item_count_lem case
+  pub all_items : length m.items ≡ item_count case
 
 length_set_where : (on : Bool) (xs : List ℕ) (j x : ℕ) → length (cond on (set xs j x) xs) ≡ length xs
 length_set_where true xs j x = length-set xs j x
@@ -56,7 +56,7 @@ module _ (case : Case) (given : ℕ → ℕ) (l : Line) (m : Memory) where
   }
 
   -- After a line its target has the line's value, whether the guard is true or not.
-  pub look_target_after_step : WellFormed case → MemoryFits case m → target_name case.G l < local_count + item_count_lem case
+  pub look_target_after_step : WellFormed case → MemoryFits case m → target_name case.G l < local_count + item_count case
       → look (stepped case given l m) (target_name case.G l) ≡ value_of l (reads_in case given l m)
   unfolding value_by look put_local put_item
   look_target_after_step wf fits h = go (guard_true l reads) refl
@@ -79,9 +79,9 @@ module _ (case : Case) (α : Assignment) where
       → MemoryFits case m → 0 < l.number → α.block l.number ≡ i → α.value l.number ≡ value_of l (reads_in case given l m)
       → Corresponds i earlier m → Corresponds i (l ∷ earlier) (stepped case given l m)
   step_keeps_correspondence wf given i l earlier m fits positive in_block has_value corresponds name =
-      go (eq_view (target_name case.G l) name) (lt_view name (local_count + item_count_lem case))
+      go (eq_view (target_name case.G l) name) (lt_view name (local_count + item_count case))
     where
-      go : EqView (target_name case.G l) name → LtView name (local_count + item_count_lem case)
+      go : EqView (target_name case.G l) name → LtView name (local_count + item_count case)
           → look (stepped case given l m) name ≡ read_after case α i (l ∷ earlier) name
       go (same e _) (below h _) =
           ap (look (stepped case given l m)) (sym e)

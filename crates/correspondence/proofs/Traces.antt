@@ -10,7 +10,7 @@ use lib.ListN.{get_or, set, length, drop}
 use borrow.Author.Tests.{eq-eqb}
 use Rattle.laws.proofs.Views.{EqView, same, diff, eq_view}
 use Rattle.laws.proofs.Counting.{own_number_counts, number_is_other}
-use Rattle.model.specs.CaseFile.{Line, Case, item_count_lem, sum_of_lines, sum_of_threads, has_number}
+use Rattle.model.specs.CaseFile.{Line, Case, item_count, sum_of_lines, sum_of_threads, has_number}
 use Rattle.model.specs.Machine.{Memory, State, stepped, rest_in, memory_in}
 use Rattle.model.specs.Assignment.{Assignment}
 use Rattle.model.specs.Runs.{next_state}
@@ -214,12 +214,12 @@ module _ (α β : Assignment) where
       go (diff _ q) ih = ih (omega (arith, rw q at h))
 
   pub agreeing_blocks_are_same : (case : Case) (i : ℕ) (items : List (List ℕ)) → AgreesItems case α i items → AgreesItems case β i items
-      → (j g : ℕ) → i ≤ j → j < i + length items → j < case.n → g < item_count_lem case → α.block_value j g ≡ β.block_value j g
+      → (j g : ℕ) → i ≤ j → j < i + length items → j < case.n → g < item_count case → α.block_value j g ≡ β.block_value j g
   agreeing_blocks_are_same case i [] a b j g h h' few hg = absurd (omega arith)
   agreeing_blocks_are_same case i (x ∷ items) a b j g h h' few hg =
       go (eq_view i j) (agreeing_blocks_are_same case (suc i) items a.1 b.1 j g)
     where
-      go : EqView i j → (suc i ≤ j → j < suc i + length items → j < case.n → g < item_count_lem case → α.block_value j g ≡ β.block_value j g)
+      go : EqView i j → (suc i ≤ j → j < suc i + length items → j < case.n → g < item_count case → α.block_value j g ≡ β.block_value j g)
           → α.block_value j g ≡ β.block_value j g
       go (same e _) ih = rw (← e) (a.0 (omega arith) g hg ∙ sym (b.0 (omega arith) g hg))
       go (diff differs _) ih = ih (omega arith) (omega arith) few hg

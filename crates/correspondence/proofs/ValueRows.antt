@@ -8,7 +8,7 @@ use native.Mathlib.Omega.{arith}
 use lib.ListN.{get_or, length}
 use borrow.Author.Tests.{eqb-true, eq-eqb, not-true}
 use Rattle.model.specs.Limits.{local_count}
-use Rattle.model.specs.CaseFile.{Kind, compute, store, load, input, assert, assume, lock, unlock, Line, Case, item_count_lem, line_at}
+use Rattle.model.specs.CaseFile.{Kind, compute, store, load, input, assert, assume, lock, unlock, Line, Case, item_count, line_at}
 use Rattle.model.specs.Line.{no_name, target_name, guard_true}
 use Rattle.model.specs.Assignment.{Assignment, was_run}
 use Rattle.model.specs.Copies.{reads_after}
@@ -27,7 +27,7 @@ met_where_run : (run met : Bool) → (run ≡ true → met ≡ true) → not run
 met_where_run true met h = h refl
 met_where_run false met h = refl
 
-module _ (case : Case) (few : local_count + item_count_lem case ≤ no_name) (α : Assignment) where
+module _ (case : Case) (few : local_count + item_count case ≤ no_name) (α : Assignment) where
   value_of_row : (earlier : List Line) (l : Line) → line_at case l.number ≡ l → holds case α (value_row case earlier l) ≡ true
       → α.value l.number ≡ value_after case α earlier l
   value_of_row earlier l found h = eqb-true _ _ (sym (value_row_holds case few α earlier l found) ∙ h)

@@ -10,7 +10,7 @@ use lib.ListN.{get_or, length, drop, length-set, get_or-eq_default}
 use borrow.Author.Tests.{lt-ltb, le-ltb}
 use Rattle.laws.proofs.Views.{EqView, same, diff, eq_view, LtView, below, above, lt_view}
 use Rattle.model.specs.Limits.{local_count}
-use Rattle.model.specs.CaseFile.{Line, Case, lines_of, item_count_lem}
+use Rattle.model.specs.CaseFile.{Line, Case, lines_of, item_count}
 use Rattle.model.specs.Line.{item_name}
 use Rattle.model.specs.Machine.{Memory, State, look, rest_in, memory_in}
 use Rattle.model.specs.Assignment.{Assignment}
@@ -38,15 +38,15 @@ module _ (case : Case) (α : Assignment) where
     pub read : (name : ℕ) → name < local_count → get_or locals name 0 ≡ read_local α (latest case.G name earlier)
 
   -- Where block i starts, the correspondence is that of the thread's locals and of the items.
-  pub correspondence_at_start : (i : ℕ) (earlier : List Line) (m : Memory) → length m.items ≡ item_count_lem case → AllLines Positive earlier
+  pub correspondence_at_start : (i : ℕ) (earlier : List Line) (m : Memory) → length m.items ≡ item_count case → AllLines Positive earlier
       → RunBefore α.block i earlier → LocalsAre earlier m.locals
-      → ((g : ℕ) → g < item_count_lem case → get_or m.items g 0 ≡ value_before case α i g)
+      → ((g : ℕ) → g < item_count case → get_or m.items g 0 ≡ value_before case α i g)
       → Corresponds case α i earlier m
   unfolding look read_after read_name
   correspondence_at_start i earlier m all_items positive before locals items name =
-      go (lt_view name local_count) (lt_view (name - local_count) (item_count_lem case))
+      go (lt_view name local_count) (lt_view (name - local_count) (item_count case))
     where
-      go : LtView name local_count → LtView (name - local_count) (item_count_lem case) → look m name ≡ read_after case α i earlier name
+      go : LtView name local_count → LtView (name - local_count) (item_count case) → look m name ≡ read_after case α i earlier name
       go (below h e) _ = rw e (locals.read name h)
       go (above h e) (below h' e') =
           rw (e, e') (items (name - local_count) h' ∙ sym (read_item_at_start case α i (name - local_count) earlier positive before)
@@ -65,14 +65,14 @@ module _ (case : Case) (α : Assignment) where
     read = λ name h. simp (lt-ltb name local_count h) at (corresponds name);
   }
 
-  pub item_of_correspondence : (i g : ℕ) (earlier : List Line) (m : Memory) → g < item_count_lem case → Corresponds case α i earlier m
+  pub item_of_correspondence : (i g : ℕ) (earlier : List Line) (m : Memory) → g < item_count case → Corresponds case α i earlier m
       → get_or m.items g 0 ≡ read_item case α i g (latest case.G (item_name g) earlier)
   unfolding look read_after read_name
   item_of_correspondence i g earlier m h corresponds =
-      simp (le-ltb (item_name g) local_count (omega arith), item_of_name g, lt-ltb g (item_count_lem case) h) at (corresponds (item_name g))
+      simp (le-ltb (item_name g) local_count (omega arith), item_of_name g, lt-ltb g (item_count case) h) at (corresponds (item_name g))
 
   -- Where a block ends, an item has the value that constraint 6 finds by walking back over the whole thread.
-  pub item_at_end : (i t g : ℕ) (rest earlier : List Line) (m : Memory) → g < item_count_lem case → AllLines Positive earlier
+  pub item_at_end : (i t g : ℕ) (rest earlier : List Line) (m : Memory) → g < item_count case → AllLines Positive earlier
       → Place case α.block (suc i) t rest earlier → Ordered case α.block t (suc i) rest → Corresponds case α i earlier m
       → get_or m.items g 0 ≡ walk_back case α i g (reverse (lines_of case t))
   item_at_end i t g rest earlier m h positive place ordered corresponds =
@@ -87,14 +87,14 @@ module _ (case : Case) (α : Assignment) where
   pub record Invariant (i : ℕ) (s : State) (earlier : ℕ → List Line) : Type 0 where
     pub places : Places case α i s.rests earlier
     pub locals : (t : ℕ) → t < case.T → LocalsAre (earlier t) (get_or s.locals t [])
-    pub items : i ≤ case.n → (g : ℕ) → g < item_count_lem case → get_or s.items g 0 ≡ value_before case α i g
+    pub items : i ≤ case.n → (g : ℕ) → g < item_count case → get_or s.items g 0 ≡ value_before case α i g
     pub all_rests : length s.rests ≡ case.T
     pub all_locals : length s.locals ≡ case.T
-    pub all_items : length s.items ≡ item_count_lem case
+    pub all_items : length s.items ≡ item_count case
 
   -- Constraint 6 from block i on.
   abbrev pub BlocksMet : ℕ → Type 0
-  BlocksMet i = (j : ℕ) → i ≤ j → j < case.n → (g : ℕ) → g < item_count_lem case → BlockMet case α j g
+  BlocksMet i = (j : ℕ) → i ≤ j → j < case.n → (g : ℕ) → g < item_count case → BlockMet case α j g
 
 module _ (case : Case) (given : ℕ → ℕ) (α : Assignment) where
   -- From block i on, each block runs with the assignment's values, and leaves its block values; what is left was not run.
@@ -157,7 +157,7 @@ module _ (case : Case) (wf : WellFormed case) (α : Assignment) (i : ℕ) (s : S
     -- Constraint 6 where the block ends, for the last block too.
     pub walk_back_at_end : (lens : List ℕ) → i + length (len ∷ lens) ≡ suc case.n
         → BlocksNext case α (suc i) lens (rests_after case i len s.rests)
-        → (g : ℕ) → g < item_count_lem case
+        → (g : ℕ) → g < item_count case
         → get_or (next_state case given i len s).items g 0 ≡ walk_back case α i g (reverse (lines_of case (i % case.T)))
     walk_back_at_end lens last blocks g hg =
         let t = i % case.T in
@@ -230,7 +230,7 @@ module _ (case : Case) (wf : WellFormed case) (given : ℕ → ℕ) (α : Assign
           (turn case wf i) decoded))
       go (diff differs _) = of_other_thread P [] case.T s.rests earlier (i % case.T) rest run decoded t differs ht
 
-  blocks_met_before : (i : ℕ) → (i < case.n → (g : ℕ) → g < item_count_lem case → BlockMet case α i g) → BlocksMet case α (suc i)
+  blocks_met_before : (i : ℕ) → (i < case.n → (g : ℕ) → g < item_count case → BlockMet case α i g) → BlocksMet case α (suc i)
       → BlocksMet case α i
   blocks_met_before i here later j h few g hg = go (eq_view i j)
     where

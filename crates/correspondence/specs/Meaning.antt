@@ -4,7 +4,7 @@
 use Rattle.std.specs.Prelude.{◌≡◌, ℕ, zero, suc, ◌+◌, ◌%◌, ◌≤◌, ◌<◌, Bool, true, cond, ◌&&◌, List, [], ◌∷◌, reverse, length}
 use Rattle.model.specs.Word.{word_size, AllBelow, bit}
 use Rattle.model.specs.Limits.{local_count}
-use Rattle.model.specs.CaseFile.{Kind, compute, store, load, input, assert, assume, lock, unlock, Line, Case, lines_of, item_count_lem, sum_of_threads, has_number}
+use Rattle.model.specs.CaseFile.{Kind, compute, store, load, input, assert, assume, lock, unlock, Line, Case, lines_of, item_count, sum_of_threads, has_number}
 use Rattle.model.specs.Line.{no_name, Reads, guard_true, holder, is_input}
 use Rattle.model.specs.Assignment.{Assignment, was_run}
 use Rattle.model.specs.Copies.{reads_after, walk_back}
@@ -23,8 +23,8 @@ pub record SmallLine (l : Line) : Type 0 where
 pub record WellFormed (case : Case) : Type 0 where
   pub some_thread : 0 < case.T
   pub thread_count_lem : length case.threads ≡ case.T
-  pub item_count_lem : length case.initial ≡ item_count_lem case
-  pub few_items : local_count + item_count_lem case ≤ no_name
+  pub item_count_lem : length case.initial ≡ item_count case
+  pub few_items : local_count + item_count case ≤ no_name
   pub few_blocks : case.n + 2 ≤ word_size
   pub positive : (t : ℕ) → AllLines Positive (lines_of case t)
   pub once : (k : ℕ) → sum_of_threads (has_number k) case.threads ≤ 1
@@ -61,7 +61,7 @@ BlockMet case α i g = α.block_value i g ≡ walk_back case α i g (reverse (li
 pub record Meets (case : Case) (α : Assignment) : Type 0 where
   pub order : (t : ℕ) → t < case.T → Ordered case α.block t 0 (lines_of case t)
   pub lines : (t : ℕ) → t < case.T → LinesMet case α [] (lines_of case t)
-  pub blocks : (i : ℕ) → i < case.n → (g : ℕ) → g < item_count_lem case → BlockMet case α i g
+  pub blocks : (i : ℕ) → i < case.n → (g : ℕ) → g < item_count case → BlockMet case α i g
 
 -- The 8s, which Five has put beside them.
 abbrev pub AllStay : Case → Assignment → Type 0

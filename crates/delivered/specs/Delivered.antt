@@ -6,7 +6,7 @@ use Rattle.std.specs.Prelude.{◌≡◌, ◌↔◌, ℕ, ◌≤◌, List, length
 use Rattle.model.specs.Word.{AllBelow}
 use Rattle.model.specs.Limits.{most_listing_bytes}
 use Rattle.model.specs.Accept.{verdict}
-use Rattle.model.specs.Listing.{listing_text_spec, listed}
+use Rattle.model.specs.Listing.{listing_text, listed}
 use Rattle.model.specs.declared.Verdict.TheVariants.{Accepted}
 use Rattle.model.specs.declared.Listed.TheVariants.{Text}
 use Rattle.laws.specs.ForwardWalk.{ForAnyLines}
@@ -74,7 +74,7 @@ pub record Delivered (M : Type 1) : Type 2 where
   pub largest_sizes : LargestSizes
   pub never_too_short : (bytes : List ℕ) → NeverTooShort bytes
   pub text_at_most : (bytes : List ℕ) → verdict bytes ≡ Accepted → length (smt_text bytes) ≤ most_text_bytes
-  pub listing_never_too_short : (bytes : List ℕ) (room : ℕ) → most_listing_bytes ≤ room → listed bytes room ≡ Text (length (listing_text_spec bytes))
+  pub listing_never_too_short : (bytes : List ℕ) (room : ℕ) → most_listing_bytes ≤ room → listed bytes room ≡ Text (length (listing_text bytes))
   -- and the numbers tell the answers apart, so that it can be read off them.
   pub told_apart : AnswersToldApart
   pub corresponds_in_numbers : (bytes : List ℕ) → AllBelow 256 bytes → verdict bytes ≡ Accepted → SomeYes bytes ↔ SomeViolated bytes

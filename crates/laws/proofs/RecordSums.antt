@@ -43,7 +43,7 @@ module _ (f : ℕ → ℕ) where
   one_number x i (suc many) h h' = go (eq_view x i) (one_number x (suc i) many)
     where
       go : EqView x i → (suc i ≤ x → x < suc i + many → times_from (λ k. bit (eqb x k)) (suc i) many ≡ f x) → times_from (λ k. bit (eqb x k)) i (suc many) ≡ f x
-      go (same e q) rest = rw (q, e) (omega (arith, one-mul (f i), not_yet i (suc i) many (omega arith)))
+      go (same e q) rest = rw (q, e) (omega (arith, one-mul (f i), not_yet x (suc i) many (omega (arith, e))))
       go (diff e q) rest = rw q (omega (arith, zero-mul (f i), rest (omega arith) (omega arith)))
 
   -- the lines of a chain, of so many threads, and of all

@@ -1,1 +1,3 @@
 // Laws of `model`'s definitions; there is no code here.
+
+#![tactic(auto)]

@@ -1,4 +1,5 @@
 // What one line names, reads and does. A record knows its thread; its number makes no difference here, and the contracts are for all.
+#![tactic(auto)]
 ghost use Rattle.std.specs.Prelude.{◌≡◌, ℕ, ◌<◌, ◌≤◌, true, List, take, if◌then◌else◌, nat_eq};
 ghost use Rattle.model.specs.Word.{bit};
 ghost use Rattle.model.specs.Limits.{most_threads, most_globals, most_items};
@@ -17,14 +18,14 @@ use model::{ITEMS, LOCALS, NAMES};
 use std::num::{wrapping_add_u16, wrapping_sub_u16};
 
 // How many globals and how many items a case has.
-#[derive(Drop)]
+#[derive(Clone, Copy)]
 pub struct Counts {
     pub globals: usize,
     pub items: usize,
 }
 
 // The copies of a line's guard, operands and target.
-#[derive(Drop)]
+#[derive(Clone, Copy)]
 pub struct Copies {
     pub guard: u16,
     pub a: u16,

@@ -1,4 +1,5 @@
 // Equations with their links, and the variables of a case: what the assertions of lines and of block values share.
+#![tactic(auto)]
 ghost use Rattle.std.specs.Prelude.{◌≡◌, ℕ, ◌+◌, ◌-◌, ◌*◌, ◌≤◌, take};
 ghost use Rattle.model.specs.CaseFile.{Case};
 ghost use Rattle.smt.specs.Term.{variable};
@@ -16,7 +17,7 @@ use spell::{Atom, put, put_closing, put_equal, put_variable};
 pub const SOURCES: usize = 6;
 
 // The record numbers of a case's sources, so many of them.
-#[derive(Drop)]
+#[derive(Clone, Copy)]
 pub struct Sources {
     pub count: usize,
     pub records: [u16; SOURCES],
@@ -24,7 +25,7 @@ pub struct Sources {
 
 // What assertions need of a case: its counts, the block number of lines that were not run, twice its records, and its items' initial
 // values.
-#[derive(Drop)]
+#[derive(Clone, Copy)]
 pub struct Shape {
     pub threads: u16,
     pub switches: u16,

@@ -1,4 +1,5 @@
 // The listing program: reads a case on standard input and prints its table, or the refusal.
+#![tactic(auto)]
 fn main() {
     print_listing::print_listing();
 }

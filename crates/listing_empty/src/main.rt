@@ -1,4 +1,5 @@
 // The listing of the case with R 0 and n 0, for the gate.
+#![tactic(auto)]
 fn main() {
     print_listing::print_listing();
 }

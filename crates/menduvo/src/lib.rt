@@ -2,6 +2,7 @@
 // Rust. Each answer comes in the document's numbers; what each call answers and leaves in the lent slices is defined in `model`'s
 // specs/Accept.antt, specs/Answers.antt, specs/Listing.antt and specs/Taking.antt and in `script`'s specs/Text.antt. The one statement
 // about them all is `delivered`'s specs/Delivered.antt.
+#![tactic(auto)]
 ghost use Rattle.std.specs.Prelude.{◌≡◌, length};
 ghost use Rattle.model.specs.Accept.{verdict};
 ghost use Rattle.model.specs.Answers.{encoded, encoded_into, checked, decoded, decoded_into, replayed, replayed_into, filled, filled_into};

@@ -9,7 +9,7 @@ use borrow.Author.Tests.{le-leb, lt-leb}
 use lib.Dec.{eqb, leb}
 use Rattle.model.specs.CaseFile.{Kind, kind_of, record_field, thread_count, line_of, case_of}
 use Rattle.model.specs.Assignment.{was_run, assignment_of}
-use Rattle.model.specs.Table.{row, follow_row, stay_rows_lem, line_order_rows}
+use Rattle.model.specs.Table.{row, follow_row, stay_rows, line_order_rows}
 use Rattle.model.specs.Holds.{holds, first_failing}
 use Rattle.laws.specs.RowCounts.{has_eight, order_row_count}
 use Rattle.laws.proofs.Views.{EqView, same, diff, eq_view}
@@ -57,13 +57,13 @@ module _ (bytes xs : List ℕ) (t : ℕ) (link : Link) (block : ℕ) (eb : block
 
   -- its 8, where it has one
   stay_rows_lem : link.kind ≡ record_field bytes link.line 1
-      → stay_rows_lem (neighbour bytes t link.before) (line_of bytes t link.line)
+      → stay_rows (neighbour bytes t link.before) (line_of bytes t link.line)
       ≡ cond (has_eight (eqb link.before 0) (kind_of link.kind)) (row 8 link.line link.before 0 0 0 ∷ []) []
-  unfolding stay_rows_lem
+  unfolding stay_rows
   stay_rows_lem ek = rw ek (go (eq_view link.before 0))
     where
       go : EqView link.before 0
-          → stay_rows_lem (neighbour bytes t link.before) (line_of bytes t link.line)
+          → stay_rows (neighbour bytes t link.before) (line_of bytes t link.line)
           ≡ cond (has_eight (eqb link.before 0) (kind_of (record_field bytes link.line 1))) (row 8 link.line link.before 0 0 0 ∷ []) []
       go (same e q) = rw q
       go (diff e q) = rw q (sym (stay_after (line_of bytes t link.before) [] (line_of bytes t link.line)))

@@ -1,5 +1,6 @@
 // Reads a case on standard input and prints its listing, the text that `listing_text` makes of it. Where reading fails it
 // prints `read error`; where the listing cannot be written it says so on standard error.
+#![tactic(auto)]
 ghost use Rattle.std.specs.Prelude.{◌≤◌, length};
 ghost use Rattle.model.specs.Limits.{most_listing_bytes};
 ghost use Rattle.listing_text.specs.Text.{WholeText};

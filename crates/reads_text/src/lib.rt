@@ -1,4 +1,5 @@
 // What a line reads, as text: a term is what the line finds in a local, or in an item by the block that it is in.
+#![tactic(auto)]
 ghost use Rattle.std.specs.Prelude.{◌≡◌, ℕ};
 ghost use Rattle.model.specs.CaseFile.{Case};
 ghost use Rattle.smt.specs.Spelling.{formula_text};
@@ -16,7 +17,7 @@ use model::LOCALS;
 use spell::{Atom, put, put_closing, put_equal};
 
 // The place after some heads of nested formulas, and how many they are.
-#[derive(Drop)]
+#[derive(Clone, Copy)]
 pub struct Heads {
     pub at: usize,
     pub many: usize,

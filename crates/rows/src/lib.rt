@@ -1,5 +1,6 @@
 // The rows of the table: each is made by one function, and put into the slice by one. A line's rows are made from where it stands
 // in its chain and from its copies.
+#![tactic(auto)]
 ghost use Rattle.std.specs.Prelude.{◌≡◌, ◌+◌, ◌*◌, ◌≤◌, [], ◌∷◌, eqb, length};
 ghost use Rattle.model.specs.CaseFile.{kind_of};
 ghost use Rattle.model.specs.Table.{row, goal_row, numbers_of};
@@ -11,7 +12,7 @@ use case_file::Link;
 use line::{Copies, stays};
 
 // A row of the table, and how many numbers it has.
-#[derive(Drop)]
+#[derive(Clone, Copy)]
 pub struct Constraint {
     pub kind: u16,
     pub one: u16,

@@ -10,7 +10,7 @@ use lib.ListN.{get_or, set, length, drop, length-set, drop_of_length-le}
 use lib.Seq.{drop-cons, get_or-set_same, get_or-set_other}
 use Rattle.model.specs.Limits.{most_blocks}
 use Rattle.model.specs.CaseFile.{Line, records, thread_count, case_of}
-use Rattle.model.specs.Machine.{Memory, State, BlockEnd, passed, run_block, rest_in_lem, memory_in, after_block, Outcome, after_steps, run_blocks}
+use Rattle.model.specs.Machine.{Memory, State, BlockEnd, passed, run_block, rest_in, memory_in, after_block, Outcome, after_steps, run_blocks}
 use Rattle.model.specs.Runs.{block_steps, memory_after, end_memory, next_state}
 use Rattle.model.specs.Fill.{put_steps, put_items, put_blocks}
 use Rattle.laws.specs.Accepted.{lines_from}
@@ -81,7 +81,7 @@ module _ (bytes givens lengths : List ℕ) (i : ℕ) (threads : List Thread) (sh
     at_thread : {A : Type 0} (f : ℕ → A) (d : A) → get_or (list_from f 0 (thread_count bytes)) t d ≡ f t
     at_thread f d = list_from_at f 0 (thread_count bytes) t d inside ∙ ap f (zero-add t)
 
-    rest_in_lem : rest_in_lem (case_of bytes) i case_state_lem ≡ rest_at bytes threads t
+    rest_in_lem : rest_in (case_of bytes) i case_state_lem ≡ rest_at bytes threads t
     rest_in_lem = at_thread (rest_at bytes threads) []
 
     memory_in_lem : memory_in (case_of bytes) i case_state_lem ≡ memory_of bytes (turn_at threads t shared)
@@ -98,7 +98,7 @@ module _ (bytes givens lengths : List ℕ) (i : ℕ) (threads : List Thread) (sh
     state_after ran =
         let kept = others_same t threads after b.others in
         λ j. record {
-          rests = sym (changed (rest_at bytes threads) (rest_at bytes after) (drop steps (rest_in_lem (case_of bytes) i case_state_lem))
+          rests = sym (changed (rest_at bytes threads) (rest_at bytes after) (drop steps (rest_in (case_of bytes) i case_state_lem))
               (λ u other. ap (λ (x : Thread). lines_from bytes u x.next) (kept u other))
               (b.ran.moves ran ∙ ap (drop steps) (sym rest_in_lem))) j;
           locals = sym (changed (λ u. (thread_at threads u).locals) (λ u. (thread_at after u).locals) (thread_at after t).locals

@@ -1,4 +1,5 @@
 // The run of an accepted case: its threads stand in a lent slice, and each block moves one of them.
+#![tactic(auto)]
 ghost use Rattle.std.specs.Prelude.{◌≡◌, ℕ, ◌%◌, ◌≤◌, ◌<◌, List, set, length, take};
 ghost use Rattle.std.proofs.lemmas.List.Edits.{sets};
 ghost use Rattle.model.specs.Limits.{most_threads, most_blocks, header_bytes};
@@ -17,14 +18,14 @@ use model::{BLOCKS, ITEMS, LOCALS, Replayed, THREADS};
 use turn::{Stand, Turn};
 
 // A thread's next record, 0 at its end, and its locals.
-#[derive(Drop)]
+#[derive(Clone, Copy)]
 pub struct Thread {
     pub next: usize,
     pub locals: [u16; LOCALS],
 }
 
 // What the threads share: the items, how the run stands, and the record of the first line that violates, 0 while there is none.
-#[derive(Drop)]
+#[derive(Clone, Copy)]
 pub struct Shared {
     pub items: [u16; ITEMS],
     pub stand: Stand,
@@ -32,21 +33,21 @@ pub struct Shared {
 }
 
 // A block's thread after it, and what the threads then share.
-#[derive(Drop)]
+#[derive(Clone, Copy)]
 pub struct Moved {
     pub thread: Thread,
     pub shared: Shared,
 }
 
 // All threads after the blocks, and what they then share.
-#[derive(Drop)]
+#[derive(Clone, Copy)]
 pub struct AllMoved {
     pub threads: [Thread; THREADS],
     pub shared: Shared,
 }
 
 // The reply, and the items at the run's end.
-#[derive(Drop)]
+#[derive(Clone, Copy)]
 pub struct Ended {
     pub reply: Replayed,
     pub items: [u16; ITEMS],

@@ -1,4 +1,5 @@
 // Refusals 12 and 13 of a schedule, and the values that it gives to input lines.
+#![tactic(auto)]
 ghost use Rattle.std.specs.Prelude.{◌≡◌, ℕ, ◌<◌, length, get_or};
 ghost use Rattle.model.specs.Limits.{most_threads};
 ghost use Rattle.model.specs.CaseFile.{case_of};
@@ -11,14 +12,14 @@ use model::{RECORD_PLACES, THREADS};
 use numbers::at;
 
 // How many numbers of the schedule are used after a thread, and how many lines the thread has.
-#[derive(Drop)]
+#[derive(Clone, Copy)]
 pub struct Walked {
     pub used: usize,
     pub lines: usize,
 }
 
 // How many numbers of the schedule are used by all threads, and how many lines each has.
-#[derive(Drop)]
+#[derive(Clone, Copy)]
 pub struct Counts {
     pub used: usize,
     pub lines: [usize; THREADS],

@@ -1,7 +1,8 @@
 // The script of a case: its constraints as SMT-LIB text, and what the calls that write it answer (specs/).
 
 // The text was written, or measured, and has so many bytes; or the case is refused, or the slice is too short.
-#[derive(Drop)]
+#![tactic(auto)]
+#[derive(Clone, Copy)]
 pub enum Spelled {
     Text { bytes: usize },
     Refused { number: u16, place: u16 },
@@ -9,7 +10,7 @@ pub enum Spelled {
 
 // The answer in the document's numbers, as C has it: the refusal (0: none) and its place; else how many bytes the text has.
 #[repr(C)]
-#[derive(Drop)]
+#[derive(Clone, Copy)]
 pub struct TextNumbers {
     pub refusal: u16,
     pub place: u16,

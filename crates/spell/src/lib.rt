@@ -1,6 +1,7 @@
 // Spelling into a lent slice: fixed byte strings, variables, constants and equations, one after the other. Each function is given the
 // place where its bytes begin and hands back the place after them. A function writes nothing where its bytes do not fit, and the places
 // go on all the same, so that one writer serves twice: into no bytes at all, which measures the text, and then into the slice.
+#![tactic(auto)]
 ghost use Rattle.std.specs.Prelude.{◌≡◌, ◌+◌, ◌-◌, ◌*◌, ◌<◌, ◌≤◌, leb, length};
 ghost use Rattle.model.specs.Listing.{digit};
 ghost use Rattle.smt.specs.Term.{variable, constant};
@@ -14,7 +15,7 @@ ghost use Rattle.spell.specs.Atoms.{atom_term, two_atoms, closing, long_variable
 const TOP: usize = 18446744073709551615;
 
 // A variable by its number, or a constant.
-#[derive(Drop)]
+#[derive(Clone, Copy)]
 pub enum Atom {
     Variable(u32),
     Constant(u16),

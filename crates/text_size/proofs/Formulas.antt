@@ -9,7 +9,7 @@ use lib.Dec.{ltb}
 use lib.ListN.{length, length-append}
 use Rattle.model.specs.Listing.{digit, digits_of, decimal}
 use Rattle.smt.specs.Term.{Operation, bvadd, bvsub, bvand, bvor, bvudiv, bvurem, Test, equals, bvult, bvule, Connective, conjunction, disjunction, exclusion, implication, Term, variable, constant, choice, apply, Formula, truth, test, negation, join, select}
-use Rattle.smt.specs.Spelling.{ascii, operation_word, test_word_lem, connective_word, truth_word, four_hex, two, three, term_text, formula_text}
+use Rattle.smt.specs.Spelling.{ascii, operation_word, test_word, connective_word, truth_word, four_hex, two, three, term_text, formula_text}
 
 -- The word of a test or a connective, a blank and the closing parenthesis.
 abbrev pub test_size : Test → ℕ
@@ -64,7 +64,7 @@ three_length word x y z =
       length-append z (ascii ")"),
     )
 
-test_word_lem : (t : Test) → length (test_word_lem t) + 2 ≡ test_size t
+test_word_lem : (t : Test) → length (test_word t) + 2 ≡ test_size t
 test_word_lem equals = refl
 test_word_lem bvult = refl
 test_word_lem bvule = refl
@@ -99,7 +99,7 @@ mutual
 
   pub formula_text_lem : (f : Formula) → length (formula_text f) ≤ size f
   formula_text_lem (truth p) = truth_word_lem p
-  formula_text_lem (test t x y) = omega (arith, two_length (test_word_lem t) (term_text x) (term_text y), test_word_lem t, term_text_lem x, term_text_lem y)
+  formula_text_lem (test t x y) = omega (arith, two_length (test_word t) (term_text x) (term_text y), test_word_lem t, term_text_lem x, term_text_lem y)
   formula_text_lem (negation f) = omega (arith, length-append (formula_text f) (ascii ")"), formula_text_lem f)
   formula_text_lem (join c f g) = omega (arith, two_length (connective_word c) (formula_text f) (formula_text g), join_word c, formula_text_lem f, formula_text_lem g)
   formula_text_lem (select f g h) =

@@ -9,7 +9,7 @@ use lib.ListN.{take}
 use Rattle.model.specs.Limits.{most_items}
 use Rattle.model.specs.CaseFile.{Line, global_count, line_of, case_of}
 use Rattle.model.specs.Line.{Reads, no_name, target_name, guard_true, value_of, stops, stray_input}
-use Rattle.model.specs.Machine.{put_local_lem, put_item_lem, noted, reads_in, stepped, run_block}
+use Rattle.model.specs.Machine.{put_local, put_item, noted, reads_in, stepped, run_block}
 use Rattle.model.specs.Fill.{put_record}
 use Rattle.case_file.specs.declared.Record.{Record}
 use Rattle.case_file.specs.Records.{record_of, as_line}
@@ -24,19 +24,19 @@ use Rattle.turn.specs.declared.Turn.{Turn}
 use Rattle.turn.specs.TurnState.{items_of, memory_of, given_by}
 use Rattle.turn.specs.Promises.{end_by, end_of, continued, Effective, LineTraced, gone_on}
 
-put_nothing : (name value : ℕ) (xs : List ℕ) → xs ≡ put_item_lem false name value xs
-unfolding put_item_lem
+put_nothing : (name value : ℕ) (xs : List ℕ) → xs ≡ put_item false name value xs
+unfolding put_item
 put_nothing name value xs = refl
 
 -- A name and its value where `on` is true, and no name otherwise.
 module _ (name target value value' : ℕ) where
-  put_local_lem : (on : Bool) (xs : List ℕ) → name ≡ cond on target no_name → (on ≡ true → value ≡ value') → put_local_lem true name value xs ≡ put_local_lem on target value' xs
-  unfolding put_local_lem
+  put_local_lem : (on : Bool) (xs : List ℕ) → name ≡ cond on target no_name → (on ≡ true → value ≡ value') → put_local true name value xs ≡ put_local on target value' xs
+  unfolding put_local
   put_local_lem true xs is gives = rw (is, gives refl)
   put_local_lem false xs is gives = rw is
 
   put_item_lem : (on : Bool) (count : ℕ) (xs : List ℕ) → count ≤ most_items → name ≡ cond on target no_name → (on ≡ true → value ≡ value')
-      → put_item_lem true name value (take count xs) ≡ put_item_lem on target value' (take count xs)
+      → put_item true name value (take count xs) ≡ put_item on target value' (take count xs)
   put_item_lem true count xs few is gives = rw (is, gives refl)
   put_item_lem false count xs few is gives = rw is (sym (put_beyond xs count value no_name (omega arith) few) ∙ put_nothing target value' (take count xs))
 
@@ -82,8 +82,8 @@ module _ {bytes : List ℕ} (givens : List ℕ) (t : ℕ) (turn : Turn) {counts 
           let s : stops line.kind line reads ≡ true = sym does_it.stopping ∙ h in
           rw (passes, s)
 
-      module _ (locals' items' : List ℕ) (are_locals : locals' ≡ put_local_lem true e.name e.value turn.locals)
-          (are_items : take counts.items items' ≡ put_item_lem true e.name e.value (take counts.items turn.items)) (next : ℕ)
+      module _ (locals' items' : List ℕ) (are_locals : locals' ≡ put_local true e.name e.value turn.locals)
+          (are_items : take counts.items items' ≡ put_item true e.name e.value (take counts.items turn.items)) (next : ℕ)
         where
           abbrev after : Turn
           after = gone_on (record { next = turn.next; locals = locals'; items = items'; stand = turn.stand; note = turn.note }) next turn.next e.breaks
@@ -91,7 +91,7 @@ module _ {bytes : List ℕ} (givens : List ℕ) (t : ℕ) (turn : Turn) {counts 
           pub step_memory : stepped (case_of bytes) (given_by givens) line (memory_of bytes turn) ≡ memory_of bytes after
           step_memory =
               let are_locals' = are_locals ∙ put_local_lem e.name (target_name (global_count bytes) line) e.value (value_of line reads) (guard_true line reads) turn.locals does_it.naming does_it.giving in
-              let are_items' : items_of bytes items' ≡ put_item_lem (guard_true line reads) (target_name (global_count bytes) line) (value_of line reads) (items_of bytes turn.items) =
+              let are_items' : items_of bytes items' ≡ put_item (guard_true line reads) (target_name (global_count bytes) line) (value_of line reads) (items_of bytes turn.items) =
               rw are.items at (are_items ∙ put_item_lem e.name (target_name (global_count bytes) line) e.value (value_of line reads) (guard_true line reads) counts.items turn.items are.few.items does_it.naming does_it.giving) in
               λ i. record { locals = sym are_locals' i; items = sym are_items' i }
 

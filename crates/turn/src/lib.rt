@@ -1,5 +1,6 @@
 // A thread's turn in a run of an accepted case: what the thread holds, with what the threads share, as one value. Its steps and
 // its blocks are methods that hand the next turn back.
+#![tactic(auto)]
 ghost use Rattle.std.specs.Prelude.{◌≡◌, true, false, ℕ, List};
 ghost use Rattle.model.specs.Limits.{most_records};
 ghost use Rattle.model.specs.CaseFile.{kind_of};
@@ -18,7 +19,7 @@ use line::Counts;
 use model::{ITEMS, LOCALS, NAMES};
 
 // How the run stands: it goes on, or it met an input of refusal 14, or a line that ended it.
-#[derive(Drop)]
+#[derive(Clone, Copy)]
 pub enum Stand {
     Running,
     Strayed(u16),
@@ -27,7 +28,7 @@ pub enum Stand {
 
 // The thread's next record, 0 at its end, and its locals; the items, how the run stands, and the record of the first line that
 // violates, 0 while there is none.
-#[derive(Drop)]
+#[derive(Clone, Copy)]
 pub struct Turn {
     pub next: usize,
     pub locals: [u16; LOCALS],
@@ -38,7 +39,7 @@ pub struct Turn {
 
 // What a line does: whether it strays, whether it ends the run, whether it violates, the name that it writes, and the value that
 // it writes there.
-#[derive(Drop)]
+#[derive(Clone, Copy)]
 pub struct Effect {
     pub strays: bool,
     pub stops: bool,

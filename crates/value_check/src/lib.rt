@@ -1,5 +1,6 @@
 // Constraints 4 and 5: the value of each line, and what an assume or a lock demands. What a line reads, and which copies there are,
 // is kept along the lines of each thread.
+#![tactic(auto)]
 ghost use Rattle.std.specs.Prelude.{◌≡◌, true, false, ◌<◌};
 ghost use Rattle.model.specs.Limits.{most_constraints, record_places};
 ghost use Rattle.line.specs.CaseCounts.{Few, OfCase};
@@ -14,7 +15,7 @@ use model::{ITEMS, LOCALS, NAMES, RECORD_PLACES, THREADS};
 
 // Among the constraints of a walk: the number of the first that fails, 0 if all hold; and then the number of the next constraint,
 // and the record of the first line that violates, 0 if none does.
-#[derive(Drop)]
+#[derive(Clone, Copy)]
 pub struct Walk {
     pub failed: u16,
     pub next: u16,
@@ -23,7 +24,7 @@ pub struct Walk {
 
 // What the constraints of a line ask, where it has a value: the value that its 4 asks for, whether its 5 holds or it has none,
 // whether the line violates, and the name of its target.
-#[derive(Drop)]
+#[derive(Clone, Copy)]
 pub struct Asked {
     pub value: u16,
     pub met: bool,

@@ -1,4 +1,5 @@
 // Constraint 6: the value of each item at the end of each block, walking back over the copies of the block's thread.
+#![tactic(auto)]
 ghost use Rattle.std.specs.Prelude.{◌≡◌};
 ghost use Rattle.model.specs.Limits.{most_lines};
 ghost use Rattle.search.specs.Search.{Searched};
@@ -13,7 +14,7 @@ use numbers::at;
 use search::Found;
 
 // A block with the number of its first 6, and the items' values where it starts and where the next one does.
-#[derive(Drop)]
+#[derive(Clone, Copy)]
 pub struct Span {
     pub block: u16,
     pub start: u16,

@@ -1,4 +1,5 @@
 // The assertion of a 6 as text: walking back over the copies of an item.
+#![tactic(auto)]
 ghost use Rattle.std.specs.Prelude.{◌≡◌, ℕ, List, replicate};
 ghost use Rattle.model.specs.Limits.{most_lines, record_places};
 ghost use Rattle.model.specs.CaseFile.{Case, case_of};
@@ -58,7 +59,7 @@ pub fn previous_copies(table: &[u16], count: u16) -> [u16; RECORD_PLACES]
 }
 
 // The place after the heads of some copies, and how many there are.
-#[derive(Drop)]
+#[derive(Clone, Copy)]
 struct Heads {
     place: usize,
     many: usize,

@@ -1,0 +1,6 @@
+-- `assignment::block_of` meets its contract. Assumes nothing.
+use borrow.Author.Rules.{rules}
+use Rattle.assignment.proofs.block_of.Goals as goal
+
+pub returns : goal.returns
+returns c = cc

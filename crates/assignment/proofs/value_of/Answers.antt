@@ -1,0 +1,6 @@
+-- `assignment::value_of` meets its contract. Assumes nothing.
+use borrow.Author.Rules.{rules}
+use Rattle.assignment.proofs.value_of.Goals as goal
+
+pub returns : goal.returns
+returns c = cc

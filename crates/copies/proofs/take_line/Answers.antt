@@ -1,0 +1,17 @@
+-- `copies::take_line` meets its contract. Assumes nothing.
+use borrow.Author.Rules.{rules}
+use Rattle.copies.proofs.Held.{line_taken}
+use Rattle.copies.proofs.take_line.Goals as goal
+
+pub returns : goal.returns
+returns c =
+    line_taken _ _ _ _ _ _ _ _ _ _ _ _
+    (c.guard_name-guard.ensures c.args.k)
+    (c.operand_a-a.ensures c.args.k)
+    (c.operand_b-b.ensures c.args.k)
+    (c.target_name-target.ensures c.args.k)
+    c.copy_of.ensures
+    c.copy_of-2.ensures
+    c.copy_of-3.ensures
+    c.take_copy.ensures.0
+    c.take_copy.ensures.1

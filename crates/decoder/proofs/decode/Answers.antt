@@ -1,0 +1,13 @@
+-- `decoder::decode` meets its contract. Assumes nothing.
+use mathlib.Core.Path.{sym, ◌∙◌}
+use borrow.Author.Rules.{rules}
+use Rattle.decoder.proofs.Answering.{refused}
+use Rattle.decoder.proofs.decode.Goals as goal
+
+pub decode_accepted-requires : goal.decode_accepted-requires
+decode_accepted-requires c = sym c.accept.ensures ∙ c.enum_told-1.given.1
+
+pub returns-in-Refused : goal.returns-in-Refused
+returns-in-Refused c =
+    let answer = refused _ c.args.assignment.now _ _ _ (sym c.accept.ensures ∙ c.number-1.given.1) in
+    (answer.answer, answer.slice)

@@ -1,0 +1,16 @@
+-- `decoder::refusal_of` meets its contract. Assumes nothing.
+use borrow.Author.Rules.{rules}
+use Rattle.decoder.specs.Decoding.{refusal_of}
+use Rattle.decoder.proofs.refusal_of.Goals as goal
+
+pub returns-in-Meets : goal.returns-in-Meets
+unfolding refusal_of
+returns-in-Meets c = rw c.enum_told-1.given.1
+
+pub returns-in-Fails : goal.returns-in-Fails
+unfolding refusal_of
+returns-in-Fails c = rw c.answer-1.given.1
+
+pub returns-in-Refused : goal.returns-in-Refused
+unfolding refusal_of
+returns-in-Refused c = rw c.answer-in-Refused-1.given.1

@@ -1,0 +1,12 @@
+-- `invisible_firsts` counts them, a thread at a time. Assumes nothing.
+use Prim.Native.Nat.{◌-◌}
+use native.Mathlib.Omega.{arith}
+use borrow.Author.Rules.{rules}
+use Rattle.encoder.proofs.Counts.{CountingFirsts, firsts_start, firsts_more, firsts_end}
+use Rattle.encoder.proofs.invisible_firsts.Given as goal
+
+abbrev pub invariant-loop-counted : goal.invariant-loop-counted
+invariant-loop-counted l = CountingFirsts l.case l.threads l.counted l.n
+
+abbrev pub decreases-loop-counted : goal.decreases-loop-counted
+decreases-loop-counted l = l.threads - l.counted

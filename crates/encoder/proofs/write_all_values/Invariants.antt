@@ -1,0 +1,13 @@
+-- `write_all_values` writes the 4s and 5s, a thread at a time. Assumes nothing.
+use borrow.Author.Rules.{rules}
+use Prim.Native.Nat.{◌-◌}
+use native.Mathlib.Omega.{arith}
+use Rattle.encoder.proofs.Series.{going_start, going_fits}
+use Rattle.encoder.proofs.Parts.{values_all, Taking, thread_low, taking_more, taking_end}
+use Rattle.encoder.proofs.write_all_values.Given as goal
+
+abbrev pub invariant-loop-thread : goal.invariant-loop-thread
+invariant-loop-thread l = Taking l.case l.threads l.latest l.thread l.initial.table l.start l.table l.at
+
+abbrev pub decreases-loop-thread : goal.decreases-loop-thread
+decreases-loop-thread l = l.threads - l.thread

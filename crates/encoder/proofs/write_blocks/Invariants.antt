@@ -1,0 +1,13 @@
+-- `write_blocks` writes the 6s, a block at a time. Assumes nothing.
+use borrow.Author.Rules.{rules}
+use Prim.Native.Nat.{◌-◌}
+use Rattle.encoder.specs.Parts.{all_item_numbers}
+use Rattle.encoder.proofs.Series.{Going, going_start, going_fits, going_more, going_end}
+use Rattle.encoder.proofs.Parts.{blocks_all, block_series}
+use Rattle.encoder.proofs.write_blocks.Given as goal
+
+abbrev pub invariant-loop-i : goal.invariant-loop-i
+invariant-loop-i l = Going (block_series l.case l.last) l.i (all_item_numbers l.case) l.initial.table l.start l.table l.at
+
+abbrev pub decreases-loop-i : goal.decreases-loop-i
+decreases-loop-i l = l.last - l.i

@@ -1,0 +1,23 @@
+-- `write_orders` writes the order rows, a thread at a time. Assumes nothing.
+use borrow.Author.Rules.{rules}
+use Prim.Native.Nat.{◌-◌}
+use native.Mathlib.Omega.{arith}
+use Rattle.encoder.specs.Parts.{all_order_numbers}
+use Rattle.encoder.proofs.Series.{Going, going_start, going_fits, going_more, going_end}
+use Rattle.encoder.proofs.Parts.{orders_all, order_series}
+use Rattle.encoder.proofs.write_orders.Goals as goal
+
+pub loop-t-init : goal.loop-t-init
+loop-t-init c = going_start (orders_all _ _ c.threads-threads.ensures)
+
+pub write_order-at-requires : goal.write_order-at-requires
+write_order-at-requires c = let room = going_fits c.loop-t.invariant c.loop-t-test.true (omega (arith, c.requires.room)) in search rules
+
+pub loop-t-preserved : goal.loop-t-preserved
+loop-t-preserved c = going_more c.loop-t.invariant c.loop-t-test.true c.write_order-at.ensures
+
+pub shape_of-table : goal.shape_of-table
+shape_of-table c = c.loop-t.invariant.writes.same
+
+pub returns : goal.returns
+returns c = going_end c.loop-t.invariant c.loop-t-test.false

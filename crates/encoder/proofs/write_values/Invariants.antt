@@ -1,0 +1,21 @@
+-- `write_values` writes a thread's 4s and 5s and takes each line as the latest copy of its target. Assumes nothing.
+use borrow.Author.Rules.{rules}
+use mathlib.Core.Path.{refl}
+use native.Mathlib.Omega.{arith}
+use lib.ListN.{length}
+use Rattle.model.specs.CaseFile.{kind_of, global_count, case_of}
+use Rattle.laws.specs.Accepted.{lines_from}
+use Rattle.laws.proofs.Following.{lines_less}
+use Rattle.laws.proofs.Sizes.{value_count_at_most}
+use Rattle.model.specs.Copies.{walk_lines}
+use Rattle.copies.specs.Held.{HeldAfter}
+use Rattle.encoder.specs.Parts.{value_numbers}
+use Rattle.encoder.proofs.Walking.{values, Walking, walking_start, walking_end, walking_whole}
+use Rattle.encoder.proofs.Lines.{value_room, value_step, thread_taken}
+use Rattle.encoder.proofs.write_values.Given as goal
+
+abbrev pub invariant-loop-k : goal.invariant-loop-k
+invariant-loop-k l = Walking l.case l.t (values (case_of l.case)) (HeldAfter (global_count l.case) l.held) l.k (value_numbers l.case l.t) l.initial.table l.start l.table l.at
+
+abbrev pub decreases-loop-k : goal.decreases-loop-k
+decreases-loop-k l = length (lines_from l.case l.t l.k)

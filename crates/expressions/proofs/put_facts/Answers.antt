@@ -1,0 +1,27 @@
+-- `put_facts` puts the facts of one first source after the other. Assumes nothing.
+use borrow.Author.Rules.{rules}
+use Prim.Native.Nat.{◌-◌}
+use Rattle.script.specs.Assertions.{most_sources, comparison}
+use Rattle.spell.specs.Atoms.{atom_term}
+use Rattle.expressions.specs.Facts.{source_list, fact_heads}
+use Rattle.linked.proofs.Going.{Going, going_start, going_end, going_last}
+use Rattle.expressions.proofs.Facts.{firsts_go_on, no_firsts}
+use Rattle.expressions.proofs.put_facts.Goals as goal
+
+pub loop-j-init : goal.loop-j-init
+loop-j-init c = going_start (search rules)
+
+pub shape_of-text-then-j-sources : goal.shape_of-text-then-j-sources
+shape_of-text-then-j-sources c = c.loop-j.invariant.same
+
+pub returns-then-j-sources : goal.returns-then-j-sources
+returns-then-j-sources c = going_end c.loop-j.invariant (no_firsts _ _ _ _) c.if-j-sources.true
+
+pub loop-j-preserved : goal.loop-j-preserved
+loop-j-preserved c = firsts_go_on _ _ _ _ c.loop-j.invariant c.if-j-sources.false (search rules) (search rules) c.put_facts_with-at.ensures
+
+pub shape_of-text : goal.shape_of-text
+shape_of-text c = c.loop-j.invariant.same
+
+pub returns : goal.returns
+returns c = going_last c.loop-j.invariant (no_firsts _ _ _ _) c.loop-j-test.false

@@ -1,0 +1,13 @@
+-- `filler::fill` meets its contract. Assumes nothing.
+use mathlib.Core.Path.{sym, ◌∙◌}
+use Rattle.filler.proofs.Calls.{answers_refused}
+use borrow.Author.Rules.{rules}
+use Rattle.filler.proofs.fill.Goals as goal
+
+pub fill_accepted-requires : goal.fill_accepted-requires
+fill_accepted-requires c = sym c.accept.ensures ∙ c.enum_told-1.given.1
+
+pub returns-in-Refused : goal.returns-in-Refused
+returns-in-Refused c =
+    let answer = answers_refused _ c.args.schedule.now _ _ _ (sym c.accept.ensures ∙ c.number-1.given.1) in
+    (c.refused.ensures ∙ answer.answer, answer.slice)

@@ -1,0 +1,13 @@
+-- `part_count` counts the parts, a record at a time. Assumes nothing.
+use borrow.Author.Rules.{rules}
+use Prim.Native.Nat.{◌+◌, ◌-◌}
+use native.Mathlib.Omega.{arith}
+use Rattle.model.specs.CaseFile.{records}
+use Rattle.goal_text.proofs.Parts.{bit_at_most_one, Numbering, numbering_start, numbering_more, numbering_end}
+use Rattle.goal_text.proofs.part_count.Given as goal
+
+abbrev pub invariant-loop-k : goal.invariant-loop-k
+invariant-loop-k l = Numbering l.case l.k l.n
+
+abbrev pub decreases-loop-k : goal.decreases-loop-k
+decreases-loop-k l = records l.case + 1 - l.k

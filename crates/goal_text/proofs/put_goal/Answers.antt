@@ -1,0 +1,7 @@
+-- `put_goal` puts the parts, `false`, and the parentheses. Assumes nothing.
+use borrow.Author.Rules.{rules}
+use Rattle.goal_text.proofs.GoalText.{goal_spelt}
+use Rattle.goal_text.proofs.put_goal.Goals as goal
+
+pub returns : goal.returns
+returns c = goal_spelt _ c.requires.accepted c.part_count-many.ensures c.put_heads-at.ensures c.put-at.ensures c.put_closing.ensures

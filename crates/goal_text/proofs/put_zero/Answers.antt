@@ -1,0 +1,7 @@
+-- `put_zero` puts an equation and a blank. Assumes nothing.
+use borrow.Author.Rules.{rules}
+use Rattle.goal_text.proofs.Heads.{zero_spelt}
+use Rattle.goal_text.proofs.put_zero.Goals as goal
+
+pub returns : goal.returns
+returns c = zero_spelt _ c.value_variable.ensures c.put-at.ensures c.put_equal-at.ensures c.put.ensures

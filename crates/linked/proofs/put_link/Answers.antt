@@ -1,0 +1,7 @@
+-- `put_link` puts two equations in their words. Assumes nothing.
+use borrow.Author.Rules.{rules}
+use Rattle.linked.proofs.Links.{link_spelt}
+use Rattle.linked.proofs.put_link.Goals as goal
+
+pub returns : goal.returns
+returns c = link_spelt _ _ _ c.value_variable-s.ensures c.put-at.ensures c.put_equal-at.ensures c.put-at-2.ensures c.put_equal-at-2.ensures c.put.ensures

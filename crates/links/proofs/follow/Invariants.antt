@@ -1,0 +1,12 @@
+use borrow.Author.Rules.{rules}
+use Prim.Native.Nat.{suc, ◌-◌}
+use native.Mathlib.Omega.{arith}
+use Rattle.model.specs.CaseFile.{records}
+use Rattle.links.proofs.ChainWalks.{Walking, walking_starts, few_passed, walk_ends, came_twice, walk_on}
+use Rattle.links.proofs.follow.Given as goal
+
+abbrev pub invariant-loop-k : goal.invariant-loop-k
+invariant-loop-k l = Walking l.case l.initial.reached l.t l.reached l.k l.n
+
+abbrev pub decreases-loop-k : goal.decreases-loop-k
+decreases-loop-k l = suc (records l.case) - l.n

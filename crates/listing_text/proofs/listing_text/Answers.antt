@@ -1,0 +1,19 @@
+-- `listing_text` writes the text where the slice has room for it. Assumes nothing.
+use borrow.Author.Rules.{rules}
+use mathlib.Core.Path.{refl}
+use Rattle.listing_text.proofs.Bridge.{rows_fit, answer_text, too_short, long_enough}
+use Rattle.listing_text.proofs.listing_text.Goals as goal
+
+pub fits-requires : goal.fits-requires
+fits-requires c = let rows = rows_fit _ _ refl _ c.encode-answer.ensures.0 in search rules
+
+pub write_text-bytes-requires : goal.write_text-bytes-requires
+write_text-bytes-requires c = let rows = rows_fit _ _ refl _ c.encode-answer.ensures.0 in search rules
+
+pub returns-then-fits : goal.returns-then-fits
+returns-then-fits c =
+    long_enough _ _ _ (answer_text _ _ refl _ _ c.encode-answer.ensures.0 c.encode-answer.ensures.1) _ c.fits2.ensures c.if-fits.true
+    c.write_text-bytes.ensures
+
+pub returns : goal.returns
+returns c = too_short _ _ _ (answer_text _ _ refl _ _ c.encode-answer.ensures.0 c.encode-answer.ensures.1) _ c.fits2.ensures c.if-fits.false

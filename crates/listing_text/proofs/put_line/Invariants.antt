@@ -1,0 +1,12 @@
+-- `put_line` puts its numbers one after the other, the last with a line feed. Assumes nothing.
+use borrow.Author.Rules.{rules}
+use mathlib.Core.Path.{◌∙◌}
+use Prim.Native.Nat.{◌-◌}
+use Rattle.listing_text.proofs.Rows.{Lining, lining_start, lining_more, lining_end}
+use Rattle.listing_text.proofs.put_line.Given as goal
+
+abbrev pub invariant-loop-j : goal.invariant-loop-j
+invariant-loop-j l = Lining l.numbers l.start l.last l.initial.text l.at l.j l.text
+
+abbrev pub decreases-loop-j : goal.decreases-loop-j
+decreases-loop-j l = l.last - l.j

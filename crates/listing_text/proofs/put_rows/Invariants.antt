@@ -1,0 +1,11 @@
+-- `put_rows` puts the rows one after the other. Assumes nothing.
+use borrow.Author.Rules.{rules}
+use Prim.Native.Nat.{◌-◌}
+use Rattle.listing_text.proofs.Rows.{Rowing, rowing_start, rowing_more, rowing_end}
+use Rattle.listing_text.proofs.put_rows.Given as goal
+
+abbrev pub invariant-loop-i : goal.invariant-loop-i
+invariant-loop-i l = Rowing l.table l.start l.count l.initial.text l.at l.i l.text
+
+abbrev pub decreases-loop-i : goal.decreases-loop-i
+decreases-loop-i l = l.count - l.i

@@ -1,0 +1,14 @@
+-- `menduvo::menduvo_listing` meets its contract.
+-- Assumes nothing.
+use mathlib.Core.Path.{ap, ◌∙◌}
+use borrow.Author.Rules.{rules}
+use Rattle.model.specs.Listing.{listed_numbers}
+use Rattle.listing_text.proofs.Bridge.{length_told}
+use Rattle.menduvo.proofs.menduvo_listing.Goals as goal
+
+pub listed_numbers-requires : goal.listed_numbers-requires
+listed_numbers-requires c = rw c.listing_text.ensures.0 (length_told _ _)
+
+pub returns : goal.returns
+returns c =
+    let told = c.listing_text.ensures in (c.listed_numbers.ensures ∙ ap listed_numbers told.0, told.1)

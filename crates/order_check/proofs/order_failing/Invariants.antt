@@ -1,0 +1,11 @@
+-- `order_check::order_failing` meets its contract. Assumes nothing.
+use Prim.Native.Nat.{◌-◌}
+use Rattle.order_check.proofs.ThreadOrder.{AllOrder, all_start, all_end, all_ready, all_found, all_more}
+use borrow.Author.Rules.{rules}
+use Rattle.order_check.proofs.order_failing.Given as goal
+
+abbrev pub invariant-loop-t : goal.invariant-loop-t
+invariant-loop-t l = AllOrder l.case l.assignment l.count l.found.failed l.found.next l.t
+
+abbrev pub decreases-loop-t : goal.decreases-loop-t
+decreases-loop-t l = l.count - l.t

@@ -1,0 +1,10 @@
+-- `listing_of` never meets refusal 10: every listing fits its text. Assumes nothing.
+use borrow.Author.Rules.{rules}
+use Rattle.listing_text.proofs.Bridge.{no_refusal, whole_text}
+use Rattle.print_listing.proofs.listing_of.Goals as goal
+
+pub returns-in_default : goal.returns-in_default
+returns-in_default c = absurd (no_refusal _ _ _ c.listing_text.ensures.0 c.requires _ _ c.enum_told-1.given.1)
+
+pub returns : goal.returns
+returns c = whole_text _ _ _ _ _ c.listing_text.ensures.0 c.requires c.bytes-1.given.1 c.listing_text.ensures.1

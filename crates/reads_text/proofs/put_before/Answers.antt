@@ -1,0 +1,7 @@
+-- `put_before` puts the blocks, `true` and what closes them. Assumes nothing.
+use borrow.Author.Rules.{rules}
+use Rattle.reads_text.proofs.Blocks.{before_spelt}
+use Rattle.reads_text.proofs.put_before.Goals as goal
+
+pub returns : goal.returns
+returns c = λ case s q. before_spelt case _ _ _ _ _ (c.put_blocks-heads.ensures case s q) c.put-at.ensures c.put_closing.ensures

@@ -1,0 +1,13 @@
+-- `replayer::replay` meets its contract. Assumes nothing.
+use mathlib.Core.Path.{sym, ◌∙◌}
+use Rattle.replayer.proofs.Calls.{answers_refused}
+use borrow.Author.Rules.{rules}
+use Rattle.replayer.proofs.replay.Goals as goal
+
+pub replay_accepted-requires : goal.replay_accepted-requires
+replay_accepted-requires c = sym c.accept.ensures ∙ c.enum_told-1.given.1
+
+pub returns-in-Refused : goal.returns-in-Refused
+returns-in-Refused c =
+    let answer = answers_refused _ c.args.schedule.now _ _ _ (sym c.accept.ensures ∙ c.number-1.given.1) in
+    (answer.answer, answer.slice)

@@ -1,0 +1,6 @@
+-- `run::first_thread` meets its contract. Assumes nothing.
+use borrow.Author.Rules.{rules}
+use Rattle.run.proofs.first_thread.Goals as goal
+
+pub returns : goal.returns
+returns c = cc

@@ -1,0 +1,13 @@
+-- `run::put_unrun` meets its contract. The invariant: the lines that are left decide. Assumes nothing.
+use lib.ListN.{length}
+use Rattle.laws.specs.Accepted.{lines_from}
+use Rattle.laws.proofs.Following.{lines_less}
+use Rattle.run.proofs.Unrun.{Leaving, leaving_start, leaving_more, leaving_end, nothing_put}
+use borrow.Author.Rules.{rules}
+use Rattle.run.proofs.put_unrun.Given as goal
+
+abbrev pub invariant-loop-at : goal.invariant-loop-at
+invariant-loop-at l = Leaving l.case l.k l.initial.trace l.at l.trace
+
+abbrev pub decreases-loop-at : goal.decreases-loop-at
+decreases-loop-at l = length (lines_from l.case 0 l.at)

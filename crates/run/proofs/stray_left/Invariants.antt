@@ -1,0 +1,13 @@
+-- `run::stray_left` meets its contract. The invariant: the lines that are left decide. Assumes nothing.
+use lib.ListN.{length}
+use Rattle.laws.specs.Accepted.{lines_from}
+use Rattle.laws.proofs.Following.{lines_less}
+use Rattle.run.proofs.Looks.{Looking, looking_start, looking_found, looking_more, looking_end}
+use borrow.Author.Rules.{rules}
+use Rattle.run.proofs.stray_left.Given as goal
+
+abbrev pub invariant-loop-at : goal.invariant-loop-at
+invariant-loop-at l = Looking l.case l.given l.k l.others l.at
+
+abbrev pub decreases-loop-at : goal.decreases-loop-at
+decreases-loop-at l = length (lines_from l.case 0 l.at)

@@ -1,0 +1,13 @@
+-- `schedule::write_values` meets its contract. Assumes nothing.
+use native.Mathlib.Omega.{arith}
+use borrow.Author.Rules.{rules}
+use lib.ListN.{length}
+use Rattle.laws.specs.Accepted.{lines_from}
+use Rattle.schedule.proofs.Walks.{Walk, walk_start, walk_room, walk_few, walk_less, walk_more, walk_end}
+use Rattle.schedule.proofs.write_values.Given as goal
+
+abbrev pub invariant-loop-k : goal.invariant-loop-k
+invariant-loop-k l = Walk l.case l.assignment l.t l.initial.schedule l.start l.initial.counts l.schedule l.at l.locals l.counts l.k
+
+abbrev pub decreases-loop-k : goal.decreases-loop-k
+decreases-loop-k l = length (lines_from l.case l.t l.k)

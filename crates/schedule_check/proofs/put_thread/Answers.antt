@@ -1,0 +1,24 @@
+-- `schedule_check::put_thread` meets its contract. The invariant: the lines that are left decide. Assumes nothing.
+use mathlib.Core.Logic.{⊎_elim}
+use native.Mathlib.Omega.{arith}
+use lib.ListN.{length}
+use Rattle.laws.specs.Accepted.{lines_from}
+use Rattle.schedule_check.specs.InputValues.{inputs}
+use Rattle.schedule_check.proofs.InputLoops.{Putting, putting_start, putting_few, putting_more, putting_end, fewer_lines, next_is_input, next_is_other}
+use borrow.Author.Rules.{rules}
+use Rattle.schedule_check.proofs.put_thread.Goals as goal
+
+pub loop-k-init : goal.loop-k-init
+loop-k-init c = putting_start c.requires _ _ c.first_of-k.ensures
+
+pub overflow_add-lines : goal.overflow_add-lines
+overflow_add-lines c = omega (arith, putting_few c.requires _ _ c.loop-k.invariant)
+
+pub loop-k-smaller : goal.loop-k-smaller
+loop-k-smaller c = fewer_lines c.requires _ _ c.loop-k.invariant c.loop-k-test.true c.next_of-k.ensures
+
+pub loop-k-preserved : goal.loop-k-preserved
+loop-k-preserved c = putting_more c.requires _ _ c.loop-k.invariant c.loop-k-test.true c.next_of-k.ensures c.kind_of-kind.ensures (⊎_elim (λ w. next_is_input _ _ _ _ _ _ w.0.keys1 w.1.ensures w.2 w.3) (λ w. next_is_other _ _ _ _ _ w.0.rest.1 w.1 w.2) c.match-kind.branch)
+
+pub returns : goal.returns
+returns c = putting_end c.requires _ _ c.loop-k.invariant c.loop-k-test.false

@@ -1,0 +1,15 @@
+-- `sources_of` takes a record after the other. Assumes nothing.
+use borrow.Author.Rules.{rules}
+use Prim.Native.Nat.{◌+◌, ◌-◌}
+use Rattle.model.specs.CaseFile.{records}
+use Rattle.smt_parts.proofs.Sources.{Sourcing, sourcing_start, sourcing_more, sourcing_end}
+use Rattle.smt_parts.proofs.sources_of.Goals as goal
+
+pub loop-k-init : goal.loop-k-init
+loop-k-init c = sourcing_start _
+
+pub loop-k-preserved : goal.loop-k-preserved
+loop-k-preserved c = sourcing_more c.loop-k.invariant c.requires (search rules) c.kind_of.ensures c.with_source-sources.ensures
+
+pub returns : goal.returns
+returns c = sourcing_end c.loop-k.invariant (search rules)

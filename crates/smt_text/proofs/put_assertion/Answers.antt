@@ -1,0 +1,7 @@
+-- `put_assertion` puts the formula between its words. Assumes nothing.
+use borrow.Author.Rules.{rules}
+use Rattle.smt_text.proofs.Assertions.{assertion_spelt}
+use Rattle.smt_text.proofs.put_assertion.Goals as goal
+
+pub returns : goal.returns
+returns c = assertion_spelt _ c.put-place.ensures c.put_row-place.ensures c.put.ensures

@@ -1,0 +1,7 @@
+-- `write_script` puts the parts of a script one after the other. Assumes nothing.
+use borrow.Author.Rules.{rules}
+use Rattle.smt_text.proofs.Assertions.{script_spelt}
+use Rattle.smt_text.proofs.write_script.Goals as goal
+
+pub returns : goal.returns
+returns c = script_spelt c.requires c.put-place.ensures c.put_declarations-place.ensures c.put_assertions-place.ensures c.put.ensures

@@ -1,0 +1,11 @@
+-- `put_closing` puts one after the other. Assumes nothing.
+use borrow.Author.Rules.{rules}
+use Prim.Native.Nat.{◌-◌}
+use Rattle.spell.proofs.Numbers.{Closing, closing_start, closing_more, closing_end}
+use Rattle.spell.proofs.put_closing.Given as goal
+
+abbrev pub invariant-loop-j : goal.invariant-loop-j
+invariant-loop-j l = Closing l.many l.initial.text l.start j l.at l.j
+
+abbrev pub decreases-loop-j : goal.decreases-loop-j
+decreases-loop-j l = l.many - j

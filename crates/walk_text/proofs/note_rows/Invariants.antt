@@ -1,0 +1,11 @@
+-- `note_rows` notes each row of the table. Assumes nothing.
+use borrow.Author.Rules.{rules}
+use Prim.Native.Nat.{◌-◌}
+use Rattle.walk_text.proofs.Noting.{Noting, noting_start, noting_more, noting_end}
+use Rattle.walk_text.proofs.note_rows.Given as goal
+
+abbrev pub invariant-loop-j : goal.invariant-loop-j
+invariant-loop-j l = Noting l.kind l.place l.table l.count l.j l.notes
+
+abbrev pub decreases-loop-j : goal.decreases-loop-j
+decreases-loop-j l = l.count - l.j
