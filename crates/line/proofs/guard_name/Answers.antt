@@ -5,7 +5,7 @@ use Rattle.line.proofs.guard_name.Goals as goal
 
 pub returns-in-0 : goal.returns-in-0
 unfolding guard_name
-returns-in-0 c k = rw c.in-0.keys1
+returns-in-0 c k = rw c.in-0.is
 
 pub returns-in-1-to-16 : goal.returns-in-1-to-16
 unfolding guard_name

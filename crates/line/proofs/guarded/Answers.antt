@@ -6,7 +6,7 @@ use Rattle.line.proofs.guarded.Goals as goal
 
 pub returns-in-0 : goal.returns-in-0
 unfolding guard_true
-returns-in-0 c = λ G count given items k few. rw c.in-0.keys1
+returns-in-0 c = λ G count given items k few. rw c.in-0.is
 
 pub returns-in-1-to-16 : goal.returns-in-1-to-16
 unfolding guard_true guard_name

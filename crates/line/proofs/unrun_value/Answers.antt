@@ -5,11 +5,11 @@ use Rattle.line.proofs.unrun_value.Goals as goal
 
 pub returns-in-5 : goal.returns-in-5
 unfolding unrun_value
-returns-in-5 c = rw (kind_5 _ c.in-5.keys1)
+returns-in-5 c = rw (kind_5 _ c.in-5.is)
 
 pub returns-in-6 : goal.returns-in-6
 unfolding unrun_value
-returns-in-6 c = rw (kind_6 _ c.in-6.keys2)
+returns-in-6 c = rw (kind_6 _ c.in-6.is)
 
 pub returns-in_default : goal.returns-in_default
-returns-in_default c = unrun_other _ c.in_default.rest
+returns-in_default c = unrun_other _ c.in_default.in_default-own.rest

@@ -4,13 +4,13 @@ use Rattle.line.proofs.KindNumbers.{visible_1, visible_4_to_6, visible_other}
 use Rattle.line.proofs.visible.Goals as goal
 
 pub returns-in_default : goal.returns-in_default
-returns-in_default c = visible_other _ c.in_default-1.rest.1 (λ from. omega (arith, c.if-kind-lt4.true))
+returns-in_default c = visible_other _ (λ e. omega arith) (λ from. omega arith)
 
 pub returns-in_default-2 : goal.returns-in_default-2
-returns-in_default-2 c = visible_other _ c.in_default-1.rest.1 (λ from. omega (arith, c.if-kind-lt7.false))
+returns-in_default-2 c = visible_other _ (λ e. omega arith) (λ from. omega arith)
 
 pub returns-in-1 : goal.returns-in-1
-returns-in-1 c = visible_1 _ c.in-1.keys1
+returns-in-1 c = visible_1 _ c.in-1.is
 
 pub returns-in-1-2 : goal.returns-in-1-2
-returns-in-1-2 c = visible_4_to_6 _ (omega (arith, c.if-kind-lt4.false)) (omega (arith, c.if-kind-lt7.true))
+returns-in-1-2 c = visible_4_to_6 _ (omega arith) (omega arith)

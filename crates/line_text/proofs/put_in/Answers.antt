@@ -5,25 +5,25 @@ use Rattle.line_text.proofs.Lines.{in_compute, in_store, in_load, in_input, in_a
 use Rattle.line_text.proofs.put_in.Goals as goal
 
 pub returns-in-1 : goal.returns-in-1
-returns-in-1 c = λ case s q. in_compute case _ _ _ _ c.value_variable.ensures c.operand-x.ensures c.operand-y.ensures (kind_1 _ c.in-1.keys1) (c.put_is_expression.ensures case q)
+returns-in-1 c = λ case s q. in_compute case _ _ _ _ c.value_variable.ensures c.operand-x.ensures c.operand-y.ensures (kind_1 _ c.in-1.is) (c.put_is_expression.ensures case q)
 
 pub returns-in-2 : goal.returns-in-2
-returns-in-2 c = λ case s q. in_store case _ _ _ _ c.value_variable.ensures c.operand-x.ensures c.operand-y.ensures (kind_2 _ c.in-2.keys2) (c.put_is_expression-in-2.ensures case q)
+returns-in-2 c = λ case s q. in_store case _ _ _ _ c.value_variable.ensures c.operand-x.ensures c.operand-y.ensures (kind_2 _ c.in-2.is) (c.put_is_expression-in-2.ensures case q)
 
 pub returns-in-3 : goal.returns-in-3
-returns-in-3 c = λ case s q. in_load case _ _ _ _ c.value_variable.ensures (kind_3 _ c.in-3.keys3) (c.operand_a.ensures c.args.k) (c.put_name.ensures case s q)
+returns-in-3 c = λ case s q. in_load case _ _ _ _ c.value_variable.ensures (kind_3 _ c.in-3.is) (c.operand_a.ensures c.args.k) (c.put_name.ensures case s q)
 
 pub returns-in-4 : goal.returns-in-4
-returns-in-4 c = λ case s q. in_input case _ _ _ _ c.value_variable.ensures (kind_4 _ c.in-4.keys4) c.put.ensures
+returns-in-4 c = λ case s q. in_input case _ _ _ _ c.value_variable.ensures (kind_4 _ c.in-4.is) c.put.ensures
 
 pub returns-in-5 : goal.returns-in-5
-returns-in-5 c = λ case s q. in_assert case _ _ _ _ c.value_variable.ensures c.operand-x.ensures c.operand-y.ensures (kind_5 _ c.in-5.keys5) (c.put_is_truth.ensures case q)
+returns-in-5 c = λ case s q. in_assert case _ _ _ _ c.value_variable.ensures c.operand-x.ensures c.operand-y.ensures (kind_5 _ c.in-5.is) (c.put_is_truth.ensures case q)
 
 pub returns-in-6 : goal.returns-in-6
-returns-in-6 c = λ case s q. in_assume case _ _ _ _ c.value_variable.ensures c.operand-x.ensures c.operand-y.ensures (kind_6 _ c.in-6.keys6) (c.put_is_truth-in-6.ensures case q)
+returns-in-6 c = λ case s q. in_assume case _ _ _ _ c.value_variable.ensures c.operand-x.ensures c.operand-y.ensures (kind_6 _ c.in-6.is) (c.put_is_truth-in-6.ensures case q)
 
 pub returns-in-7 : goal.returns-in-7
-returns-in-7 c = λ case s q. in_lock case _ _ _ _ c.value_variable.ensures (kind_7 _ c.in-7.keys7) (c.holder.ensures c.args.k) c.put_equal.ensures
+returns-in-7 c = λ case s q. in_lock case _ _ _ _ c.value_variable.ensures (kind_7 _ c.in-7.is) (c.holder.ensures c.args.k) c.put_equal.ensures
 
 pub returns-in_default : goal.returns-in_default
-returns-in_default c = λ case s q. in_unlock case _ _ _ _ c.value_variable.ensures (unlock_other _ c.in_default.rest) c.put_equal-in_default.ensures
+returns-in_default c = λ case s q. in_unlock case _ _ _ _ c.value_variable.ensures (unlock_other _ c.in_default.in_default-own.rest) c.put_equal-in_default.ensures

@@ -10,27 +10,27 @@ use Rattle.turn.proofs.old_value.Goals as goal
 
 pub returns-in-1 : goal.returns-in-1
 unfolding guarded_out_value name_of_target kind_of
-returns-in-1 c = λ given k. rw c.in-1.keys1 (c.local_at.ensures _ _ c.requires.few.items)
+returns-in-1 c = λ given k. rw c.in-1.is (c.local_at.ensures _ _ c.requires.few.items)
 
 pub returns-in-2 : goal.returns-in-2
 unfolding guarded_out_value name_of_target kind_of
-returns-in-2 c = λ given k. rw c.in-2.keys2 (c.item_at.ensures _)
+returns-in-2 c = λ given k. rw c.in-2.is (c.item_at.ensures _)
 
 pub returns-in-3 : goal.returns-in-3
 unfolding guarded_out_value name_of_target kind_of
-returns-in-3 c = λ given k. rw c.in-3.keys3 (c.local_at-in-3.ensures _ _ c.requires.few.items)
+returns-in-3 c = λ given k. rw c.in-3.is (c.local_at-in-3.ensures _ _ c.requires.few.items)
 
 pub returns-in-4 : goal.returns-in-4
 unfolding guarded_out_value name_of_target kind_of
-returns-in-4 c = λ given k. rw c.in-4.keys4 (c.local_at-in-4.ensures _ _ c.requires.few.items)
+returns-in-4 c = λ given k. rw c.in-4.is (c.local_at-in-4.ensures _ _ c.requires.few.items)
 
 pub returns-in-5 : goal.returns-in-5
 unfolding guarded_out_value kind_of
-returns-in-5 c = λ given k. rw c.in-5.keys5
+returns-in-5 c = λ given k. rw c.in-5.is
 
 pub returns-in-6 : goal.returns-in-6
 unfolding guarded_out_value kind_of
-returns-in-6 c = λ given k. rw c.in-6.keys6
+returns-in-6 c = λ given k. rw c.in-6.is
 
 pub returns-in_default : goal.returns-in_default
-returns-in_default c = λ given k. c.item_at-in_default.ensures _ ∙ ap (look _) (target_other _ _ _ c.in_default.rest) ∙ old_other _ _ c.in_default.rest
+returns-in_default c = λ given k. c.item_at-in_default.ensures _ ∙ ap (look _) (target_other _ _ _ c.in_default.in_default-own.rest) ∙ old_other _ _ c.in_default.in_default-own.rest
