@@ -1,5 +1,5 @@
 -- Demand 3 over well-formed cases: assignments that meet the constraints and schedules whose runs finish and
--- violate, each the other's. `decode-of-fill` and `fill-of-decode` are the two laws of the filled assignment.
+-- violate, each the other's. `decode_of_fill` and `fill_of_decode` are the two laws of the filled assignment.
 -- Assumes nothing. Met again in Demand3.
 use mathlib.Core.Path.{◌≡◌, sym, ap₂, ◌∙◌}
 use Prim.Native.Nat.{ℕ, suc, ◌+◌, ◌<◌}

@@ -191,7 +191,7 @@ pub record Demand3 (bytes : List ℕ) : Type 0 where
   pub values_at_the_cut_off : (schedule : List ℕ) → Takes (case_of bytes) schedule → (s : Step) → FirstEnding (case_of bytes) schedule s
       → Leaves bytes schedule s.memory.items
   -- ---- A slice that is too short is refused with 10. With room, the table is written; an assignment with yes and its schedule are
-  -- not refused, as `decodes-to-violated` says.
+  -- not refused, as `decodes_to_violated` says.
   pub short_table : (room : ℕ) → room < table_room bytes → encoded bytes room ≡ encodeds.Refused 10 0
   pub long_table : (room : ℕ) → table_room bytes ≤ room → encoded bytes room ≡ encodeds.Table (length (table (case_of bytes))) (variables (case_of bytes))
   pub short_schedule : (xs : List ℕ) → Yes bytes xs → (room : ℕ) → room < schedule_room bytes → decoded bytes xs room ≡ decodeds.Refused 10 0

@@ -1,5 +1,5 @@
 -- What checks 1 to 9 give: everything that the theorem and the calls need of an accepted case. That acceptance gives it is
--- `accepted-of` of proofs/Accepted.antt.
+-- `accepted_of` of proofs/Accepted.antt.
 -- Assumes nothing.
 use Rattle.std.specs.Prelude.{◌≡◌, ℕ, suc, ◌+◌, ◌*◌, ◌≤◌, ◌<◌, true, List, ◌∷◌, length}
 use Rattle.model.specs.Limits.{least_threads, most_threads, most_switches, most_globals, most_mutexes, most_lines, most_records, header_bytes, record_bytes}

@@ -14,7 +14,7 @@ use model::{Encoded, Listed};
 pub const MOST_BYTES: usize = 6 * (2 + MOST_NUMBERS);
 
 // The listing's text, from the slice's start: a case's table, or the number and place of its refusal. Refusal 10 where the
-// slice is shorter. The table always fits its array (`table-numbers` of laws), so the encoder refuses only what the case is
+// slice is shorter. The table always fits its array (`table_numbers_lem` of laws), so the encoder refuses only what the case is
 // refused for.
 pub fn listing_text(case: &[u8], text: &mut [u8]) -> Listed
     ensures value { result ≡ listed case.now (length text.old) }

@@ -1,5 +1,5 @@
 -- A script that was written is read back: its declarations, its assertions, and the whole. So no two scripts have one text.
--- Assumes nothing. `read_back` and `one-script` are what the crate is for.
+-- Assumes nothing. `read_back` and `one_script` are what the crate is for.
 use mathlib.Core.Path.{◌≡◌, refl, ap, ◌∙◌}
 use Prim.Native.Nat.{ℕ, zero, suc, ◌+◌, ◌≤◌, ◌<◌}
 use mathlib.Core.List.{List, [], ◌∷◌, ◌++◌, append_assoc}

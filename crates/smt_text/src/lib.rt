@@ -43,7 +43,7 @@ pub fn smt_length(case: &[u8]) -> Spelled
     }
 }
 
-// The text of a case, from the slice's start. Refusal 10 where the slice is shorter. The table always fits its array (`table-numbers`
+// The text of a case, from the slice's start. Refusal 10 where the slice is shorter. The table always fits its array (`table_numbers_lem`
 // of laws), so the encoder refuses only what the case is refused for.
 pub fn smt_text(case: &[u8], text: &mut [u8]) -> Spelled
     ensures value { result ≡ spelled case.now (length text.old) }
