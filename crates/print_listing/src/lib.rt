@@ -46,7 +46,7 @@ fn read_case(buffer: &mut [u8]) -> Input
     }
 }
 
-// The listing of a case in a text that every listing fits; how many bytes it has. The law `never-refused` of listing_text says
+// The listing of a case in a text that every listing fits; how many bytes it has. The law `never_refused` of listing_text says
 // that the call does not answer with refusal 10 here.
 fn listing_of(case: &[u8], text: &mut [u8]) -> usize
     requires { most_listing_bytes ≤ length text.old }
