@@ -1,3 +1,4 @@
+use Rattle.std.proofs.Common.{ap, not}
 use Rattle.laws.proofs.Accepted.{sized_of}
 use Rattle.case_file.proofs.LoopTests.{failed, passed}
 use Rattle.accept.proofs.Verdicts.{refused_1, refused_2, refused_3, refused_4, refused_5}
@@ -34,9 +35,9 @@ returns-then-not-absent_ok c = search (refused_5, failed, passed)
 pub accept_records-requires : goal.accept_records-requires
 accept_records-requires c =
     record {
-      size_ok = passed c.size_ok.ensures c.if-not-size_ok.false;
-      threads_ok_lem = passed c.threads_ok.ensures c.if-not-threads_ok.false;
-      switches_ok_lem = passed c.switches_ok.ensures c.if-not-switches_ok.false;
-      items_ok_lem = passed c.items_ok.ensures c.if-not-items_ok.false;
-      absent_ok_lem = passed c.absent_ok.ensures c.if-not-absent_ok.false;
+      size_ok_lem = passed c.size_ok.ensures (ap not c.if-not-size_ok.false);
+      threads_ok_lem = passed c.threads_ok.ensures (ap not c.if-not-threads_ok.false);
+      switches_ok_lem = passed c.switches_ok.ensures (ap not c.if-not-switches_ok.false);
+      items_ok_lem = passed c.items_ok.ensures (ap not c.if-not-items_ok.false);
+      absent_ok_lem = passed c.absent_ok.ensures (ap not c.if-not-absent_ok.false);
     }

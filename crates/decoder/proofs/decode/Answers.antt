@@ -9,5 +9,7 @@ decode_accepted-requires c = sym c.accept.ensures ∙ c.enum_told-1.given.1
 
 pub returns-in-Refused : goal.returns-in-Refused
 returns-in-Refused c =
+    let both =
     let answer = refused _ c.args.assignment.now _ _ _ (sym c.accept.ensures ∙ c.number-1.given.1) in
     (answer.answer, answer.slice)
+    in record { value = both.0; schedule_after = both.1 }

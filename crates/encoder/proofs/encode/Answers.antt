@@ -8,4 +8,7 @@ pub encode_accepted-requires : goal.encode_accepted-requires
 encode_accepted-requires c = sym c.accept.ensures ∙ c.enum_told-1.given.1
 
 pub returns-in-Refused : goal.returns-in-Refused
-returns-in-Refused c = let told = case_refused _ _ _ _ _ c.accept.ensures c.number-1.given.1 in (told.answer, told.slice)
+returns-in-Refused c =
+    let both =
+    let told = case_refused _ _ _ _ _ c.accept.ensures c.number-1.given.1 in (told.answer, told.slice)
+    in record { value = both.0; table_after = both.1 }

@@ -35,7 +35,7 @@ loop-k-smaller c = lines_less _ c.requires.accepted _ _ c.loop-k-test.true c.loo
 
 pub loop-k-preserved : goal.loop-k-preserved
 loop-k-preserved c =
-    value_step c.loop-k.invariant c.requires.accepted c.loop-k-test.true c.record_at-l.ensures c.globals-globals.ensures c.take_line-copies.ensures.0 c.take_line-copies.ensures.1 c.put_values.ensures
+    value_step c.loop-k.invariant c.requires.accepted c.loop-k-test.true c.record_at-l.ensures c.globals-globals.ensures c.take_line-copies.ensures.value c.take_line-copies.ensures.held_after c.put_values.ensures
     c.value_rows.ensures c.next_of-k.ensures
 
 pub shape_of-table : goal.shape_of-table

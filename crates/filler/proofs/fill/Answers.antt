@@ -9,5 +9,7 @@ fill_accepted-requires c = sym c.accept.ensures ∙ c.enum_told-1.given.1
 
 pub returns-in-Refused : goal.returns-in-Refused
 returns-in-Refused c =
+    let both =
     let answer = answers_refused _ c.args.schedule.now _ _ _ (sym c.accept.ensures ∙ c.number-1.given.1) in
     (c.refused.ensures ∙ answer.answer, answer.slice)
+    in record { value = both.0; assignment_after = both.1 }

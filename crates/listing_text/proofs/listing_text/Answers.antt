@@ -5,15 +5,20 @@ use Rattle.listing_text.proofs.Bridge.{rows_fit, answer_text, too_short, long_en
 use Rattle.listing_text.proofs.listing_text.Goals as goal
 
 pub fits-requires : goal.fits-requires
-fits-requires c = let rows = rows_fit _ _ refl _ c.encode-answer.ensures.0 in search rules
+fits-requires c = let rows = rows_fit _ _ refl _ c.encode-answer.ensures.value in search rules
 
 pub write_text-bytes-requires : goal.write_text-bytes-requires
-write_text-bytes-requires c = let rows = rows_fit _ _ refl _ c.encode-answer.ensures.0 in search rules
+write_text-bytes-requires c = let rows = rows_fit _ _ refl _ c.encode-answer.ensures.value in search rules
 
 pub returns-then-fits : goal.returns-then-fits
 returns-then-fits c =
-    long_enough _ _ _ (answer_text _ _ refl _ _ c.encode-answer.ensures.0 c.encode-answer.ensures.1) _ c.fits2.ensures c.if-fits.true
+    let both =
+    long_enough _ _ _ (answer_text _ _ refl _ _ c.encode-answer.ensures.value c.encode-answer.ensures.table_after) _ c.fits2.ensures c.if-fits.true
     c.write_text-bytes.ensures
+    in record { value = both.0; text_after = both.1 }
 
 pub returns : goal.returns
-returns c = too_short _ _ _ (answer_text _ _ refl _ _ c.encode-answer.ensures.0 c.encode-answer.ensures.1) _ c.fits2.ensures c.if-fits.false
+returns c =
+    let both =
+    too_short _ _ _ (answer_text _ _ refl _ _ c.encode-answer.ensures.value c.encode-answer.ensures.table_after) _ c.fits2.ensures c.if-fits.false
+    in record { value = both.0; text_after = both.1 }

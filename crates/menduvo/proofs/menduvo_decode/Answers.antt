@@ -7,4 +7,6 @@ use Rattle.menduvo.proofs.menduvo_decode.Goals as goal
 
 pub returns : goal.returns
 returns c =
+    let both =
     let told = c.decode.ensures in (c.decoded_numbers.ensures ∙ ap decoded_numbers told.0, told.1)
+    in record { value = both.0; schedule_after = both.1 }

@@ -7,8 +7,10 @@ use Rattle.listing_text.proofs.Bridge.{length_told}
 use Rattle.menduvo.proofs.menduvo_listing.Goals as goal
 
 pub listed_numbers-requires : goal.listed_numbers-requires
-listed_numbers-requires c = rw c.listing_text.ensures.0 (length_told _ _)
+listed_numbers-requires c = rw c.listing_text.ensures.value (length_told _ _)
 
 pub returns : goal.returns
 returns c =
+    let both =
     let told = c.listing_text.ensures in (c.listed_numbers.ensures ∙ ap listed_numbers told.0, told.1)
+    in record { value = both.0; text_after = both.1 }

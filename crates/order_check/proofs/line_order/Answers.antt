@@ -1,4 +1,5 @@
 -- `order_check::line_order` meets its contract. Assumes nothing.
+use Rattle.std.proofs.Common.{ap, not}
 use native.Mathlib.Omega.{arith}
 use lib.Dec.{eqb}
 use Rattle.model.specs.CaseFile.{kind_of}
@@ -9,13 +10,13 @@ use borrow.Author.Rules.{rules}
 use Rattle.order_check.proofs.line_order.Goals as goal
 
 pub returns-then-not-own_block : goal.returns-then-not-own_block
-returns-then-not-own_block c = thread_fails _ _ _ c.args.link _ c.block_of-block.ensures c.args.at (failed c.own_block.ensures c.if-not-own_block.true)
+returns-then-not-own_block c = thread_fails _ _ _ c.args.link _ c.block_of-block.ensures c.args.at (failed c.own_block.ensures (ap not c.if-not-own_block.true))
 
 pub returns-then-not-stayed : goal.returns-then-not-stayed
-returns-then-not-stayed c = stay_fails _ _ _ c.args.link _ c.block_of-block.ensures c.args.at c.requires.kind (passed c.own_block.ensures c.if-not-own_block.false) (failed c.stayed.ensures c.if-not-stayed.true)
+returns-then-not-stayed c = stay_fails _ _ _ c.args.link _ c.block_of-block.ensures c.args.at c.requires.kind (passed c.own_block.ensures (ap not c.if-not-own_block.false)) (failed c.stayed.ensures (ap not c.if-not-stayed.true))
 
 pub returns-then-block-most_block : goal.returns-then-block-most_block
-returns-then-block-most_block c = order_holds _ _ _ c.args.link _ c.block_of-block.ensures c.args.at c.requires.kind (passed c.own_block.ensures c.if-not-own_block.false) (passed c.stayed.ensures c.if-not-stayed.false) _ c.most_block.ensures c.if-block-most_block.true
+returns-then-block-most_block c = order_holds _ _ _ c.args.link _ c.block_of-block.ensures c.args.at c.requires.kind (passed c.own_block.ensures (ap not c.if-not-own_block.false)) (passed c.stayed.ensures (ap not c.if-not-stayed.false)) _ c.most_block.ensures c.if-block-most_block.true
 
 pub overflow_sub-result : goal.overflow_sub-result
 overflow_sub-result c = omega (arith, c.order_rows.ensures, order_count_at_least (eqb c.args.link.before 0) (kind_of c.args.link.kind))
@@ -27,4 +28,4 @@ pub overflow_add-result : goal.overflow_add-result
 overflow_add-result c = omega (arith, c.order_rows.ensures, order_count_at_most (eqb c.args.link.before 0) (kind_of c.args.link.kind), c.requires.number)
 
 pub returns : goal.returns
-returns c = follow_fails _ _ _ c.args.link _ c.block_of-block.ensures c.args.at c.requires.kind (passed c.own_block.ensures c.if-not-own_block.false) (passed c.stayed.ensures c.if-not-stayed.false) _ c.most_block.ensures c.if-block-most_block.false c.order_rows.ensures
+returns c = follow_fails _ _ _ c.args.link _ c.block_of-block.ensures c.args.at c.requires.kind (passed c.own_block.ensures (ap not c.if-not-own_block.false)) (passed c.stayed.ensures (ap not c.if-not-stayed.false)) _ c.most_block.ensures c.if-block-most_block.false c.order_rows.ensures

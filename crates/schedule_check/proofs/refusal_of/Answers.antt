@@ -1,4 +1,5 @@
 -- `schedule_check::refusal_of` meets its contract. Assumes nothing.
+use Rattle.std.proofs.Common.{ap, not}
 use mathlib.Core.Path.{sym}
 use Prim.Native.Nat.{◌+◌}
 use lib.Seq.{length-take-le}
@@ -19,7 +20,7 @@ lengths_fit-requires c =
     search rules
 
 pub returns-then-not-lengths_fit : goal.returns-then-not-lengths_fit
-returns-then-not-lengths_fit c = looked_13 _ _ _ c.requires c.switches.ensures c.inputs_of-counts.ensures.values c.if-schedule-used.false c.lengths_fit.ensures (not-true _ c.if-not-lengths_fit.true)
+returns-then-not-lengths_fit c = looked_13 _ _ _ c.requires c.switches.ensures c.inputs_of-counts.ensures.values c.if-schedule-used.false c.lengths_fit.ensures (not-true _ (ap not c.if-not-lengths_fit.true))
 
 pub returns : goal.returns
-returns c = looked_none _ _ _ c.requires c.switches.ensures c.inputs_of-counts.ensures.values c.if-schedule-used.false c.lengths_fit.ensures (not-false _ c.if-not-lengths_fit.false)
+returns c = looked_none _ _ _ c.requires c.switches.ensures c.inputs_of-counts.ensures.values c.if-schedule-used.false c.lengths_fit.ensures (not-false _ (ap not c.if-not-lengths_fit.false))

@@ -1,4 +1,5 @@
 -- `turn::Turn::block` meets its contract. The invariant: the steps that are left decide. Assumes nothing.
+use Rattle.std.proofs.Common.{ap, not}
 use mathlib.Core.Path.{refl, sym, ◌∙◌}
 use native.Mathlib.Omega.{arith}
 use borrow.Author.Tests.{not-true, not-false}
@@ -9,10 +10,10 @@ use borrow.Author.Rules.{rules}
 use Rattle.turn.proofs.Turn.block.Goals as goal
 
 pub returns-then-not-goes_on : goal.returns-then-not-goes_on
-returns-then-not-goes_on c = run_ended _ _ _ _ _ _ _ c.requires.within (sym c.goes_on.ensures ∙ not-true _ c.if-not-goes_on.true)
+returns-then-not-goes_on c = run_ended _ _ _ _ _ _ _ c.requires.within (sym c.goes_on.ensures ∙ not-true _ (ap not c.if-not-goes_on.true))
 
 pub loop-left-init : goal.loop-left-init
-loop-left-init c = stepping_start _ _ _ _ _ _ _ c.requires.within (sym c.goes_on.ensures ∙ not-false _ c.if-not-goes_on.false)
+loop-left-init c = stepping_start _ _ _ _ _ _ _ c.requires.within (sym c.goes_on.ensures ∙ not-false _ (ap not c.if-not-goes_on.false))
 
 pub shape_of-trace-then-at-eq0 : goal.shape_of-trace-then-at-eq0
 shape_of-trace-then-at-eq0 c = c.loop-left.invariant.size
