@@ -1,6 +1,6 @@
 -- Walking back over record numbers, as the code does, is walking back over lines, as constraint 6 does.
 -- Assumes nothing.
-use mathlib.Core.Path.{◌≡◌, refl, sym, ap, ap₂, ◌∙◌}
+use mathlib.Core.Path.{◌≡◌, refl, sym, ap, ap₂, subst, ◌∙◌}
 use Prim.Native.Nat.{ℕ, zero, suc, ◌%◌, ◌≤◌, ◌<◌}
 use mathlib.Core.Bool.{false}
 use mathlib.Core.List.{List, [], ◌∷◌, reverse, reverse_aux}
@@ -19,6 +19,7 @@ use Rattle.model.specs.Holds.{from_record, holds}
 use Rattle.laws.specs.Accepted.{Accepted}
 use Rattle.laws.specs.Order.{AllLines, Positive}
 use Rattle.laws.proofs.Views.{EqView, same, diff, eq_view}
+use Rattle.laws.proofs.Copies.{latest_other}
 use Rattle.laws.proofs.Lines.{thread_lines_by}
 use Rattle.laws.proofs.Sizes.{item_numbers_lem}
 use Rattle.copies.specs.CopyChains.{HasBefore, CopyChains}
@@ -73,7 +74,8 @@ module _ (case : Case) (xs previous : List ℕ) (i g : ℕ) where
           → walk_back case α i g (from_record (last (l ∷ d)) (l ∷ d)) ≡ walk_back case α i g (l ∷ d)
       go (same e q) _ rest = rw (q, eq-eqb l.number l.number refl, q)
       go (diff e q) (same f s) rest = rw (q, s, q)
-      go (diff e q) (diff f s) rest = rw (q, s) rest
+      go (diff e q) (diff f s) rest =
+          subst (λ (k : ℕ). walk_back case α i g (from_record k (l ∷ d)) ≡ walk_back case α i g (l ∷ d)) (sym (latest_other case.G (item_name g) l d e)) (rw (s, q) rest)
 
 all_reversed : (P : Line → Type 0) (ls earlier : List Line) → AllLines P ls → AllLines P earlier → AllLines P (reverse_aux ls earlier)
 all_reversed P [] earlier all before = before

@@ -14,7 +14,7 @@ length_of_text : (l : Listed) (size : ℕ) → l ≡ Text size → (listed_numbe
 length_of_text l size e h = rw e at h
 
 pub overflow_cast-bytes : goal.overflow_cast-bytes
-overflow_cast-bytes c = omega (arith, length_of_text _ _ c.l-1.given.1 c.requires)
+overflow_cast-bytes c = omega (arith, length_of_text _ _ c.in-Text.is c.requires)
 
 pub returns-in-Text : goal.returns-in-Text
 returns-in-Text c = cc

@@ -6,10 +6,10 @@ use Rattle.checker.proofs.Answering.{accepted_answer, refused_answer}
 use Rattle.checker.proofs.check.Goals as goal
 
 pub check_accepted-requires : goal.check_accepted-requires
-check_accepted-requires c = accepted_of _ (sym c.accept.ensures ∙ c.enum_told-1.given.1)
+check_accepted-requires c = accepted_of _ (sym c.accept.ensures ∙ c.in-Accepted.is)
 
 pub returns-in-Accepted : goal.returns-in-Accepted
-returns-in-Accepted c = c.check_accepted.ensures ∙ accepted_answer _ _ _ c.accept.ensures c.enum_told-1.given.1
+returns-in-Accepted c = c.check_accepted.ensures ∙ accepted_answer _ _ _ c.accept.ensures c.in-Accepted.is
 
 pub returns-in-Refused : goal.returns-in-Refused
-returns-in-Refused c = refused_answer _ _ _ _ _ c.accept.ensures c.number-1.given.1
+returns-in-Refused c = refused_answer _ _ _ _ _ c.accept.ensures c.in-Refused.is

@@ -5,11 +5,11 @@ use Rattle.decoder.proofs.Answering.{refused}
 use Rattle.decoder.proofs.decode.Goals as goal
 
 pub decode_accepted-requires : goal.decode_accepted-requires
-decode_accepted-requires c = sym c.accept.ensures ∙ c.enum_told-1.given.1
+decode_accepted-requires c = sym c.accept.ensures ∙ c.in-Accepted.is
 
 pub returns-in-Refused : goal.returns-in-Refused
 returns-in-Refused c =
     let both =
-    let answer = refused _ c.args.assignment.now _ _ _ (sym c.accept.ensures ∙ c.number-1.given.1) in
+    let answer = refused _ c.args.assignment.now _ _ _ (sym c.accept.ensures ∙ c.in-Refused.is) in
     (answer.answer, answer.slice)
     in record { value = both.0; schedule_after = both.1 }

@@ -25,4 +25,4 @@ write_schedule-requires c = record { accepted = accepted_of _ c.requires; room =
 
 pub returns : goal.returns
 returns c =
-    met _ _ _ c.requires _ c.schedule_size-size.ensures.is c.if-schedule-size.false _ c.check_accepted-answer.ensures c.enum_told-1.given.1 _ c.write_schedule.ensures
+    met _ _ _ c.requires _ c.schedule_size-size.ensures.is c.if-schedule-size.false _ c.check_accepted-answer.ensures c.in-Meets.is _ c.write_schedule.ensures

@@ -5,12 +5,12 @@ use Rattle.decoder.proofs.refusal_of.Goals as goal
 
 pub returns-in-Meets : goal.returns-in-Meets
 unfolding refusal_of
-returns-in-Meets c = rw c.enum_told-1.given.1
+returns-in-Meets c = rw c.in-Meets.is
 
 pub returns-in-Fails : goal.returns-in-Fails
 unfolding refusal_of
-returns-in-Fails c = rw c.answer-1.given.1
+returns-in-Fails c = rw c.in-Fails.is
 
 pub returns-in-Refused : goal.returns-in-Refused
 unfolding refusal_of
-returns-in-Refused c = rw c.answer-in-Refused-1.given.1
+returns-in-Refused c = rw c.in-Refused.is

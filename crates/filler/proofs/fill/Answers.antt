@@ -5,11 +5,11 @@ use borrow.Author.Rules.{rules}
 use Rattle.filler.proofs.fill.Goals as goal
 
 pub fill_accepted-requires : goal.fill_accepted-requires
-fill_accepted-requires c = sym c.accept.ensures ∙ c.enum_told-1.given.1
+fill_accepted-requires c = sym c.accept.ensures ∙ c.in-Accepted.is
 
 pub returns-in-Refused : goal.returns-in-Refused
 returns-in-Refused c =
     let both =
-    let answer = answers_refused _ c.args.schedule.now _ _ _ (sym c.accept.ensures ∙ c.number-1.given.1) in
+    let answer = answers_refused _ c.args.schedule.now _ _ _ (sym c.accept.ensures ∙ c.in-Refused.is) in
     (c.refused.ensures ∙ answer.answer, answer.slice)
     in record { value = both.0; assignment_after = both.1 }

@@ -18,7 +18,7 @@ pub returns-in_default : goal.returns-in_default
 returns-in_default c = run_refused c.requires c.switches.ensures c.run_case-e.ensures c.refused_run.ensures (λ k e. ⊎_elim (λ z. omega (arith, z)) (⊎_elim (λ z. omega (arith, z)) (λ z. omega (arith, z))) (rw e at c.in_default.is))
 
 pub returns-then-late-ne0 : goal.returns-then-late-ne0
-returns-then-late-ne0 c = rw c.refused.ensures (run_late c.requires c.switches.ensures c.run_case-e.ensures c.enum_told-1.given.1 c.first_late-late.ensures c.if-late-ne0.true)
+returns-then-late-ne0 c = rw c.refused.ensures (run_late c.requires c.switches.ensures c.run_case-e.ensures c.in-Violated.is c.first_late-late.ensures c.if-late-ne0.true)
 
 pub returns : goal.returns
-returns c = run_fills c.requires c.switches.ensures c.run_case-e.ensures c.enum_told-1.given.1 c.first_late-late.ensures c.if-late-ne0.false c.variables-size.ensures.is
+returns c = run_fills c.requires c.switches.ensures c.run_case-e.ensures c.in-Violated.is c.first_late-late.ensures c.if-late-ne0.false c.variables-size.ensures.is

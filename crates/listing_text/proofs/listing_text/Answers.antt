@@ -13,12 +13,12 @@ write_text-bytes-requires c = let rows = rows_fit _ _ refl _ c.encode-answer.ens
 pub returns-then-fits : goal.returns-then-fits
 returns-then-fits c =
     let both =
-    long_enough _ _ _ (answer_text _ _ refl _ _ c.encode-answer.ensures.value c.encode-answer.ensures.table_after) _ c.fits2.ensures c.if-fits.true
+    long_enough _ _ _ (answer_text _ _ refl _ _ c.encode-answer.ensures.value c.encode-answer.ensures.table_after) _ c.fits.ensures c.if-fits.true
     c.write_text-bytes.ensures
     in record { value = both.0; text_after = both.1 }
 
 pub returns : goal.returns
 returns c =
     let both =
-    too_short _ _ _ (answer_text _ _ refl _ _ c.encode-answer.ensures.value c.encode-answer.ensures.table_after) _ c.fits2.ensures c.if-fits.false
+    too_short _ _ _ (answer_text _ _ refl _ _ c.encode-answer.ensures.value c.encode-answer.ensures.table_after) _ c.fits.ensures c.if-fits.false
     in record { value = both.0; text_after = both.1 }

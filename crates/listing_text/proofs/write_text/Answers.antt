@@ -5,11 +5,11 @@ use Rattle.listing_text.proofs.write_text.Goals as goal
 
 pub put_rows-requires : goal.put_rows-requires
 put_rows-requires c =
-    rows_have_room c.answer-1.given.1 c.requires c.put_two-at.ensures
+    rows_have_room c.in-Table.is c.requires c.put_two-at.ensures
 
 pub returns-in-Table : goal.returns-in-Table
 returns-in-Table c =
-    table_text _ c.answer-1.given.1 c.put_two-at.ensures c.put_rows.ensures
+    table_text _ c.in-Table.is c.put_two-at.ensures c.put_rows.ensures
 
 pub returns-in-Refused : goal.returns-in-Refused
-returns-in-Refused c = refusal_text _ c.answer-in-Refused-1.given.1 c.put_two.ensures
+returns-in-Refused c = refusal_text _ c.in-Refused.is c.put_two.ensures

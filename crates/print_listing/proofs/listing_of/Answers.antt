@@ -4,7 +4,7 @@ use Rattle.listing_text.proofs.Bridge.{no_refusal, whole_text}
 use Rattle.print_listing.proofs.listing_of.Goals as goal
 
 pub returns-in_default : goal.returns-in_default
-returns-in_default c = absurd (no_refusal _ _ _ c.listing_text.ensures.value c.requires _ _ c.enum_told-1.given.1)
+returns-in_default c = absurd (no_refusal _ _ _ c.listing_text.ensures.value c.requires _ _ c.in_default.is)
 
 pub returns : goal.returns
-returns c = whole_text _ _ _ _ _ c.listing_text.ensures.value c.requires c.bytes-1.given.1 c.listing_text.ensures.text_after
+returns c = whole_text _ _ _ _ _ c.listing_text.ensures.value c.requires c.in-Text.is c.listing_text.ensures.text_after

@@ -5,11 +5,11 @@ use borrow.Author.Rules.{rules}
 use Rattle.replayer.proofs.replay.Goals as goal
 
 pub replay_accepted-requires : goal.replay_accepted-requires
-replay_accepted-requires c = sym c.accept.ensures ∙ c.enum_told-1.given.1
+replay_accepted-requires c = sym c.accept.ensures ∙ c.in-Accepted.is
 
 pub returns-in-Refused : goal.returns-in-Refused
 returns-in-Refused c =
     let both =
-    let answer = answers_refused _ c.args.schedule.now _ _ _ (sym c.accept.ensures ∙ c.number-1.given.1) in
+    let answer = answers_refused _ c.args.schedule.now _ _ _ (sym c.accept.ensures ∙ c.in-Refused.is) in
     (answer.answer, answer.slice)
     in record { value = both.0; after = both.1 }

@@ -5,13 +5,13 @@ use borrow.Author.Rules.{rules}
 use Rattle.run.proofs.look_left.Goals as goal
 
 pub returns-in-Strayed : goal.returns-in-Strayed
-returns-in-Strayed c = record { looks = looked_by _ c.args.shared _ _ c.enum_told-in-Strayed-1.given.1 c.enum_told-in-Strayed-1.given.1; put = never_strayed c.enum_told-in-Strayed-1.given.1 }
+returns-in-Strayed c = record { looks = looked_by _ c.args.shared _ _ c.in-Strayed.is c.in-Strayed.is; put = never_strayed c.in-Strayed.is }
 
 pub returns-in-Stopped : goal.returns-in-Stopped
-returns-in-Stopped c = record { looks = looked_by _ c.args.shared _ _ c.enum_told-in-Stopped-1.given.1 c.enum_told-in-Stopped-1.given.1; put = never_stopped c.enum_told-in-Stopped-1.given.1 }
+returns-in-Stopped c = record { looks = looked_by _ c.args.shared _ _ c.in-Stopped.is c.in-Stopped.is; put = never_stopped c.in-Stopped.is }
 
 pub returns-then-found-eq0 : goal.returns-then-found-eq0
-returns-then-found-eq0 c = record { looks = looked_by _ c.args.shared _ _ c.enum_told-1.given.1 (c.enum_told-1.given.1 ∙ none_left _ c.args.shared _ c.first_stray_left-found.ensures.found c.if-found-eq0.true); put = λ _. c.first_stray_left-found.ensures.put }
+returns-then-found-eq0 c = record { looks = looked_by _ c.args.shared _ _ c.in-Running.is (c.in-Running.is ∙ none_left _ c.args.shared _ c.first_stray_left-found.ensures.found c.if-found-eq0.true); put = λ _. c.first_stray_left-found.ensures.put }
 
 pub returns : goal.returns
-returns c = record { looks = looked_by _ c.args.shared _ _ c.enum_told-1.given.1 (some_left _ c.args.shared _ c.first_stray_left-found.ensures.found c.if-found-eq0.false); put = λ _. c.first_stray_left-found.ensures.put }
+returns c = record { looks = looked_by _ c.args.shared _ _ c.in-Running.is (some_left _ c.args.shared _ c.first_stray_left-found.ensures.found c.if-found-eq0.false); put = λ _. c.first_stray_left-found.ensures.put }

@@ -5,10 +5,10 @@ use Rattle.smt_text.proofs.Answer.{table_handed, verdict_refused, text_refused}
 use Rattle.smt_text.proofs.smt_text.Goals as goal
 
 pub put_script-requires : goal.put_script-requires
-put_script-requires c = table_handed _ _ refl c.encode-answer.ensures.value c.encode-answer.ensures.table_after c.answer-1.given.1
+put_script-requires c = table_handed _ _ refl c.encode-answer.ensures.value c.encode-answer.ensures.table_after c.in-Table.is
 
 pub returns-in-Refused : goal.returns-in-Refused
 returns-in-Refused c =
     let both =
-    let given = text_refused _ (verdict_refused _ _ refl c.encode-answer.ensures.value c.encode-answer.ensures.table_after c.answer-in-Refused-1.given.1) _ in (given.answer, given.slice)
+    let given = text_refused _ (verdict_refused _ _ refl c.encode-answer.ensures.value c.encode-answer.ensures.table_after c.in-Refused.is) _ in (given.answer, given.slice)
     in record { value = both.0; text_after = both.1 }

@@ -4,7 +4,7 @@ use Rattle.spell.proofs.Atoms.{atom_variable, atom_constant}
 use Rattle.spell.proofs.put_atom.Goals as goal
 
 pub returns-in-Variable : goal.returns-in-Variable
-returns-in-Variable c = atom_variable c.x-1.given.1 c.put_variable.ensures
+returns-in-Variable c = atom_variable c.in-Variable.is c.put_variable.ensures
 
 pub returns-in-Constant : goal.returns-in-Constant
-returns-in-Constant c = atom_constant c.x-in-Constant-1.given.1 c.put_constant.ensures
+returns-in-Constant c = atom_constant c.in-Constant.is c.put_constant.ensures

@@ -5,7 +5,7 @@ use Rattle.spell.proofs.Numbers.{Closing, closing_start, closing_more, closing_e
 use Rattle.spell.proofs.put_closing.Given as goal
 
 abbrev pub invariant-loop-j : goal.invariant-loop-j
-invariant-loop-j l = Closing l.many l.initial.text l.start j l.at l.j
+invariant-loop-j l = Closing l.many l.initial.text l.start l.j l.text l.at
 
 abbrev pub decreases-loop-j : goal.decreases-loop-j
-decreases-loop-j l = l.many - j
+decreases-loop-j l = l.many - l.j
