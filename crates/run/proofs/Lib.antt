@@ -2,7 +2,5 @@ pub mod ItemsPut
 pub mod Runs
 pub mod Starts
 pub mod Ends
-pub mod LentAgain
-pub mod WalkValues
 pub mod Looks
 pub mod Unrun
