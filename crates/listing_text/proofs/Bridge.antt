@@ -46,10 +46,16 @@ unfolding six_lines numbers_of row_lines
 rows_listed [] rest = refl
 rows_listed (w ∷ ws) rest =
     ap (λ (text : List ℕ). row_line w ++ text) (
-    six_lines_shift _ _ 5 (length ws) ∙ six_lines_shift _ _ 4 (length ws) ∙ six_lines_shift _ _ 3 (length ws)
-    ∙ six_lines_shift _ _ 2 (length ws) ∙ six_lines_shift _ _ 1 (length ws) ∙ six_lines_shift _ _ 0 (length ws)
+    six_lines_shift w.kind (w.one ∷ (w.two ∷ (w.three ∷ (w.four ∷ (w.five ∷ after))))) 5 (length ws)
+    ∙ six_lines_shift w.one (w.two ∷ (w.three ∷ (w.four ∷ (w.five ∷ after)))) 4 (length ws)
+    ∙ six_lines_shift w.two (w.three ∷ (w.four ∷ (w.five ∷ after))) 3 (length ws)
+    ∙ six_lines_shift w.three (w.four ∷ (w.five ∷ after)) 2 (length ws)
+    ∙ six_lines_shift w.four (w.five ∷ after) 1 (length ws) ∙ six_lines_shift w.five after 0 (length ws)
     ∙ rows_listed ws rest
     )
+  where
+    after : List ℕ
+    after = numbers_of ws ++ rest
 
 rows_size_lem : (rows : List Row) → length (row_lines rows) ≤ 36 * length rows
 rows_size_lem rows = rw (← rows_listed rows []) (lines_size (numbers_of rows ++ []) 0 (length rows))

@@ -9,7 +9,5 @@ decode_accepted-requires c = sym c.accept.ensures ∙ c.in-Accepted.is
 
 pub returns-in-Refused : goal.returns-in-Refused
 returns-in-Refused c =
-    let both =
     let answer = refused _ c.args.assignment.now _ _ _ (sym c.accept.ensures ∙ c.in-Refused.is) in
-    (answer.answer, answer.slice)
-    in record { value = both.0; schedule_after = both.1 }
+    record { value = answer.answer; schedule_after = answer.slice }

@@ -18,7 +18,7 @@ check_accepted-answer-requires c = accepted_of _ c.requires
 pub returns-in_default : goal.returns-in_default
 returns-in_default c =
     not_met _ _ _ c.requires _ c.schedule_size-size.ensures.is c.if-schedule-size.false _ c.check_accepted-answer.ensures _ c.refusal_of.ensures
-    (λ e. ⊎_elim (λ z. omega (arith, z)) (λ z. omega (arith, z)) (rw e at c.in_default.is))
+    c.in_default.not-Meets
 
 pub write_schedule-requires : goal.write_schedule-requires
 write_schedule-requires c = record { accepted = accepted_of _ c.requires; room = search rules }

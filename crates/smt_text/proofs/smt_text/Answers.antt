@@ -9,6 +9,5 @@ put_script-requires c = table_handed _ _ refl c.encode-answer.ensures.value c.en
 
 pub returns-in-Refused : goal.returns-in-Refused
 returns-in-Refused c =
-    let both =
-    let given = text_refused _ (verdict_refused _ _ refl c.encode-answer.ensures.value c.encode-answer.ensures.table_after c.in-Refused.is) _ in (given.answer, given.slice)
-    in record { value = both.0; text_after = both.1 }
+    let given = text_refused _ (verdict_refused _ _ refl c.encode-answer.ensures.value c.encode-answer.ensures.table_after c.in-Refused.is) _ in
+    record { value = given.answer; text_after = given.slice }

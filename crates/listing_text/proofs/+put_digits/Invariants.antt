@@ -1,0 +1,5 @@
+-- `put_digits` calls itself with a tenth of the number, which is the measure. Assumes nothing.
+use Rattle.listing_text.proofs.+put_digits.Given as goal
+
+abbrev pub decreases-put_digits : goal.decreases-put_digits
+decreases-put_digits l = l.n
