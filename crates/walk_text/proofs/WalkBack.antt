@@ -1,6 +1,6 @@
 -- The assertion of a 6 over record numbers, as the code writes it, is its assertion over lines.
 -- Assumes nothing. Met again where the text of a 6 is written.
-use mathlib.Core.Path.{◌≡◌, refl, sym, ◌∙◌}
+use mathlib.Core.Path.{◌≡◌, refl, sym, subst, ◌∙◌}
 use Prim.Native.Nat.{ℕ, zero, suc, ◌%◌, ◌≤◌, ◌<◌}
 use mathlib.Core.Bool.{false}
 use mathlib.Core.List.{List, [], ◌∷◌, reverse, reverse_aux}
@@ -19,6 +19,7 @@ use Rattle.script.specs.Assertions.{walk_back, assertion_of}
 use Rattle.laws.specs.Accepted.{Accepted}
 use Rattle.laws.specs.Order.{AllLines, Positive}
 use Rattle.laws.proofs.Views.{EqView, same, diff, eq_view}
+use Rattle.laws.proofs.Copies.{latest_other}
 use Rattle.laws.proofs.Lines.{thread_lines_by}
 use Rattle.laws.proofs.Sizes.{item_numbers_lem}
 use Rattle.copies.specs.CopyChains.{HasBefore}
@@ -68,7 +69,8 @@ module _ (case : Case) (sources previous : List ℕ) (i g : ℕ) where
           → walk_back case sources i g (from_record (last (l ∷ d)) (l ∷ d)) ≡ walk_back case sources i g (l ∷ d)
       go (same e q) _ rest = rw (q, eq-eqb l.number l.number refl, q)
       go (diff e q) (same f s) rest = rw (q, s, q)
-      go (diff e q) (diff f s) rest = rw (q, s) rest
+      go (diff e q) (diff f s) rest =
+          subst (λ (k : ℕ). walk_back case sources i g (from_record k (l ∷ d)) ≡ walk_back case sources i g (l ∷ d)) (sym (latest_other case.G (item_name g) l d e)) (rw (s, q) rest)
 
 module _ {bytes : List ℕ} (ok : Accepted bytes) where
   -- the earlier lines of a thread, latest first, have record numbers too

@@ -12,7 +12,7 @@ pub loop-j-preserved : goal.loop-j-preserved
 loop-j-preserved c = lining_more c.loop-j.invariant c.loop-j-test.true c.put_number-at.ensures
 
 pub shape_of-text : goal.shape_of-text
-shape_of-text c = c.put_number-at.auto.text ∙ c.loop-j.invariant.writes.same
+shape_of-text c = c.put_number.auto.text ∙ c.loop-j.invariant.writes.same
 
 pub returns : goal.returns
 returns c = lining_end c.loop-j.invariant c.loop-j-test.false c.put_number.ensures
