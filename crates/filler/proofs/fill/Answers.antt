@@ -9,7 +9,5 @@ fill_accepted-requires c = sym c.accept.ensures ∙ c.in-Accepted.is
 
 pub returns-in-Refused : goal.returns-in-Refused
 returns-in-Refused c =
-    let both =
     let answer = answers_refused _ c.args.schedule.now _ _ _ (sym c.accept.ensures ∙ c.in-Refused.is) in
-    (c.refused.ensures ∙ answer.answer, answer.slice)
-    in record { value = both.0; assignment_after = both.1 }
+    record { value = c.refused.ensures ∙ answer.answer; assignment_after = answer.slice }

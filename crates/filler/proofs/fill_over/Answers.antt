@@ -7,10 +7,10 @@ pub fill_run-answer-requires : goal.fill_run-answer-requires
 fill_run-answer-requires c = c.requires.ready
 
 pub returns-in_default : goal.returns-in_default
-returns-in_default c = over_refused c.fill_run-answer.ensures _ c.in_default.is
+returns-in_default c = over_refused c.fill_run-answer.ensures _ c.in_default.not-Assignment
 
 pub write_over-requires : goal.write_over-requires
-write_over-requires c = numbers_fit c.requires c.fill_run-answer.new.1.1.1.0 (search rules)
+write_over-requires c = numbers_fit c.requires c.fill_run-answer.new.numbers (search rules)
 
 pub returns : goal.returns
 returns c = over_written c.fill_run-answer.ensures _ c.in-Assignment.is c.write_over.ensures

@@ -15,7 +15,7 @@ pub run_case-e-requires : goal.run_case-e-requires
 run_case-e-requires c = record { accepted = c.requires.accepted; all_given = records_have_places _ _ _ _ c.requires.accepted c.requires.looked }
 
 pub returns-in_default : goal.returns-in_default
-returns-in_default c = run_refused c.requires c.switches.ensures c.run_case-e.ensures c.refused_run.ensures (λ k e. ⊎_elim (λ z. omega (arith, z)) (⊎_elim (λ z. omega (arith, z)) (λ z. omega (arith, z))) (rw e at c.in_default.is))
+returns-in_default c = run_refused c.requires c.switches.ensures c.run_case-e.ensures c.refused_run.ensures c.in_default.not-Violated
 
 pub returns-then-late-ne0 : goal.returns-then-late-ne0
 returns-then-late-ne0 c = rw c.refused.ensures (run_late c.requires c.switches.ensures c.run_case-e.ensures c.in-Violated.is c.first_late-late.ensures c.if-late-ne0.true)

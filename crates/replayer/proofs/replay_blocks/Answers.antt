@@ -1,8 +1,11 @@
 -- `replayer::replay_blocks` meets its contract. Assumes nothing.
-use mathlib.Core.Logic.{⊎_elim}
 use Rattle.replayer.proofs.Calls.{writes_by, ends_written}
 use borrow.Author.Rules.{rules}
 use Rattle.replayer.proofs.replay_blocks.Goals as goal
+use Rattle.replayer.proofs.replay_blocks.Goals.{in-CutOff, in-Violated, in-Clean}
 
 pub returns : goal.returns
-returns c = ends_written c.args.case.now c.args.lengths.now c.args.given.now _ c.run_case-e.ensures.replies _ _ _ c.items-count.ensures.is (⊎_elim (λ w. writes_by _ _ w.1.given.1 tt) (⊎_elim (λ w. writes_by _ _ w.1.given.1 tt) (λ w. writes_by _ _ w.1.given.1 tt)) c.match-reply.branch) c.write_items.ensures
+returns c =
+    ends_written c.args.case.now c.args.lengths.now c.args.given.now _ c.run_case-e.ensures.replies _ _ _ c.items-count.ensures.is
+    (elim c.match-reply.branch [ in-CutOff w ↦ writes_by _ _ w.in-CutOff.is tt | in-Violated w ↦ writes_by _ _ w.in-Violated.is tt | in-Clean w ↦ writes_by _ _ w.in-Clean.is tt ])
+    c.write_items.ensures
