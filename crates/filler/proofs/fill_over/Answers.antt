@@ -7,7 +7,7 @@ pub fill_run-answer-requires : goal.fill_run-answer-requires
 fill_run-answer-requires c = c.requires.ready
 
 pub returns-in_default : goal.returns-in_default
-returns-in_default c = over_refused c.fill_run-answer.ensures _ c.in_default.not-Assignment
+returns-in_default c = over_refused c.fill_run-answer.ensures _ c.in_default.is
 
 pub write_over-requires : goal.write_over-requires
 write_over-requires c = numbers_fit c.requires c.fill_run-answer.new.numbers (search rules)
