@@ -6,7 +6,4 @@ use Rattle.model.specs.Answers.{decoded_numbers}
 use Rattle.menduvo.proofs.menduvo_decode.Goals as goal
 
 pub returns : goal.returns
-returns c =
-    let both =
-    let told = c.decode.ensures in (c.decoded_numbers.ensures ∙ ap decoded_numbers told.0, told.1)
-    in record { value = both.0; schedule_after = both.1 }
+returns c = record { value = c.decoded_numbers.ensures ∙ ap decoded_numbers c.decode.ensures.value; schedule_after = c.decode.ensures.schedule_after }

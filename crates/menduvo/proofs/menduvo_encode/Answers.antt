@@ -6,7 +6,4 @@ use Rattle.model.specs.Answers.{encoded_numbers}
 use Rattle.menduvo.proofs.menduvo_encode.Goals as goal
 
 pub returns : goal.returns
-returns c =
-    let both =
-    let told = c.encode.ensures in (c.encoded_numbers.ensures ∙ ap encoded_numbers told.0, told.1)
-    in record { value = both.0; table_after = both.1 }
+returns c = record { value = c.encoded_numbers.ensures ∙ ap encoded_numbers c.encode.ensures.value; table_after = c.encode.ensures.table_after }

@@ -10,7 +10,4 @@ pub listed_numbers-requires : goal.listed_numbers-requires
 listed_numbers-requires c = rw c.listing_text.ensures.value (length_told _ _)
 
 pub returns : goal.returns
-returns c =
-    let both =
-    let told = c.listing_text.ensures in (c.listed_numbers.ensures ∙ ap listed_numbers told.0, told.1)
-    in record { value = both.0; text_after = both.1 }
+returns c = record { value = c.listed_numbers.ensures ∙ ap listed_numbers c.listing_text.ensures.value; text_after = c.listing_text.ensures.text_after }

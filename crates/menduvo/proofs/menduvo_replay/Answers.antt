@@ -6,7 +6,4 @@ use Rattle.model.specs.Answers.{replayed_numbers}
 use Rattle.menduvo.proofs.menduvo_replay.Goals as goal
 
 pub returns : goal.returns
-returns c =
-    let both =
-    let told = c.replay.ensures in (c.replayed_numbers.ensures ∙ ap replayed_numbers told.0, told.1)
-    in record { value = both.0; after = both.1 }
+returns c = record { value = c.replayed_numbers.ensures ∙ ap replayed_numbers c.replay.ensures.value; after = c.replay.ensures.after }

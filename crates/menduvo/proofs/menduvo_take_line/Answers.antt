@@ -6,7 +6,4 @@ use Rattle.model.specs.Taking.{taken_numbers}
 use Rattle.menduvo.proofs.menduvo_take_line.Goals as goal
 
 pub returns : goal.returns
-returns c =
-    let both =
-    let told = c.take_line.ensures in (c.taken_numbers.ensures ∙ ap taken_numbers told.0, told.1)
-    in record { value = both.0; held_after = both.1 }
+returns c = record { value = c.taken_numbers.ensures ∙ ap taken_numbers c.take_line.ensures.value; held_after = c.take_line.ensures.held_after }
