@@ -1,5 +1,6 @@
 // The listing of the case with R 0 and n 0, for the gate.
 #![tactic(auto)]
-fn main() {
-    print_listing::print_listing();
+
+fn main(rt: HostRuntime) {
+    print_listing::print_listing(&rt);
 }
