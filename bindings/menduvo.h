@@ -1,5 +1,5 @@
 /*
- * Menduvo's calls, for C: the static library libmenduvo.a, written by `rt staticlib menduvo`.
+ * Menduvo's calls, for C: the static library libmenduvo.a, written by `bin/library`.
  *
  * The calls are proved: what each of them answers, and what it leaves in each slice that it was lent, equals the definitions
  * in crates/model/specs (Accept, Answers, with what is filled in Fill, Listing, and of menduvo_take_line Taking, with the walk

@@ -14,7 +14,7 @@ tree="$scratch/a tree" menduvo="$scratch/a tree/bin/menduvo"
 # Three PATHs: for a call where nothing changed; for one that looks at contents, too; and for one that builds.
 quick=$scratch/quick
 bare env && mv "$scratch/bare" "$quick"
-bare chmod date env flock mkdir mv rm sha256sum sleep sort
+bare chmod cp date dirname env flock mkdir mv rm sha256sum sleep sort
 slow=$scratch/bare
 whole=$slow:$scratch/fakes
 
@@ -32,8 +32,9 @@ pause() {
     while [ -e "$scratch/half" ] && [ ! -e "$scratch/go" ]; do sleep 0.01; done
 }'
 fake rt '. "${0%/*}/common"
-begin rt; text=$(cat crates/*); mkdir -p target/staticlib; echo half >target/staticlib/libmenduvo.a; pause rt
-echo "$text" >target/staticlib/libmenduvo.a; sleep 0.02; [ ! -e broken ]'
+[ "$* ${PWD##*/}" = "lib menduvo_c" ] && cd ../.. || exit
+begin rt; text=$(cat crates/*.rt); made=crates/menduvo_c/out/libmenduvo_c.a; echo half >"$made"; pause rt
+echo "$text" >"$made"; sleep 0.02; [ ! -e broken ]'
 fake cargo '. "${0%/*}/common"
 begin cargo; while [ "$1" != --target-dir ]; do shift; done
 mkdir -p "$2/release"; made=$2/release/menduvo; [ ! -e "$made" ] || exit 0
@@ -42,11 +43,11 @@ printf "#!%s\n" "$BASH" >"$made"; chmod +x "$made"; pause cargo
 printf "%s\n" "echo \"it is $text$MENDUVO_BUILD_COMMIT\${MENDUVO_COMMIT+, \$MENDUVO_COMMIT}\"" \
     "for fd in /proc/\$\$/fd/*; do [ ! \"\$fd\" -ef \"$PWD/$2/lock\" ] || echo it has the lock; done" >>"$made"; sleep 0.02'
 
-# Make the scratch tree anew.
+# Make the scratch tree anew. The folder out is there, as after an earlier build: where rt makes it, a folder of sources changes.
 plant() {
     rm -rf "$tree" "$scratch"/{wait,half,go}
-    mkdir -p "$tree"/{bin,crates,tool,bindings,cases}
-    cp bin/menduvo "$tree/bin/"
+    mkdir -p "$tree"/{bin,crates/menduvo_c/out,tool,bindings,cases}
+    cp bin/menduvo bin/library "$tree/bin/"
     touch "$tree"/{crates.txt,tool/Cargo.toml,bindings/lib.rs} "$tree"/cases/lost-update.{source,assignment}
     echo red >"$tree/tool/main.rs"
     echo round >"$tree/crates/lib.rt"
@@ -112,8 +113,8 @@ building() {
     runs 'target/ is gone' "$whole" 'rt cargo' 'it is blue square' "$menduvo"
     : >"$tree/broken" && : >"$tree/crates/newer.rt"
     seen=$whole
-    says 'a proof fails' 3 'rt staticlib menduvo failed' "$menduvo"
-    says 'it is not forgotten' 3 'rt staticlib menduvo failed' "$menduvo"
+    says 'a proof fails' 3 'bin/library failed' "$menduvo"
+    says 'it is not forgotten' 3 'bin/library failed' "$menduvo"
     fake cargo.none '' && mkdir -p "$scratch/none" && mv "$scratch/fakes/cargo.none" "$scratch/none/cargo"
     plant
     seen=$scratch/none:$whole says 'cargo makes nothing' 3 'there is no target/menduvo/release/menduvo' "$menduvo"

@@ -1,10 +1,10 @@
 #!/usr/bin/env bash
 # The listing program on several inputs: what it prints is held to what document 01 says. It takes the program's path; without
-# one it runs target/bin/listing.
+# one it runs crates/listing/out/listing.
 set -u
 tests=$(dirname -- "${BASH_SOURCE[0]}")
 . "$tests/counting.sh" || exit
-program=${1:-$tests/../target/bin/listing}
+program=${1:-$tests/../crates/listing/out/listing}
 
 # Fields of 16 bits, low byte first.
 fields() {

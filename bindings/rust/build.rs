@@ -1,4 +1,4 @@
-//! Tells the linker where libmenduvo.a is: in the folder that MENDUVO_LIB_DIR names, else where `rt staticlib menduvo` puts it.
+//! Tells the linker where libmenduvo.a is: in the folder that MENDUVO_LIB_DIR names, else where `bin/library` puts it.
 //! Without the feature `link` nothing is linked, and nothing is told.
 
 use std::env;
@@ -19,7 +19,7 @@ fn main() {
     println!("cargo:rerun-if-changed={}", archive.display());
     if !archive.is_file() {
         println!("cargo:warning=there is no {}", archive.display());
-        println!("cargo:warning=run 'rt staticlib menduvo', or let MENDUVO_LIB_DIR name the folder that has it");
+        println!("cargo:warning=run 'bin/library', or let MENDUVO_LIB_DIR name the folder that has it");
     }
     // For the build scripts of packages that stand on this one: DEP_MENDUVO_ARCHIVE.
     println!("cargo:archive={}", path::absolute(&archive).unwrap_or(archive).display());
