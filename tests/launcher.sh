@@ -14,7 +14,7 @@ tree="$scratch/a tree" menduvo="$scratch/a tree/bin/menduvo"
 # Three PATHs: for a call where nothing changed; for one that looks at contents, too; and for one that builds.
 quick=$scratch/quick
 bare env && mv "$scratch/bare" "$quick"
-bare chmod cp date dirname env flock mkdir mv rm sha256sum sleep sort
+bare chmod date dirname env flock mkdir mv rm sha256sum sleep sort
 slow=$scratch/bare
 whole=$slow:$scratch/fakes
 
@@ -35,6 +35,7 @@ fake rt '. "${0%/*}/common"
 [ "$* ${PWD##*/}" = "lib menduvo_c" ] && cd ../.. || exit
 begin rt; text=$(cat crates/*.rt); made=crates/menduvo_c/out/libmenduvo_c.a; echo half >"$made"; pause rt
 echo "$text" >"$made"; sleep 0.02; [ ! -e broken ]'
+fake cp "$(type -P cp)"' "$@" && sleep 0.02'
 fake cargo '. "${0%/*}/common"
 begin cargo; while [ "$1" != --target-dir ]; do shift; done
 mkdir -p "$2/release"; made=$2/release/menduvo; [ ! -e "$made" ] || exit 0
@@ -90,7 +91,7 @@ building() {
     local seen=$slow
     plant
     says 'rt is missing' 3 'rt is not installed' "$menduvo"
-    mkdir -p "$scratch/rt" && cp "$scratch"/fakes/{rt,common} "$scratch/rt/"
+    mkdir -p "$scratch/rt" && cp "$scratch"/fakes/{rt,common,cp} "$scratch/rt/"
     seen=$slow:$scratch/rt says 'cargo is missing' 3 'cargo is not installed' "$menduvo"
     plant
     runs 'it builds all, whatever a variable is called outside' "$whole" 'rt cargo' 'it is red round' \
