@@ -16,9 +16,9 @@ cd -- "$(dirname -- "${BASH_SOURCE[0]}")/.." || exit
 scratch=$(mktemp -d) || exit
 trap 'rm -rf -- "$scratch"' EXIT
 
-# imports FILE..: the modules of definitions that the files import.
+# imports FILE..: the modules of definitions that the files import, but for those of Rattle's own library.
 imports() {
-    sed -nE 's/^(ghost )?use Rattle·([a-z_]+)(·specs)?\.specs\.([A-Z][A-Za-z0-9]*)( |\.).*/crates\/\2\/specs\/\4.antt/p' -- "$@"
+    sed -nE '/ Rattle\.std\./d; s/^(ghost )?use Rattle\.([a-z_]+)\.specs\.([A-Z][A-Za-z0-9]*)( |\.).*/crates\/\2\/specs\/\3.antt/p' -- "$@"
 }
 
 # From the one statement and the exported calls, until nothing more is reached.
@@ -33,7 +33,7 @@ done
 # What there is, a line for each thing: its sort, then where it is, then its name.
 {
     echo "$all" | sed 's/^/rests /'
-    find . \( -name target -o -name .git \) -prune -o -print | sed 's|^\./|path |'
+    find . \( -name target -o -name out -o -name .git \) -prune -o -print | sed 's|^\./|path |'
     sed -n 's/^\([a-z_]*\):.*/crate \1/p' crates.txt
     sed -n 's/^ *\(\.*group(\)\{0,1\}"\([a-z0-9-]*\)",.*/group \2/p' tests/src/groups/mod.rs
     awk '
@@ -99,7 +99,7 @@ awk '
         if (t ~ /^group /) result(t in is, t)
         else if (t ~ /[ *{}<>=]|NAME/) return
         else if (t ~ /\// || t ~ /\.(antt|rt|md|sh|h|txt|edit)$/) result(path(t), t)
-        else if (t ~ /^[A-Z][A-Za-z0-9]*\.[A-Za-z0-9'"'"'-]+$/) {
+        else if (t ~ /^[A-Z][A-Za-z0-9]*\.[A-Za-z0-9_'"'"'-]+$/) {
             split(t, part, ".")
             from = "in " part[1]
             result((from " " part[2]) in is, t)
