@@ -14,9 +14,14 @@ scratch=$(mktemp -d) || exit
 trap 'rm -rf -- "$scratch"' EXIT
 unedited=$scratch/unedited # a repository of what a theorem rests on, in which its edits are tried
 
+# copy FROM TO PATH..: copy these, without what rt has made of them.
+copy() {
+    mkdir -p -- "$2" && tar -c --exclude=out -C "$1" -- "${@:3}" | tar -x -C "$2"
+}
+
 # fresh CRATE..: begin it anew, with copies of these crates.
 fresh() {
-    rm -rf -- "$unedited" && mkdir -p "$unedited/crates" && cp -r -- "${@/#/crates/}" "$unedited/crates"
+    rm -rf -- "$unedited" && copy . "$unedited" "${@/#/crates/}"
 }
 
 # without CRATE/MODULE..: leave these modules of proofs out of it.
@@ -37,7 +42,7 @@ joined() {
         cat -- "$from/$part/Lib.antt" >>"$to/$part/Lib.antt" && rm -- "$from/$part/Lib.antt" &&
             mv -n -- "$from/$part"/*.antt "$to/$part" && rmdir -- "$from/$part" || return
         find "$to" -name '*.antt' -exec sed -i \
-            "s/Rattle·$1\.$part\./Rattle·$2·$part.$part./; s/Rattle·$1·/Rattle·$2·/" {} + || return
+            "s/Rattle\.$1\./Rattle.$2./" {} + || return
     done
     rm -r -- "$from"
 }
@@ -57,38 +62,66 @@ change() {
     printf '%s\n' "${text%%"$old"*}$new$rest" >"$file"
 }
 
+# concluded: add a module to the crate that ends in the theorem. Of what rests on a declaration that is
+# refused rt names the first few alone; here it tells whether the theorem is among them.
+concluded() {
+    local proofs=$unedited/crates/$crate/proofs
+    echo 'pub mod Concluded' >>"$proofs/Lib.antt" && cat >"$proofs/Concluded.antt" <<EOF
+use Rattle.$crate.proofs.${theorem%.*}.{${theorem#*.}}
+use Rattle.$crate.specs.${statement%.*}.{${statement#*.}}
+
+pub concluded : ${statement#*.}
+concluded = ${theorem#*.}
+EOF
+}
+
+# check FOLDER: check the crate there, and those below it. The log ends in rt's exit status.
+check() {
+    (cd "$1/crates/$crate" && rt check; echo "exit status $?") >"$1/log" 2>&1
+}
+
 # judge LOG: what the check came to, with the first declaration that is refused. For the theorem to
-# have refused the edit, each error must be of a declaration in a proof, none may come of a name or
-# a clause that does not fit any more, and the theorem must be among what is not proved.
+# have refused the edit, each error must be of a declaration in a proof, or of those that rest on one,
+# none may come of a name or a clause that does not fit any more, and the theorem must be among what
+# is not proved.
 judge() {
-    local in_proof="^crates/$crate/proofs/[^:]*:[0-9]+:[0-9]+: error: \`[^\`]+\`: "
-    local unfit=' in scope|clause|pattern' errors
-    errors=$(grep -oE 'crates/[^ ]*: error: .*' "$1")
-    if grep -q '^rt: ok, ' "$1"; then
+    local in_proof='^\./proofs/[^:]*:[0-9]+:[0-9]+: error: (`[^`]+`: |[0-9]+ declarations? that depends? on `)'
+    local unfit=' in scope|clause|pattern|has no `[^`]*` that can be named' errors ends
+    errors=$(grep -E '^\./[^ ]*: error: ' "$1")
+    ends=$(tail -n 2 "$1")
+    if [[ $ends = logic=proved\ *$'\nexit status 0' ]]; then
         echo 'NOT REFUSED: all is proved'
-    elif grep -q "^rt: $crate NOT PROVED: its dependency" "$1"; then
+    elif grep -q '^rt: the library [a-z_]* did not build, so nothing above it was checked$' "$1"; then
         echo 'BAD EDIT: the definitions are not proved'
-    elif ! grep -q "^rt: $crate NOT PROVED (exit 1," "$1" ||
+    elif [ "$ends" != $'logic=not-proved\nexit status 1' ] ||
         grep -qvE "$in_proof" <<<"$errors" || grep -qE "$unfit" <<<"$errors"; then
         echo 'BAD EDIT: it is not a proof that fails'
-    elif ! grep -q "/${theorem%.*}.antt:.*: error: \`${theorem#*.}\`: " <<<"$errors"; then
+    elif ! grep -q '^\./proofs/Concluded.antt:' <<<"$errors"; then
         echo 'NOT REFUSED: the theorem is not among what is refused'
     else
-        sed -nE "1s/^([^:]*):[^\`]*\`([^\`]+)\`.*/refused: \`\2\` of \1/p" <<<"$errors"
+        sed -nE "1s/^\.\/([^:]*):[^\`]*\`([^\`]+)\`.*/refused: \`\2\` of \1/p" <<<"$errors"
     fi
+}
+
+# unchanged: without an edit the crate is proved. The checks of edits begin with what this one keeps.
+unchanged() {
+    check "$unedited"
+    [[ $(judge "$unedited/log") = 'NOT REFUSED: all is proved' ]] || { cat -- "$unedited/log"; return 1; }
 }
 
 # verdict EDIT FOLDER: what the theorem says to the edit.
 verdict() {
-    cp -r -- "$unedited/." "$2" && change "$2/$files" "$1" || return
-    (cd "$2" && rt check "$crate") >"$2/log" 2>&1
+    copy "$unedited" "$2" crates crates.txt && change "$2/$files" "$1" || return
+    check "$2"
     judge "$2/log"
+    rm -rf -- "$2/crates"
 }
 
-# try FOLDER: each edit of it, against the `theorem` of `crate`. An edit names its file from `files`
-# on. As many at a time as there are processors, since each takes seconds.
+# try FOLDER: each edit of it, against the `theorem` of `crate`, a proof of `statement`. An edit names
+# its file from `files` on. As many at a time as there are processors, since each takes seconds.
 try() {
     local edit edits=("$1"/*.edit "$1"/not-refused/*.edit "$1"/bad/*.edit) at wanted found
+    concluded && unchanged || exit
     for edit in "${edits[@]}"; do
         [ "$(jobs -rp | wc -l)" -lt "${RT_JOBS:-$(nproc)}" ] || wait -n
         at=$scratch/$edit
@@ -116,13 +149,13 @@ examples=(correspondence/{NoLines,EverySchedule,CaseA,CaseBytes,Examples,StopExa
 fresh model laws correspondence && without "${examples[@]}" laws/{Sizes,RowNumbers,ForwardWalk,HandedOn} &&
     joined laws correspondence || exit
 printf '%s\n' model: 'correspondence: model' >"$unedited/crates.txt"
-files=crates/model crate=correspondence theorem=Demand3.demand-3
+files=crates/model crate=correspondence theorem=Demand3.demand_3 statement=Demand3.ForEveryAcceptedCase
 try tests/wrong-definitions
 
 # ---- The walk that finds copies.
 fresh model laws || exit
 printf '%s\n' model: 'laws: model' >"$unedited/crates.txt"
-files=crates/model crate=laws theorem=HandedOn.every-line
+files=crates/model crate=laws theorem=HandedOn.every_line_lem statement=HandedOn.ForEveryLine
 try tests/wrong-walks
 
 # ---- The text of a case. No edit touches the model or demand 3, so these are proved once.
@@ -130,8 +163,6 @@ fresh model laws correspondence smt script reading script_truth &&
     without "${examples[@]}" {reading,script_truth}/Examples && joined reading script_truth || exit
 printf '%s\n' model: 'smt: model' 'script: smt model' 'laws: model' 'correspondence: laws model' \
     'script_truth: correspondence script smt laws model' >"$unedited/crates.txt"
-(cd "$unedited" && rt check correspondence script) >"$unedited/log" 2>&1 ||
-    { cat -- "$unedited/log"; exit 1; }
-files=crates crate=script_truth theorem=Filed.every-text
+files=crates crate=script_truth theorem=Filed.every_text statement=Filed.ForEveryText
 try tests/wrong-texts
 finish
