@@ -85,7 +85,7 @@ check() {
 # none may come of a name or a clause that does not fit any more, and the theorem must be among what
 # is not proved.
 judge() {
-    local in_proof='^\./proofs/[^:]*:[0-9]+:[0-9]+: error: (`[^`]+`: |[0-9]+ declarations? that depends? on `)'
+    local in_proof='^\./proofs/[^:]*:[0-9]+:[0-9]+: error: (`[^`]+`( is not admitted)?: |[0-9]+ declarations? that depends? on `)'
     local unfit=' in scope|clause|pattern|has no `[^`]*` that can be named' errors ends
     errors=$(grep -E '^\./[^ ]*: error: ' "$1")
     ends=$(tail -n 2 "$1")
@@ -99,7 +99,7 @@ judge() {
     elif ! grep -q '^\./proofs/Concluded.antt:' <<<"$errors"; then
         echo 'NOT REFUSED: the theorem is not among what is refused'
     else
-        sed -nE "1s/^\.\/([^:]*):[^\`]*\`([^\`]+)\`.*/refused: \`\2\` of \1/p" <<<"$errors"
+        sed -nE "/error: \`[^\`]+\`: / { s/^\.\/([^:]*):[^\`]*\`([^\`]+)\`.*/refused: \`\2\` of \1/p; q }" <<<"$errors"
     fi
 }
 
