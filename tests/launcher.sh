@@ -396,7 +396,7 @@ needs() {
 real() {
     [ -z "$by_hand" ] || export MENDUVO_LIB_DIR=$by_hand
     says 'the command is built' 0 'menduvo 0.' bin/menduvo --version
-    mkdir -p "$scratch/real/target" && cp -r bin crates crates.txt tool bindings cases "$scratch/real/"
+    mkdir -p "$scratch/real/target" && tar -c --exclude=out bin crates crates.txt tool bindings cases | tar -x -C "$scratch/real"
     find target -maxdepth 1 \( -name 'menduvo*' -o -name staticlib \) -exec cp -r {} "$scratch/real/target/" \;
     # The copy is no repository.
     local version=${out##*$'\n'}
