@@ -1,5 +1,4 @@
 -- `listing_of` never meets refusal 10: every listing fits its text. Assumes nothing.
-use borrow.Author.Rules.{rules}
 use Rattle.listing_text.proofs.Bridge.{no_refusal, whole_text}
 use Rattle.print_listing.proofs.listing_of.Goals as goal
 
