@@ -4,7 +4,7 @@ use Rattle.laws.proofs.ForwardWalk.{for_any_lines_lem}
 use Rattle.laws.proofs.HandedOn.{every_line_lem}
 use Rattle.laws.proofs.Sizes.{sizes, largest_sizes, never_too_short}
 use Rattle.correspondence.proofs.Demand3.{demand_3}
-use Rattle.listing_text_spec.proofs.Bridge.{never_refused}
+use Rattle.listing_text.proofs.Bridge.{never_refused}
 use Rattle.script_truth.proofs.Filed.{every_text}
 use Rattle.text_size.proofs.Text.{text_at_most}
 use Rattle.accept.proofs.accept.Met as accept_met
@@ -13,7 +13,7 @@ use Rattle.checker.proofs.check.Met as check_met
 use Rattle.decoder.proofs.decode.Met as decode_met
 use Rattle.replayer.proofs.replay.Met as replay_met
 use Rattle.filler.proofs.fill.Met as fill_met
-use Rattle.listing_text_spec.proofs.listing_text_spec.Met as listing_text_met
+use Rattle.listing_text.proofs.listing_text.Met as listing_text_met
 use Rattle.smt_text.proofs.smt_length.Met as smt_length_met
 use Rattle.smt_text.proofs.smt_text.Met as smt_text_met
 use Rattle.builder.proofs.take_line.Met as take_line_met

@@ -21,7 +21,7 @@ use Rattle.checker.proofs.check.Statement as check_statement
 use Rattle.decoder.proofs.decode.Statement as decode_statement
 use Rattle.replayer.proofs.replay.Statement as replay_statement
 use Rattle.filler.proofs.fill.Statement as fill_statement
-use Rattle.listing_text_spec.proofs.listing_text_spec.Statement as listing_text_statement
+use Rattle.listing_text.proofs.listing_text.Statement as listing_text_statement
 use Rattle.smt_text.proofs.smt_length.Statement as smt_length_statement
 use Rattle.smt_text.proofs.smt_text.Statement as smt_text_statement
 use Rattle.builder.proofs.take_line.Statement as take_line_statement
