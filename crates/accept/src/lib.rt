@@ -1,5 +1,6 @@
 // Which cases are accepted: checks 1 to 9 in order.
 #![tactic(auto)]
+
 ghost use Rattle.std.specs.Prelude.{◌≡◌};
 ghost use Rattle.model.specs.Accept.{verdict};
 ghost use Rattle.accept.specs.HeaderPassed.{HeaderPassed};

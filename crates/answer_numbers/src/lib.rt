@@ -1,5 +1,6 @@
 // The answers of the calls in the document's numbers, as C and Rust get them.
 #![tactic(auto)]
+
 ghost use Rattle.std.specs.Prelude.{◌≡◌, ◌≤◌};
 ghost use Rattle.model.specs.Limits.{most_listing_bytes};
 ghost use Rattle.model.specs.Answers.{refused_numbers, answer_numbers, verdict_numbers, encoded_numbers, checked_numbers, decoded_numbers, replayed_numbers, filled_numbers};

@@ -1,6 +1,7 @@
 // What is read of an assignment: the block number and the value of a record, whether it was run, and the items' values where a block
 // starts.
 #![tactic(auto)]
+
 ghost use Rattle.std.specs.Prelude.{◌≡◌, ◌-◌, ◌*◌};
 ghost use Rattle.model.specs.Word.{word_size};
 ghost use Rattle.model.specs.Limits.{most_items};

@@ -1,6 +1,7 @@
 // Lines handed on one by one: for a builder that makes a thread's lines front to back, the copies of each line's names, and what is held
 // after it.
 #![tactic(auto)]
+
 ghost use Rattle.std.specs.Prelude.{◌≡◌};
 ghost use Rattle.model.specs.Accept.{counts_ok};
 ghost use Rattle.model.specs.Taking.{number_ok, taken, taken_into};

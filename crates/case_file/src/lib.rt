@@ -1,5 +1,6 @@
 // Reading a case: its header, its records, and how many variables it has.
 #![tactic(auto)]
+
 ghost use Rattle.std.specs.Prelude.{◌≡◌, ◌+◌, ◌-◌, ◌*◌, ◌<◌, ◌≤◌, leb, length};
 ghost use Rattle.model.specs.Limits.{most_threads, most_switches, most_globals, most_items, most_variables, header_bytes};
 ghost use Rattle.model.specs.CaseFile.{field, records, thread_count, switch_count, global_count, mutex_count, first_record, initial_value, next_record, record_field, case_of, item_count};

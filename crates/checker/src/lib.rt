@@ -1,6 +1,7 @@
 // The checker: whether an assignment meets the constraints of a case. It goes along the lines and asks of each constraint, in
 // the table's order, whether it holds; no table is written.
 #![tactic(auto)]
+
 ghost use Rattle.std.specs.Prelude.{◌≡◌};
 ghost use Rattle.model.specs.Answers.{failed_in, checked};
 ghost use Rattle.laws.specs.Accepted.{Accepted};

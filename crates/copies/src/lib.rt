@@ -1,6 +1,7 @@
 // The forward walk that finds copies. It takes the lines of a thread front to back, each once, and holds for each name the latest line
 // up to there that has it as target.
 #![tactic(auto)]
+
 ghost use Rattle.std.specs.Prelude.{◌≡◌, ◌≤◌};
 ghost use Rattle.model.specs.Limits.{most_globals};
 ghost use Rattle.model.specs.Copies.{held_copy, take_copy, take_line};

@@ -17,7 +17,7 @@ use Rattle.model.specs.Word.{bit}
 use Rattle.model.specs.CaseFile.{Line, Case, lines_of, item_count}
 use Rattle.model.specs.Line.{item_name, target_name}
 use Rattle.model.specs.Assignment.{Assignment}
-use Rattle.model.specs.Copies.{latest, reads_after, walk_back}
+use Rattle.model.specs.Copies.{latest, walk_back}
 use Rattle.model.specs.Table.{row, item_rows, block_rows, all_order_rows, all_value_rows, run_rows, goal_row, table, without_eights}
 use Rattle.model.specs.Holds.{from_record, breaks_after, some_breaks, some_thread_breaks, holds7, holds}
 use Rattle.correspondence.specs.Meaning.{WellFormed, BlockMet, Meets, AllStay, every_line, breaks_in, break_count}

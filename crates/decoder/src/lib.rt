@@ -1,5 +1,6 @@
 // The decoder: the schedule of an assignment that meets the constraints.
 #![tactic(auto)]
+
 ghost use Rattle.std.specs.Prelude.{◌≡◌, length};
 ghost use Rattle.model.specs.Accept.{verdict};
 ghost use Rattle.model.specs.Answers.{decoded, decoded_into};

@@ -1,3 +1,2 @@
 // The one statement about all the calls, specs/Delivered.antt, and its proof; there is no code here.
-
 #![tactic(auto)]

@@ -1,6 +1,7 @@
 // The encoder: the table of a case's constraints. The latest copy of each name is known for every thread, by one forward walk over
 // each thread's lines.
 #![tactic(auto)]
+
 ghost use Rattle.std.specs.Prelude.{◌≡◌, ◌+◌, length};
 ghost use Rattle.model.specs.CaseFile.{thread_count, case_of};
 ghost use Rattle.model.specs.Lists.{written_over};

@@ -1,5 +1,6 @@
 // Operands, guards, expressions and the facts that stand beside comparisons, as text.
 #![tactic(auto)]
+
 ghost use Rattle.std.specs.Prelude.{◌≡◌, ◌≤◌};
 ghost use Rattle.model.specs.CaseFile.{Line, Case};
 ghost use Rattle.smt.specs.Term.{constant, choice, test};

@@ -1,5 +1,6 @@
 // The filler: the assignment of a schedule whose run violates.
 #![tactic(auto)]
+
 ghost use Rattle.std.specs.Prelude.{◌≡◌, ℕ, length};
 ghost use Rattle.model.specs.CaseFile.{case_of};
 ghost use Rattle.model.specs.Accept.{verdict};

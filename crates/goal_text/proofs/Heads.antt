@@ -2,9 +2,9 @@
 -- and `put_heads`.
 use mathlib.Core.Path.{◌≡◌, refl, sym, ap, ◌∙◌}
 use mathlib.Core.Logic.{◌≢◌}
-use Prim.Native.Nat.{ℕ, suc, ◌+◌, ◌-◌, ◌*◌, ◌≤◌, ◌<◌}
+use Prim.Native.Nat.{ℕ, ◌+◌, ◌-◌, ◌*◌, ◌≤◌, ◌<◌}
 use mathlib.Core.Bool.{Bool, true, false, not}
-use mathlib.Core.List.{List, [], ◌∷◌, ◌++◌, append_assoc}
+use mathlib.Core.List.{List, [], ◌++◌, append_assoc}
 use native.Mathlib.Omega.{arith}
 use native.Mathlib.Numerals.{add-one}
 use borrow.Author.Tests.{ne_eqb, not-true, not-false}
@@ -18,8 +18,6 @@ use Rattle.line.proofs.KindNumbers.{KindView, is5, kind_view, kind_5}
 use Rattle.smt.specs.Term.{constant}
 use Rattle.smt.specs.Spelling.{ascii, formula_text}
 use Rattle.script.specs.Assertions.{equal, is_zero, value_of, sources_of, not_run, mutex_reads, unlocks_as_stranger}
-use Rattle.case_file.specs.Records.{as_line}
-use Rattle.case_file.specs.declared.Record.{Record}
 use Rattle.spell.specs.Spelt.{top, Spelt}
 use Rattle.spell.specs.Atoms.{atom_term}
 use Rattle.spell.specs.declared.Atom.TheVariants.{Variable, Constant}

@@ -1,6 +1,7 @@
 // The goal as text: some line violates. It has a part for each assert and each unlock, by thread and chain, which is the order of the
 // 4s in the table; the copies that a part needs are those of its line's 4.
 #![tactic(auto)]
+
 ghost use Rattle.std.specs.Prelude.{◌≡◌, ◌≤◌, ◌<◌};
 ghost use Rattle.model.specs.Limits.{most_threads, most_globals};
 ghost use Rattle.model.specs.CaseFile.{Case, case_of, kind_of};

@@ -1,3 +1,2 @@
 // Laws of `model`'s definitions; there is no code here.
-
 #![tactic(auto)]

@@ -1,5 +1,6 @@
 // What one line names, reads and does. A record knows its thread; its number makes no difference here, and the contracts are for all.
 #![tactic(auto)]
+
 ghost use Rattle.std.specs.Prelude.{◌≡◌, ℕ, ◌<◌, ◌≤◌, true, List, take, if◌then◌else◌, nat_eq};
 ghost use Rattle.model.specs.Word.{bit};
 ghost use Rattle.model.specs.Limits.{most_threads, most_globals, most_items};

@@ -1,15 +1,15 @@
 -- The assertions of a line, by its kind and its guard, as text. Assumes nothing. Met again in the proofs of this crate's functions.
-use mathlib.Core.Path.{◌≡◌, refl, sym, ap, ◌∙◌}
+use mathlib.Core.Path.{◌≡◌, refl, ap}
 use mathlib.Core.Logic.{◌≢◌}
 use Prim.Native.Nat.{ℕ, ◌+◌, ◌-◌, ◌*◌}
-use mathlib.Core.List.{List, ◌++◌}
+use mathlib.Core.List.{List}
 use borrow.Author.Tests.{eq-eqb, ne_eqb}
 use Rattle.model.specs.CaseFile.{Kind, compute, store, load, input, assert, assume, lock, unlock, Line, Case, kind_of, line_at}
 use Rattle.model.specs.Line.{operand_a, target_name, holder, unrun_value}
 use Rattle.smt.specs.Term.{Term, variable, constant}
 use Rattle.smt.specs.Spelling.{ascii, formula_text}
-use Rattle.script.specs.Assertions.{equal, operand, is_expression, is_truth, read_name, guard_true, guarded_in, guarded_out, old_target, value_of, not_run, line_assertion, value_assertion, mutex_reads, demand_assertion}
-use Rattle.line.proofs.KindNumbers.{KindView, is1, is2, is3, is4, is5, is6, is7, kind_view, Not2}
+use Rattle.script.specs.Assertions.{equal, operand, is_expression, is_truth, read_name, guard_true, guarded_in, guarded_out, old_target, not_run, line_assertion, value_assertion, mutex_reads, demand_assertion}
+use Rattle.line.proofs.KindNumbers.{KindView, is5, is6, is7, kind_view, Not2}
 use Rattle.spell.specs.Spelt.{Spelt}
 use Rattle.spell.proofs.Spelling.{spelt_then}
 use Rattle.spell.proofs.Numbers.{spelt_as}

@@ -1,5 +1,6 @@
 // The assertions of a line as text: its value, what it reads of its mutex, and what an assume or a lock demands.
 #![tactic(auto)]
+
 ghost use Rattle.std.specs.Prelude.{◌≡◌, ◌≤◌, ◌<◌};
 ghost use Rattle.model.specs.Limits.{most_threads, most_globals};
 ghost use Rattle.model.specs.CaseFile.{Case, kind_of, line_at};

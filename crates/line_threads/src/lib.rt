@@ -1,5 +1,6 @@
 // The rows of a case's table, and its lines: each is its record with the thread that the table has for it.
 #![tactic(auto)]
+
 ghost use Rattle.std.specs.Prelude.{◌≡◌, ℕ, List};
 ghost use Rattle.model.specs.CaseFile.{case_of, line_at};
 ghost use Rattle.laws.specs.Accepted.{Accepted};

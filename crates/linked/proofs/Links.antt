@@ -1,7 +1,7 @@
 -- The links of two variables: one after the other, and as the formula that they begin. Assumes nothing. Met again in `put_link`,
 -- `put_links`, `put_linked` and `put_same`.
 use mathlib.Core.Path.{◌≡◌, refl, sym, ap, ◌∙◌}
-use Prim.Native.Nat.{ℕ, suc, ◌+◌, ◌-◌, ◌*◌, ◌<◌, ◌≤◌}
+use Prim.Native.Nat.{ℕ, ◌+◌, ◌-◌, ◌*◌, ◌<◌, ◌≤◌}
 use mathlib.Core.List.{List, [], ◌∷◌, ◌++◌, append_assoc, append-nil}
 use lib.ListN.{length, get_or, take}
 use Rattle.smt.specs.Term.{variable, constant}

@@ -1,12 +1,12 @@
 -- The variables of a case by number, the value of an item where a block begins, and a line that was not run. Assumes nothing. Met again
 -- in `block_value`, `value_before` and `put_not_run`, and where 3s, 8s and 5s are put.
 use mathlib.Core.Path.{◌≡◌, refl, sym, ap, ◌∙◌}
-use Prim.Native.Nat.{ℕ, zero, suc, ◌+◌, ◌-◌, ◌*◌, ◌<◌, ◌≤◌}
+use Prim.Native.Nat.{ℕ, zero, suc, ◌-◌, ◌*◌, ◌<◌, ◌≤◌}
 use native.Mathlib.Omega.{arith}
 use native.Mathlib.Nat.{mul-le-mul}
 use mathlib.Core.Logic.{◌≢◌}
 use mathlib.Core.List.{List}
-use lib.ListN.{get_or, length, get_or-eq_default}
+use lib.ListN.{get_or, get_or-eq_default}
 use Rattle.model.specs.Limits.{most_items}
 use Rattle.model.specs.CaseFile.{Case}
 use Rattle.smt.specs.Term.{disjunction, variable, constant, Formula, join}

@@ -1,5 +1,6 @@
 // Checks 6 to 8: first and next numbers, how often each record is reached, how long the chains are.
 #![tactic(auto)]
+
 ghost use Rattle.std.specs.Prelude.{◌≡◌};
 ghost use Rattle.model.specs.CaseFile.{records};
 ghost use Rattle.laws.specs.Sized.{Sized};

@@ -1,6 +1,7 @@
 // The listing of a case, as text in a lent slice. Where it might not fit, one writer serves twice: into no bytes at all, which
 // measures the text, and then into the slice, so that a slice that is too short stays as it is.
 #![tactic(auto)]
+
 ghost use Rattle.std.specs.Prelude.{◌≡◌, ◌+◌, ◌*◌, ◌<◌, ◌≤◌, [], ◌∷◌, leb, length};
 ghost use Rattle.model.specs.Limits.{most_listing_bytes};
 ghost use Rattle.model.specs.Listing.{digit, decimal, numbers_line, listed, listed_into};

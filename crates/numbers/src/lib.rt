@@ -1,5 +1,6 @@
 // The numbers of a lent slice.
 #![tactic(auto)]
+
 ghost use Rattle.std.specs.Prelude.{◌≡◌, ◌≤◌, length, get_or};
 ghost use Rattle.model.specs.Lists.{written_over};
 

@@ -1,6 +1,7 @@
 // Constraints 1 to 3 and 8: along a thread the block numbers do not fall, are at most n + 1, and are the thread's modulo T, but for
 // n + 1, the number of a line that was not run; and an invisible line that was run has the block number of the line before it.
 #![tactic(auto)]
+
 ghost use Rattle.std.specs.Prelude.{◌≡◌};
 ghost use Rattle.laws.specs.Accepted.{Accepted};
 ghost use Rattle.search.specs.Search.{failing_in, Searched};

@@ -1,5 +1,6 @@
 // What a line reads, as text: a term is what the line finds in a local, or in an item by the block that it is in.
 #![tactic(auto)]
+
 ghost use Rattle.std.specs.Prelude.{◌≡◌, ℕ};
 ghost use Rattle.model.specs.CaseFile.{Case};
 ghost use Rattle.smt.specs.Spelling.{formula_text};

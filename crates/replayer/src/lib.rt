@@ -1,5 +1,6 @@
 // The replayer: what a schedule of a case comes to.
 #![tactic(auto)]
+
 ghost use Rattle.std.specs.Prelude.{◌≡◌, length, take};
 ghost use Rattle.model.specs.Lists.{written_over};
 ghost use Rattle.model.specs.Accept.{verdict};

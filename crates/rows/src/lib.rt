@@ -1,6 +1,7 @@
 // The rows of the table: each is made by one function, and put into the slice by one. A line's rows are made from where it stands
 // in its chain and from its copies.
 #![tactic(auto)]
+
 ghost use Rattle.std.specs.Prelude.{◌≡◌, ◌+◌, ◌*◌, ◌≤◌, [], ◌∷◌, eqb, length};
 ghost use Rattle.model.specs.CaseFile.{kind_of};
 ghost use Rattle.model.specs.Table.{row, goal_row, numbers_of};

@@ -1,5 +1,6 @@
 // Check 9: the rules of a record's fields.
 #![tactic(auto)]
+
 ghost use Rattle.std.specs.Prelude.{◌≡◌, not, ◌||◌, ℕ, eqb};
 ghost use Rattle.model.specs.CaseFile.{kind_of};
 ghost use Rattle.model.specs.Accept.{expression_ok, only_operand_a, no_expression, fields_ok, rule_ok, broken_record};

@@ -1,5 +1,6 @@
 // The run of an accepted case: its threads stand in a lent slice, and each block moves one of them.
 #![tactic(auto)]
+
 ghost use Rattle.std.specs.Prelude.{◌≡◌, ℕ, ◌%◌, ◌≤◌, ◌<◌, List, set, length, take};
 ghost use Rattle.std.proofs.lemmas.List.Edits.{sets};
 ghost use Rattle.model.specs.Limits.{most_threads, most_blocks, header_bytes};

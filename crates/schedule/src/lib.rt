@@ -1,5 +1,6 @@
 // The schedule of an assignment: how many numbers it has, and its numbers, written into a lent slice.
 #![tactic(auto)]
+
 ghost use Rattle.std.specs.Prelude.{◌≡◌, ℕ, ◌+◌, ◌%◌, ◌≤◌, ◌<◌, length};
 ghost use Rattle.model.specs.Word.{bit};
 ghost use Rattle.model.specs.Limits.{most_schedule_numbers};

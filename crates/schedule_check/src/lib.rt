@@ -1,5 +1,6 @@
 // Refusals 12 and 13 of a schedule, and the values that it gives to input lines.
 #![tactic(auto)]
+
 ghost use Rattle.std.specs.Prelude.{◌≡◌, ℕ, ◌<◌, length, get_or};
 ghost use Rattle.model.specs.Limits.{most_threads};
 ghost use Rattle.model.specs.CaseFile.{case_of};

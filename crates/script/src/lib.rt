@@ -1,7 +1,7 @@
 // The script of a case: its constraints as SMT-LIB text, and what the calls that write it answer (specs/).
+#![tactic(auto)]
 
 // The text was written, or measured, and has so many bytes; or the case is refused, or the slice is too short.
-#![tactic(auto)]
 #[derive(Clone, Copy)]
 pub enum Spelled {
     Text { bytes: usize },

@@ -1,5 +1,6 @@
 // Parts of a case's text: its sources and its shape, the declarations, and the assertions of the order rows.
 #![tactic(auto)]
+
 ghost use Rattle.std.specs.Prelude.{ℕ, suc, List};
 ghost use Rattle.model.specs.CaseFile.{Case, case_of, kind_of};
 ghost use Rattle.laws.specs.Accepted.{Accepted};

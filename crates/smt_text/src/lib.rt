@@ -1,6 +1,7 @@
 // The text of a case in a lent slice, and how long it is. One writer serves twice: into no bytes at all, which measures the text, and
 // then into the slice, so that a slice that is too short stays as it is.
 #![tactic(auto)]
+
 ghost use Rattle.std.specs.Prelude.{◌≡◌, leb, length};
 ghost use Rattle.smt.specs.Spelling.{formula_text, assertion, assertion_lines};
 ghost use Rattle.script.specs.Text.{smt_text, measured, spelled, spelled_into};

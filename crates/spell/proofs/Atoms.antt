@@ -1,5 +1,5 @@
 -- Atoms and equations. Assumes nothing. Met again in `put_atom`, `put_two` and `put_equal`.
-use mathlib.Core.Path.{◌≡◌, sym, ap}
+use mathlib.Core.Path.{◌≡◌}
 use Prim.Native.Nat.{ℕ}
 use mathlib.Core.List.{List}
 use Rattle.smt.specs.Term.{variable, constant}
@@ -10,7 +10,6 @@ use Rattle.spell.specs.Atoms.{atom_term, two_atoms}
 use Rattle.spell.specs.declared.Atom.{Atom}
 use Rattle.spell.specs.declared.Atom.TheVariants.{Variable, Constant}
 use Rattle.spell.proofs.Spelling.{spelt_then}
-use Rattle.spell.proofs.Numbers.{spelt_as}
 
 module _ {d a : List ℕ} {at r : ℕ} {x : Atom} where
   pub atom_variable : {k : ℕ} → x ≡ Variable k → Spelt (term_text (variable k)) d at a r → Spelt (term_text (atom_term x)) d at a r

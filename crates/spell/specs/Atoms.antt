@@ -1,6 +1,6 @@
 -- Atoms as terms, and bytes that no formula has by itself: what some functions write of one.
 -- Assumes nothing.
-use Rattle.std.specs.Prelude.{ℕ, zero, suc, ◌/◌, ◌%◌, cond, List, [], ◌∷◌, ◌++◌, ltb, replicate}
+use Rattle.std.specs.Prelude.{ℕ, ◌/◌, ◌%◌, cond, List, [], ◌∷◌, ◌++◌, ltb, replicate}
 use Rattle.model.specs.Listing.{digit}
 use Rattle.smt.specs.Term.{Term, variable, constant}
 use Rattle.smt.specs.Spelling.{ascii, term_text}

@@ -2,6 +2,7 @@
 // place where its bytes begin and hands back the place after them. A function writes nothing where its bytes do not fit, and the places
 // go on all the same, so that one writer serves twice: into no bytes at all, which measures the text, and then into the slice.
 #![tactic(auto)]
+
 ghost use Rattle.std.specs.Prelude.{◌≡◌, ◌+◌, ◌-◌, ◌*◌, ◌<◌, ◌≤◌, leb, length};
 ghost use Rattle.model.specs.Listing.{digit};
 ghost use Rattle.smt.specs.Term.{variable, constant};

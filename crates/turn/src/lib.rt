@@ -1,6 +1,7 @@
 // A thread's turn in a run of an accepted case: what the thread holds, with what the threads share, as one value. Its steps and
 // its blocks are methods that hand the next turn back.
 #![tactic(auto)]
+
 ghost use Rattle.std.specs.Prelude.{◌≡◌, true, false, ℕ, List};
 ghost use Rattle.model.specs.Limits.{most_records};
 ghost use Rattle.model.specs.CaseFile.{kind_of};

@@ -1,6 +1,7 @@
 // Constraints 4 and 5: the value of each line, and what an assume or a lock demands. What a line reads, and which copies there are,
 // is kept along the lines of each thread.
 #![tactic(auto)]
+
 ghost use Rattle.std.specs.Prelude.{◌≡◌, true, false, ◌<◌};
 ghost use Rattle.model.specs.Limits.{most_constraints, record_places};
 ghost use Rattle.line.specs.CaseCounts.{Few, OfCase};

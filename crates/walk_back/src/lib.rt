@@ -1,5 +1,6 @@
 // Constraint 6: the value of each item at the end of each block, walking back over the copies of the block's thread.
 #![tactic(auto)]
+
 ghost use Rattle.std.specs.Prelude.{◌≡◌};
 ghost use Rattle.model.specs.Limits.{most_lines};
 ghost use Rattle.search.specs.Search.{Searched};

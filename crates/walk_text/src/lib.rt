@@ -1,5 +1,6 @@
 // The assertion of a 6 as text: walking back over the copies of an item.
 #![tactic(auto)]
+
 ghost use Rattle.std.specs.Prelude.{◌≡◌, ℕ, List, replicate};
 ghost use Rattle.model.specs.Limits.{most_lines, record_places};
 ghost use Rattle.model.specs.CaseFile.{Case, case_of};

@@ -2,7 +2,6 @@ use Rattle.std.proofs.Common.{ap, not}
 use Rattle.laws.proofs.Accepted.{sized_of}
 use Rattle.case_file.proofs.LoopTests.{failed, passed}
 use Rattle.accept.proofs.Verdicts.{refused_1, refused_2, refused_3, refused_4, refused_5}
-use borrow.Author.Rules.{rules}
 use Rattle.accept.proofs.accept.Goals as goal
 
 pub returns-then-not-size_ok : goal.returns-then-not-size_ok

@@ -1,6 +1,5 @@
 -- `answer_numbers::checked_numbers` meets its contract.
 -- Assumes nothing.
-use borrow.Author.Rules.{rules}
 use Rattle.answer_numbers.proofs.checked_numbers.Goals as goal
 
 pub returns-in-Meets : goal.returns-in-Meets

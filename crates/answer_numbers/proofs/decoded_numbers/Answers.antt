@@ -1,6 +1,5 @@
 -- `answer_numbers::decoded_numbers` meets its contract.
 -- Assumes nothing.
-use borrow.Author.Rules.{rules}
 use Rattle.answer_numbers.proofs.decoded_numbers.Goals as goal
 
 pub returns-in-Schedule : goal.returns-in-Schedule

@@ -1,6 +1,5 @@
 -- `answer_numbers::encoded_numbers` meets its contract.
 -- Assumes nothing.
-use borrow.Author.Rules.{rules}
 use Rattle.answer_numbers.proofs.encoded_numbers.Goals as goal
 
 pub returns-in-Table : goal.returns-in-Table

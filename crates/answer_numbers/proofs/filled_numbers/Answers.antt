@@ -1,6 +1,5 @@
 -- `answer_numbers::filled_numbers` meets its contract.
 -- Assumes nothing.
-use borrow.Author.Rules.{rules}
 use Rattle.answer_numbers.proofs.filled_numbers.Goals as goal
 
 pub returns-in-Assignment : goal.returns-in-Assignment

@@ -1,6 +1,5 @@
 -- `answer_numbers::replayed_numbers` meets its contract.
 -- Assumes nothing.
-use borrow.Author.Rules.{rules}
 use Rattle.answer_numbers.proofs.replayed_numbers.Goals as goal
 
 pub returns-in-Violated : goal.returns-in-Violated

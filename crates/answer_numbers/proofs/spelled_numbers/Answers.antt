@@ -1,5 +1,4 @@
 -- `answer_numbers::spelled_numbers` meets its contract. Assumes nothing.
-use borrow.Author.Rules.{rules}
 use Rattle.answer_numbers.proofs.spelled_numbers.Goals as goal
 
 pub returns-in-Text : goal.returns-in-Text

@@ -1,5 +1,4 @@
 -- `answer_numbers::taken_numbers` meets its contract. Assumes nothing.
-use borrow.Author.Rules.{rules}
 use Rattle.answer_numbers.proofs.taken_numbers.Goals as goal
 
 pub returns-in-Copies : goal.returns-in-Copies

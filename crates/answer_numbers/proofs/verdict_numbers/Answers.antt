@@ -1,6 +1,5 @@
 -- `answer_numbers::verdict_numbers` meets its contract.
 -- Assumes nothing.
-use borrow.Author.Rules.{rules}
 use Rattle.answer_numbers.proofs.verdict_numbers.Goals as goal
 
 pub returns-in-Accepted : goal.returns-in-Accepted

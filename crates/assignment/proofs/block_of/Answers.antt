@@ -1,5 +1,4 @@
 -- `assignment::block_of` meets its contract. Assumes nothing.
-use borrow.Author.Rules.{rules}
 use Rattle.assignment.proofs.block_of.Goals as goal
 
 pub returns : goal.returns

@@ -1,7 +1,5 @@
 -- `assignment::items_at` meets its contract. Assumes nothing.
-use Prim.Native.Nat.{◌-◌}
-use Rattle.assignment.specs.Numbers.{number_from}
-use Rattle.assignment.proofs.BlockValues.{filled_all, Filling, filling_start, filling_more, filling_end}
+use Rattle.assignment.proofs.BlockValues.{filled_all, filling_start, filling_more, filling_end}
 use borrow.Author.Rules.{rules}
 use Rattle.assignment.proofs.items_at.Goals as goal
 

@@ -1,8 +1,7 @@
 -- `assignment::items_at` meets its contract. Assumes nothing.
 use Prim.Native.Nat.{◌-◌}
 use Rattle.assignment.specs.Numbers.{number_from}
-use Rattle.assignment.proofs.BlockValues.{filled_all, Filling, filling_start, filling_more, filling_end}
-use borrow.Author.Rules.{rules}
+use Rattle.assignment.proofs.BlockValues.{Filling}
 use Rattle.assignment.proofs.items_at.Given as goal
 
 abbrev pub invariant-loop-g : goal.invariant-loop-g

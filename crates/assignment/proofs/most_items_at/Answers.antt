@@ -1,9 +1,6 @@
 -- `assignment::most_items_at` meets its contract. Assumes nothing.
-use Prim.Native.Nat.{◌-◌}
 use mathlib.Core.Path.{refl}
-use Rattle.model.specs.Limits.{most_items}
-use Rattle.assignment.specs.Numbers.{number_from}
-use Rattle.assignment.proofs.BlockValues.{Filling, filling_start, filling_more, filling_end}
+use Rattle.assignment.proofs.BlockValues.{filling_start, filling_more, filling_end}
 use borrow.Author.Rules.{rules}
 use Rattle.assignment.proofs.most_items_at.Goals as goal
 

@@ -1,5 +1,4 @@
 -- `assignment::value_of` meets its contract. Assumes nothing.
-use borrow.Author.Rules.{rules}
 use Rattle.assignment.proofs.value_of.Goals as goal
 
 pub returns : goal.returns

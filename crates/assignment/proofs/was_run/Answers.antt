@@ -1,5 +1,4 @@
 -- `assignment::was_run` meets its contract. Assumes nothing.
-use borrow.Author.Rules.{rules}
 use Rattle.assignment.proofs.Run.{run_of_block}
 use Rattle.assignment.proofs.was_run.Goals as goal
 

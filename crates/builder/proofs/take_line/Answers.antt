@@ -3,7 +3,6 @@ use Rattle.std.proofs.Common.{ap, not}
 use mathlib.Core.Path.{refl}
 use Rattle.case_file.proofs.LoopTests.{failed, passed}
 use Rattle.builder.proofs.Answer.{refuses_4, few_globals, refuses_6, refuses_9, gives_copies}
-use borrow.Author.Rules.{rules}
 use Rattle.builder.proofs.take_line.Goals as goal
 
 pub returns-then-not-counts_ok : goal.returns-then-not-counts_ok

@@ -1,9 +1,4 @@
-use borrow.Author.Rules.{rules}
-use mathlib.Core.Path.{◌≡◌, refl, sym, ◌∙◌}
-use Prim.Native.Nat.{◌+◌, ◌-◌}
-use lib.Dec.{leb}
-use Rattle.model.specs.CaseFile.{field}
-use Rattle.model.specs.Lists.{all_from}
+use mathlib.Core.Path.{refl, sym, ◌∙◌}
 use Rattle.case_file.proofs.LoopTests.{all_at_end, all_fails, all_goes_on, over_leb, under_leb}
 use Rattle.case_file.proofs.all_at_most.Goals as goal
 

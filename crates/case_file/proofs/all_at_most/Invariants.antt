@@ -1,10 +1,8 @@
-use borrow.Author.Rules.{rules}
-use mathlib.Core.Path.{◌≡◌, refl, sym, ◌∙◌}
+use mathlib.Core.Path.{◌≡◌}
 use Prim.Native.Nat.{◌+◌, ◌-◌}
 use lib.Dec.{leb}
 use Rattle.model.specs.CaseFile.{field}
 use Rattle.model.specs.Lists.{all_from}
-use Rattle.case_file.proofs.LoopTests.{all_at_end, all_fails, all_goes_on, over_leb, under_leb}
 use Rattle.case_file.proofs.all_at_most.Given as goal
 
 abbrev pub invariant-loop-j : goal.invariant-loop-j

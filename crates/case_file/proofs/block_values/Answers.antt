@@ -7,7 +7,6 @@ use native.Mathlib.Nat.{mul-le-mul}
 use Rattle.model.specs.Limits.{most_switches, most_items}
 use Rattle.model.specs.CaseFile.{switch_count}
 use Rattle.laws.specs.Accepted.{Accepted}
-use borrow.Author.Rules.{rules}
 use Rattle.case_file.proofs.block_values.Goals as goal
 
 few : (bytes : List ℕ) → Accepted bytes → (n items : ℕ) → n ≡ switch_count bytes → items ≤ most_items → n * items ≤ most_switches * most_items

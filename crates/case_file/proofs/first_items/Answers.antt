@@ -1,6 +1,5 @@
 -- `case_file::first_items` meets its contract. The invariant: the items so far are those of the first g globals. Assumes nothing.
-use Prim.Native.Nat.{◌-◌}
-use Rattle.case_file.proofs.FirstItems.{Started, items_none, items_more, items_all}
+use Rattle.case_file.proofs.FirstItems.{items_none, items_more, items_all}
 use borrow.Author.Rules.{rules}
 use Rattle.case_file.proofs.first_items.Goals as goal
 

@@ -1,4 +1,3 @@
-use borrow.Author.Rules.{rules}
 use Rattle.case_file.proofs.record_at.Goals as goal
 
 pub returns : goal.returns

@@ -1,6 +1,5 @@
 -- `checker::check` meets its contract. Assumes nothing.
 use mathlib.Core.Path.{sym, ◌∙◌}
-use borrow.Author.Rules.{rules}
 use Rattle.laws.proofs.Accepted.{accepted_of}
 use Rattle.checker.proofs.Answering.{accepted_answer, refused_answer}
 use Rattle.checker.proofs.check.Goals as goal

@@ -1,5 +1,4 @@
 -- `checker::check_accepted` meets its contract. Assumes nothing.
-use borrow.Author.Rules.{rules}
 use Rattle.checker.proofs.Answering.{wrong_size, none_fails, one_fails}
 use Rattle.checker.proofs.check_accepted.Goals as goal
 

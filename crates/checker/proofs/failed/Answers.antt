@@ -1,6 +1,5 @@
 -- `checker::failed` meets its contract. Assumes nothing.
 use Rattle.checker.proofs.Parts.{run_fails, goal_met, goal_missed}
-use borrow.Author.Rules.{rules}
 use Rattle.checker.proofs.failed.Goals as goal
 
 pub returns-then-run-ne0 : goal.returns-then-run-ne0

@@ -2,7 +2,6 @@
 use mathlib.Core.Path.{refl, sym}
 use Rattle.copies.proofs.CopyChains.{chains_start}
 use Rattle.checker.proofs.Parts.{order_fails, values_start, all_ordered_lem, values_fail, blocks_start, blocks_end}
-use borrow.Author.Rules.{rules}
 use Rattle.checker.proofs.run_failing.Goals as goal
 
 pub returns-then-order-ne0 : goal.returns-then-order-ne0

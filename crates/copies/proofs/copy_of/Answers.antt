@@ -1,7 +1,6 @@
 -- `copies::copy_of` meets its contract. Assumes nothing.
 use borrow.Author.Tests.{lt-ltb, le-ltb}
 use Rattle.model.specs.Copies.{held_copy}
-use borrow.Author.Rules.{rules}
 use Rattle.copies.proofs.copy_of.Goals as goal
 
 pub returns-then-name-lt-NAMES : goal.returns-then-name-lt-NAMES

@@ -1,7 +1,6 @@
 -- `copies::take_copy` meets its contract. Assumes nothing.
 use borrow.Author.Tests.{lt-ltb, le-ltb}
 use Rattle.model.specs.Copies.{take_copy}
-use borrow.Author.Rules.{rules}
 use Rattle.copies.proofs.take_copy.Goals as goal
 
 pub returns-then-name-lt-NAMES : goal.returns-then-name-lt-NAMES

@@ -1,5 +1,4 @@
 -- `copies::take_line` meets its contract. Assumes nothing.
-use borrow.Author.Rules.{rules}
 use Rattle.copies.proofs.Held.{line_taken}
 use Rattle.copies.proofs.take_line.Goals as goal
 

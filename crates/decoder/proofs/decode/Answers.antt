@@ -1,6 +1,5 @@
 -- `decoder::decode` meets its contract. Assumes nothing.
 use mathlib.Core.Path.{sym, ◌∙◌}
-use borrow.Author.Rules.{rules}
 use Rattle.decoder.proofs.Answering.{refused}
 use Rattle.decoder.proofs.decode.Goals as goal
 

@@ -1,6 +1,4 @@
 -- `decoder::decode_accepted` meets its contract. Assumes nothing.
-use mathlib.Core.Logic.{⊎_elim}
-use native.Mathlib.Omega.{arith}
 use borrow.Author.Rules.{rules}
 use Rattle.laws.proofs.Accepted.{accepted_of}
 use Rattle.decoder.proofs.Answering.{too_short, not_met, met}

@@ -1,5 +1,4 @@
 -- `decoder::refusal_of` meets its contract. Assumes nothing.
-use borrow.Author.Rules.{rules}
 use Rattle.decoder.specs.Decoding.{refusal_of}
 use Rattle.decoder.proofs.refusal_of.Goals as goal
 

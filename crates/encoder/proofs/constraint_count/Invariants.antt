@@ -1,9 +1,7 @@
 -- `constraint_count` counts the rows, a record at a time, and takes the first lines' 8s away. Assumes nothing.
-use borrow.Author.Rules.{rules}
 use Prim.Native.Nat.{◌+◌, ◌-◌}
-use native.Mathlib.Omega.{arith}
 use Rattle.model.specs.CaseFile.{records}
-use Rattle.encoder.proofs.Counts.{Counting, counting_start, few_rows, counting_more, records_count, table_count}
+use Rattle.encoder.proofs.Counts.{Counting}
 use Rattle.encoder.proofs.constraint_count.Given as goal
 
 abbrev pub invariant-loop-k : goal.invariant-loop-k

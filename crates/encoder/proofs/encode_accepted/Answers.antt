@@ -1,5 +1,4 @@
 -- `encode_accepted` counts first, so that refusal 10 comes before any number is written. Assumes nothing.
-use borrow.Author.Rules.{rules}
 use native.Mathlib.Omega.{arith}
 use Rattle.laws.proofs.Accepted.{accepted_of}
 use Rattle.laws.proofs.Sizes.{table_rows}

@@ -1,7 +1,6 @@
 -- `invisible_first` asks the first line's kind. Assumes nothing.
 use mathlib.Core.Path.{◌∙◌}
 use native.Mathlib.Omega.{arith}
-use borrow.Author.Rules.{rules}
 use Rattle.encoder.proofs.Counts.{no_first, first_kind}
 use Rattle.encoder.proofs.invisible_first.Goals as goal
 

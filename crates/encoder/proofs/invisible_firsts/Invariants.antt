@@ -1,8 +1,6 @@
 -- `invisible_firsts` counts them, a thread at a time. Assumes nothing.
 use Prim.Native.Nat.{◌-◌}
-use native.Mathlib.Omega.{arith}
-use borrow.Author.Rules.{rules}
-use Rattle.encoder.proofs.Counts.{CountingFirsts, firsts_start, firsts_more, firsts_end}
+use Rattle.encoder.proofs.Counts.{CountingFirsts}
 use Rattle.encoder.proofs.invisible_firsts.Given as goal
 
 abbrev pub invariant-loop-counted : goal.invariant-loop-counted

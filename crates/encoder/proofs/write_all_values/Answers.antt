@@ -1,9 +1,8 @@
 -- `write_all_values` writes the 4s and 5s, a thread at a time. Assumes nothing.
 use borrow.Author.Rules.{rules}
-use Prim.Native.Nat.{◌-◌}
 use native.Mathlib.Omega.{arith}
 use Rattle.encoder.proofs.Series.{going_start, going_fits}
-use Rattle.encoder.proofs.Parts.{values_all, Taking, thread_low, taking_more, taking_end}
+use Rattle.encoder.proofs.Parts.{values_all, thread_low, taking_more, taking_end}
 use Rattle.encoder.proofs.write_all_values.Goals as goal
 
 pub loop-thread-init : goal.loop-thread-init

@@ -1,9 +1,6 @@
 -- `write_all_values` writes the 4s and 5s, a thread at a time. Assumes nothing.
-use borrow.Author.Rules.{rules}
 use Prim.Native.Nat.{◌-◌}
-use native.Mathlib.Omega.{arith}
-use Rattle.encoder.proofs.Series.{going_start, going_fits}
-use Rattle.encoder.proofs.Parts.{values_all, Taking, thread_low, taking_more, taking_end}
+use Rattle.encoder.proofs.Parts.{Taking}
 use Rattle.encoder.proofs.write_all_values.Given as goal
 
 abbrev pub invariant-loop-thread : goal.invariant-loop-thread

@@ -1,9 +1,8 @@
 -- `write_blocks` writes the 6s, a block at a time. Assumes nothing.
-use borrow.Author.Rules.{rules}
 use Prim.Native.Nat.{◌-◌}
 use Rattle.encoder.specs.Parts.{all_item_numbers}
-use Rattle.encoder.proofs.Series.{Going, going_start, going_fits, going_more, going_end}
-use Rattle.encoder.proofs.Parts.{blocks_all, block_series}
+use Rattle.encoder.proofs.Series.{Going}
+use Rattle.encoder.proofs.Parts.{block_series}
 use Rattle.encoder.proofs.write_blocks.Given as goal
 
 abbrev pub invariant-loop-i : goal.invariant-loop-i

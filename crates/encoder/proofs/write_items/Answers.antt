@@ -1,11 +1,9 @@
 -- `write_items` writes the 6s of a block, an item at a time. Assumes nothing.
 use borrow.Author.Rules.{rules}
-use Prim.Native.Nat.{◌-◌}
 use native.Mathlib.Omega.{arith}
 use Rattle.model.specs.Table.{numbers_of}
-use Rattle.encoder.specs.Parts.{item_numbers}
-use Rattle.encoder.proofs.Series.{Going, going_start, going_fits, going_more, going_end}
-use Rattle.encoder.proofs.Parts.{items_all, item_series, block_thread, item_put}
+use Rattle.encoder.proofs.Series.{going_start, going_fits, going_more, going_end}
+use Rattle.encoder.proofs.Parts.{items_all, block_thread, item_put}
 use Rattle.encoder.proofs.write_items.Goals as goal
 
 pub loop-g-init : goal.loop-g-init

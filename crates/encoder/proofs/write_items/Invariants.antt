@@ -1,11 +1,8 @@
 -- `write_items` writes the 6s of a block, an item at a time. Assumes nothing.
-use borrow.Author.Rules.{rules}
 use Prim.Native.Nat.{◌-◌}
-use native.Mathlib.Omega.{arith}
-use Rattle.model.specs.Table.{numbers_of}
 use Rattle.encoder.specs.Parts.{item_numbers}
-use Rattle.encoder.proofs.Series.{Going, going_start, going_fits, going_more, going_end}
-use Rattle.encoder.proofs.Parts.{items_all, item_series, block_thread, item_put}
+use Rattle.encoder.proofs.Series.{Going}
+use Rattle.encoder.proofs.Parts.{item_series}
 use Rattle.encoder.proofs.write_items.Given as goal
 
 abbrev pub invariant-loop-g : goal.invariant-loop-g

@@ -1,14 +1,10 @@
 -- `write_order` writes a thread's order rows: what is left of its chain is what is left to write. Assumes nothing.
-use borrow.Author.Rules.{rules}
 use mathlib.Core.Path.{refl}
 use native.Mathlib.Omega.{arith}
-use lib.ListN.{length}
-use Rattle.model.specs.CaseFile.{case_of}
-use Rattle.laws.specs.Accepted.{lines_from}
 use Rattle.laws.proofs.Following.{lines_less, next_low}
 use Rattle.rows.specs.Rows.{Nearest}
 use Rattle.encoder.specs.Parts.{order_numbers}
-use Rattle.encoder.proofs.Walking.{orders, Walking, walking_start, walking_end}
+use Rattle.encoder.proofs.Walking.{walking_start, walking_end}
 use Rattle.encoder.proofs.Lines.{order_room, order_step}
 use Rattle.encoder.proofs.write_order.Goals as goal
 

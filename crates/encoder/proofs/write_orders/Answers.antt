@@ -1,10 +1,8 @@
 -- `write_orders` writes the order rows, a thread at a time. Assumes nothing.
 use borrow.Author.Rules.{rules}
-use Prim.Native.Nat.{◌-◌}
 use native.Mathlib.Omega.{arith}
-use Rattle.encoder.specs.Parts.{all_order_numbers}
-use Rattle.encoder.proofs.Series.{Going, going_start, going_fits, going_more, going_end}
-use Rattle.encoder.proofs.Parts.{orders_all, order_series}
+use Rattle.encoder.proofs.Series.{going_start, going_fits, going_more, going_end}
+use Rattle.encoder.proofs.Parts.{orders_all}
 use Rattle.encoder.proofs.write_orders.Goals as goal
 
 pub loop-t-init : goal.loop-t-init

@@ -1,16 +1,12 @@
 -- `write_values` writes a thread's 4s and 5s and takes each line as the latest copy of its target. Assumes nothing.
-use borrow.Author.Rules.{rules}
 use mathlib.Core.Path.{refl}
 use native.Mathlib.Omega.{arith}
-use lib.ListN.{length}
-use Rattle.model.specs.CaseFile.{kind_of, global_count, case_of}
-use Rattle.laws.specs.Accepted.{lines_from}
+use Rattle.model.specs.CaseFile.{kind_of}
 use Rattle.laws.proofs.Following.{lines_less}
 use Rattle.laws.proofs.Sizes.{value_count_at_most}
 use Rattle.model.specs.Copies.{walk_lines}
-use Rattle.copies.specs.Held.{HeldAfter}
 use Rattle.encoder.specs.Parts.{value_numbers}
-use Rattle.encoder.proofs.Walking.{values, Walking, walking_start, walking_end, walking_whole}
+use Rattle.encoder.proofs.Walking.{walking_start, walking_end, walking_whole}
 use Rattle.encoder.proofs.Lines.{value_room, value_step, thread_taken}
 use Rattle.encoder.proofs.write_values.Goals as goal
 

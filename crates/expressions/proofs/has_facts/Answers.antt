@@ -1,5 +1,4 @@
 -- `has_facts` is by the operation and by the two atoms. Assumes nothing.
-use borrow.Author.Rules.{rules}
 use Rattle.expressions.proofs.Beside.{no_facts_of_operation, facts_of_variable, no_facts_of_constant}
 use Rattle.expressions.proofs.has_facts.Goals as goal
 

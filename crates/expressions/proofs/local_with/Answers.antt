@@ -1,5 +1,4 @@
 -- `local_with` is by whether there is a copy. Assumes nothing.
-use borrow.Author.Rules.{rules}
 use Rattle.expressions.proofs.Operands.{local_none, local_some}
 use Rattle.expressions.proofs.local_with.Goals as goal
 

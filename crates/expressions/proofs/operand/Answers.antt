@@ -1,5 +1,4 @@
 -- `operand` is the constant or a local. Assumes nothing.
-use borrow.Author.Rules.{rules}
 use Rattle.expressions.proofs.Operands.{operand_constant, operand_local}
 use Rattle.expressions.proofs.operand.Goals as goal
 

@@ -1,5 +1,4 @@
 -- `put_comparison` is by the operation. Assumes nothing.
-use borrow.Author.Rules.{rules}
 use Rattle.expressions.proofs.Expressions.{comparison_equals, comparison_less}
 use Rattle.expressions.proofs.put_comparison.Goals as goal
 

@@ -1,5 +1,4 @@
 -- `put_expression` is by the operation. Assumes nothing.
-use borrow.Author.Rules.{rules}
 use Rattle.expressions.proofs.Expressions.{expression_first, expression_apply, expression_bit}
 use Rattle.expressions.proofs.put_expression.Goals as goal
 

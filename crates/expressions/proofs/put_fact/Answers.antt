@@ -1,5 +1,4 @@
 -- `put_fact` puts two equations and two comparisons. Assumes nothing.
-use borrow.Author.Rules.{rules}
 use Rattle.expressions.proofs.Facts.{fact_spelt}
 use Rattle.expressions.proofs.put_fact.Goals as goal
 

@@ -1,10 +1,6 @@
 -- `put_facts` puts the facts of one first source after the other. Assumes nothing.
 use borrow.Author.Rules.{rules}
-use Prim.Native.Nat.{◌-◌}
-use Rattle.script.specs.Assertions.{most_sources, comparison}
-use Rattle.spell.specs.Atoms.{atom_term}
-use Rattle.expressions.specs.Facts.{source_list, fact_heads}
-use Rattle.linked.proofs.Going.{Going, going_start, going_end, going_last}
+use Rattle.linked.proofs.Going.{going_start, going_end, going_last}
 use Rattle.expressions.proofs.Facts.{firsts_go_on, no_firsts}
 use Rattle.expressions.proofs.put_facts.Goals as goal
 

@@ -1,10 +1,6 @@
 -- `put_facts_with` puts one fact after the other. Assumes nothing.
 use borrow.Author.Rules.{rules}
-use Prim.Native.Nat.{◌-◌}
-use Rattle.script.specs.Assertions.{most_sources, comparison}
-use Rattle.spell.specs.Atoms.{atom_term}
-use Rattle.expressions.specs.Facts.{fact_heads_with}
-use Rattle.linked.proofs.Going.{Going, going_start, going_end, going_last}
+use Rattle.linked.proofs.Going.{going_start, going_end, going_last}
 use Rattle.expressions.proofs.Facts.{seconds_go_on, no_seconds}
 use Rattle.expressions.proofs.put_facts_with.Goals as goal
 

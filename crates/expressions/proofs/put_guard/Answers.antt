@@ -1,5 +1,4 @@
 -- `put_guard` says that the local is zero, or that it is not. Assumes nothing.
-use borrow.Author.Rules.{rules}
 use Rattle.expressions.proofs.Operands.{guard_not_zero, guard_zero}
 use Rattle.expressions.proofs.put_guard.Goals as goal
 

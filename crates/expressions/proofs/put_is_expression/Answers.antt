@@ -1,5 +1,4 @@
 -- `put_is_expression` puts the facts around the equation, or an equation with its links. Assumes nothing.
-use borrow.Author.Rules.{rules}
 use Rattle.expressions.proofs.Beside.{first_spelt, expression_spelt}
 use Rattle.expressions.proofs.put_is_expression.Goals as goal
 

@@ -1,5 +1,4 @@
 -- `put_is_truth` puts the facts around the equation. Assumes nothing.
-use borrow.Author.Rules.{rules}
 use Rattle.expressions.proofs.Beside.{is_truth_spelt}
 use Rattle.expressions.proofs.put_is_truth.Goals as goal
 

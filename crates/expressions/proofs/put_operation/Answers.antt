@@ -1,5 +1,4 @@
 -- `put_operation` puts one of four words. Assumes nothing.
-use borrow.Author.Rules.{rules}
 use Rattle.spell.proofs.Numbers.{spelt_as}
 use Rattle.expressions.proofs.Expressions.{word_of_add, word_of_sub, word_of_and, word_of_or}
 use Rattle.expressions.proofs.put_operation.Goals as goal

@@ -1,5 +1,4 @@
 -- `put_truth_of` puts a word after the other. Assumes nothing.
-use borrow.Author.Rules.{rules}
 use Rattle.expressions.proofs.Beside.{truth_spelt}
 use Rattle.expressions.proofs.put_truth_of.Goals as goal
 

@@ -1,5 +1,4 @@
 -- `put_value_of` puts a word after the other. Assumes nothing.
-use borrow.Author.Rules.{rules}
 use Rattle.expressions.proofs.Beside.{value_spelt}
 use Rattle.expressions.proofs.put_value_of.Goals as goal
 

@@ -1,7 +1,6 @@
 -- `filler::fill` meets its contract. Assumes nothing.
 use mathlib.Core.Path.{sym, ◌∙◌}
 use Rattle.filler.proofs.Calls.{answers_refused}
-use borrow.Author.Rules.{rules}
 use Rattle.filler.proofs.fill.Goals as goal
 
 pub fill_accepted-requires : goal.fill_accepted-requires

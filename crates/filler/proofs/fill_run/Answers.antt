@@ -1,11 +1,8 @@
 -- `filler::fill_run` meets its contract. Assumes nothing.
 use mathlib.Core.Path.{sym, refl}
-use mathlib.Core.Logic.{⊎_elim}
-use native.Mathlib.Omega.{arith}
 use lib.Seq.{length-take-le}
 use Rattle.schedule_check.proofs.Refusals.{records_have_places, enough_numbers}
 use Rattle.filler.proofs.Calls.{run_refused, run_late, run_fills}
-use borrow.Author.Rules.{rules}
 use Rattle.filler.proofs.fill_run.Goals as goal
 
 pub slice_bounds-lengths-end : goal.slice_bounds-lengths-end

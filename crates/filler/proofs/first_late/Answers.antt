@@ -1,6 +1,5 @@
 -- `filler::first_late` meets its contract. The invariant: what the threads that have been looked at come to. Assumes nothing.
-use Rattle.filler.proofs.Lateness.{LookingBack, back_start, back_ready, back_more, back_end}
-use borrow.Author.Rules.{rules}
+use Rattle.filler.proofs.Lateness.{back_start, back_ready, back_more, back_end}
 use Rattle.filler.proofs.first_late.Goals as goal
 
 pub loop-t-init : goal.loop-t-init

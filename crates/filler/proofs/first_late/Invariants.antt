@@ -1,6 +1,5 @@
 -- `filler::first_late` meets its contract. The invariant: what the threads that have been looked at come to. Assumes nothing.
-use Rattle.filler.proofs.Lateness.{LookingBack, back_start, back_ready, back_more, back_end}
-use borrow.Author.Rules.{rules}
+use Rattle.filler.proofs.Lateness.{LookingBack}
 use Rattle.filler.proofs.first_late.Given as goal
 
 abbrev pub invariant-loop-t : goal.invariant-loop-t

@@ -2,7 +2,6 @@
 use Rattle.std.proofs.Common.{ap, not}
 use borrow.Author.Tests.{not-true, not-false}
 use Rattle.filler.proofs.Lateness.{not_run_lem, seen_is_not_late, unseen_is_late}
-use borrow.Author.Rules.{rules}
 use Rattle.filler.proofs.is_late.Goals as goal
 
 pub returns-then-not-was_run : goal.returns-then-not-was_run

@@ -1,9 +1,6 @@
 -- `filler::late_in` meets its contract. The invariant: the lines that are left decide. Assumes nothing.
-use lib.ListN.{length}
-use Rattle.laws.specs.Accepted.{lines_from}
 use Rattle.laws.proofs.Following.{lines_less}
-use Rattle.filler.proofs.Lateness.{Looking, looking_none, looking_start, looking_found, looking_more, looking_end}
-use borrow.Author.Rules.{rules}
+use Rattle.filler.proofs.Lateness.{looking_none, looking_start, looking_found, looking_more, looking_end}
 use Rattle.filler.proofs.late_in.Goals as goal
 
 pub returns-then-k-eq0 : goal.returns-then-k-eq0

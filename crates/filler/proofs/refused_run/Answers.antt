@@ -1,6 +1,5 @@
 -- `filler::refused_run` meets its contract. Assumes nothing.
 use Rattle.filler.specs.Promises.{refused_run}
-use borrow.Author.Rules.{rules}
 use Rattle.filler.proofs.refused_run.Goals as goal
 
 pub returns-in-Refused : goal.returns-in-Refused

@@ -1,9 +1,7 @@
 -- `part_count` counts the parts, a record at a time. Assumes nothing.
-use borrow.Author.Rules.{rules}
 use Prim.Native.Nat.{◌+◌, ◌-◌}
-use native.Mathlib.Omega.{arith}
 use Rattle.model.specs.CaseFile.{records}
-use Rattle.goal_text.proofs.Parts.{bit_at_most_one, Numbering, numbering_start, numbering_more, numbering_end}
+use Rattle.goal_text.proofs.Parts.{Numbering}
 use Rattle.goal_text.proofs.part_count.Given as goal
 
 abbrev pub invariant-loop-k : goal.invariant-loop-k

@@ -1,5 +1,4 @@
 -- `put_goal` puts the parts, `false`, and the parentheses. Assumes nothing.
-use borrow.Author.Rules.{rules}
 use Rattle.goal_text.proofs.GoalText.{goal_spelt}
 use Rattle.goal_text.proofs.put_goal.Goals as goal
 

@@ -1,7 +1,6 @@
 -- `put_heads` goes by row. Assumes nothing.
-use borrow.Author.Rules.{rules}
 use Prim.Native.Nat.{◌-◌}
-use Rattle.goal_text.proofs.Heads.{rows_few, Heading, heading_start, heading_more, heading_end}
+use Rattle.goal_text.proofs.Heads.{Heading}
 use Rattle.goal_text.proofs.put_heads.Given as goal
 
 abbrev pub invariant-loop-j : goal.invariant-loop-j

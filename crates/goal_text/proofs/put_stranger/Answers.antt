@@ -1,5 +1,4 @@
 -- `put_stranger` puts both parts in their words. Assumes nothing.
-use borrow.Author.Rules.{rules}
 use Rattle.goal_text.proofs.Heads.{stranger_spelt}
 use Rattle.goal_text.proofs.put_stranger.Goals as goal
 

@@ -1,5 +1,4 @@
 -- `put_zero` puts an equation and a blank. Assumes nothing.
-use borrow.Author.Rules.{rules}
 use Rattle.goal_text.proofs.Heads.{zero_spelt}
 use Rattle.goal_text.proofs.put_zero.Goals as goal
 

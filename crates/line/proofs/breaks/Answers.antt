@@ -1,5 +1,5 @@
 -- `line::breaks` meets its contract. Assumes nothing.
-use Rattle.std.proofs.Common.{ap, ◌∙◌, rules}
+use Rattle.std.proofs.Common.{ap, ◌∙◌}
 use Rattle.model.specs.CaseFile.{kind_of}
 use Rattle.model.specs.Line.{breaks}
 use Rattle.model.specs.Machine.{look}

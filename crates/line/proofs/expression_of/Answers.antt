@@ -1,6 +1,5 @@
 -- `line::expression_of` meets its contract. Assumes nothing.
 use Rattle.line.proofs.Expressions.{expression_is}
-use Rattle.std.proofs.Common.{rules}
 use Rattle.line.proofs.expression_of.Goals as goal
 
 pub returns : goal.returns

@@ -1,5 +1,5 @@
 -- `line::guard_name` meets its contract: a guard over 32 names no local. Assumes nothing.
-use Rattle.std.proofs.Common.{◌-◌, arith, rules, le-ltb, lt-ltb, ne_eqb}
+use Rattle.std.proofs.Common.{◌-◌, arith, le-ltb, lt-ltb, ne_eqb}
 use Rattle.model.specs.Line.{guard_name, local_name}
 use Rattle.line.proofs.guard_name.Goals as goal
 

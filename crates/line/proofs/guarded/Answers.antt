@@ -1,5 +1,5 @@
 -- `line::guarded` meets its contract: a guard over 32 names no local, and holds. Assumes nothing.
-use Rattle.std.proofs.Common.{◌-◌, arith, rules, le-ltb, lt-ltb, ne_eqb}
+use Rattle.std.proofs.Common.{◌-◌, arith, le-ltb, lt-ltb, ne_eqb}
 use Rattle.model.specs.Line.{guard_name, guard_true}
 use Rattle.line.proofs.Memories.{look_no_local}
 use Rattle.line.proofs.guarded.Goals as goal

@@ -1,6 +1,5 @@
 -- `line::item_at` meets its contract. Assumes nothing.
 use Rattle.line.proofs.Memories.{look_item, look_no_item}
-use Rattle.std.proofs.Common.{rules}
 use Rattle.line.proofs.item_at.Goals as goal
 
 pub returns-then-g-count : goal.returns-then-g-count

@@ -1,6 +1,5 @@
 -- `line::local_at` meets its contract. Assumes nothing.
 use Rattle.line.proofs.Memories.{look_local, look_no_local}
-use Rattle.std.proofs.Common.{rules}
 use Rattle.line.proofs.local_at.Goals as goal
 
 pub returns-then-at-lt-LOCALS : goal.returns-then-at-lt-LOCALS

@@ -1,5 +1,5 @@
 -- `line::operand` meets its contract. Assumes nothing.
-use Rattle.std.proofs.Common.{rules, ne_eqb}
+use Rattle.std.proofs.Common.{ne_eqb}
 use Rattle.line.proofs.Memories.{operand_local, look_no_local}
 use Rattle.line.proofs.operand.Goals as goal
 

@@ -2,7 +2,6 @@
 use Rattle.model.specs.CaseFile.{kind_of}
 use Rattle.model.specs.Line.{name_of_a}
 use Rattle.line.proofs.KindNumbers.{a_other}
-use Rattle.std.proofs.Common.{rules}
 use Rattle.line.proofs.operand_a.Goals as goal
 
 pub returns-in-1 : goal.returns-in-1

@@ -1,5 +1,4 @@
 -- `line::order_rows` meets its contract. Assumes nothing.
-use Rattle.std.proofs.Common.{rules}
 use Rattle.line.proofs.Eights.{rows_by_eight}
 use Rattle.line.proofs.order_rows.Goals as goal
 

@@ -1,6 +1,5 @@
 -- `line::put_item` meets its contract. Assumes nothing.
 use Rattle.line.proofs.Memories.{put_of_local, put_of_item, put_beyond}
-use Rattle.std.proofs.Common.{rules}
 use Rattle.line.proofs.put_item.Goals as goal
 
 pub returns-then-name-lt-LOCALS : goal.returns-then-name-lt-LOCALS

@@ -1,5 +1,5 @@
 -- `line::put_local` meets its contract. Assumes nothing.
-use Rattle.std.proofs.Common.{rules, le-ltb, lt-ltb}
+use Rattle.std.proofs.Common.{le-ltb, lt-ltb}
 use Rattle.model.specs.Machine.{put_local}
 use Rattle.line.proofs.put_local.Goals as goal
 

@@ -1,5 +1,4 @@
 -- `line::stays` meets its contract. Assumes nothing.
-use Rattle.std.proofs.Common.{rules}
 use Rattle.line.proofs.stays.Goals as goal
 
 pub returns-then-first : goal.returns-then-first

@@ -2,7 +2,6 @@
 use Rattle.model.specs.CaseFile.{kind_of}
 use Rattle.model.specs.Line.{name_of_target}
 use Rattle.line.proofs.KindNumbers.{target_other}
-use Rattle.std.proofs.Common.{rules}
 use Rattle.line.proofs.target_name.Goals as goal
 
 pub returns-in-1 : goal.returns-in-1

@@ -1,5 +1,4 @@
 -- `put_demand` is by the kind of the line. Assumes nothing.
-use borrow.Author.Rules.{rules}
 use Rattle.line.proofs.KindNumbers.{kind_6, kind_7}
 use Rattle.line_text.proofs.Lines.{demand_assume, demand_lock, demand_other}
 use Rattle.line_text.proofs.put_demand.Goals as goal

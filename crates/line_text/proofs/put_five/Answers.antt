@@ -1,5 +1,4 @@
 -- `put_five` puts both parts in their words. Assumes nothing.
-use borrow.Author.Rules.{rules}
 use Rattle.linked.proofs.Variables.{or_not_run_spelt}
 use Rattle.line_text.proofs.Lines.{demand_found}
 use Rattle.line_text.proofs.put_five.Goals as goal

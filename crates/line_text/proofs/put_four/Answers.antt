@@ -1,5 +1,4 @@
 -- `put_four` puts its three parts in their words. Assumes nothing.
-use borrow.Author.Rules.{rules}
 use Rattle.line_text.proofs.Lines.{four_spelt}
 use Rattle.line_text.proofs.put_four.Goals as goal
 

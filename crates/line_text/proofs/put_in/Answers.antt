@@ -1,5 +1,4 @@
 -- `put_in` is by the kind of the line. Assumes nothing.
-use borrow.Author.Rules.{rules}
 use Rattle.line.proofs.KindNumbers.{kind_1, kind_2, kind_3, kind_4, kind_5, kind_6, kind_7, unlock_other}
 use Rattle.line_text.proofs.Lines.{in_compute, in_store, in_load, in_input, in_assert, in_assume, in_lock, in_unlock}
 use Rattle.line_text.proofs.put_in.Goals as goal

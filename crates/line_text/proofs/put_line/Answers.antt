@@ -1,5 +1,4 @@
 -- `put_line` is by whether there is a guard. Assumes nothing.
-use borrow.Author.Rules.{rules}
 use mathlib.Core.Path.{refl}
 use Rattle.line_text.proofs.Lines.{line_plain, line_guarded}
 use Rattle.line_text.proofs.put_line.Goals as goal

@@ -1,5 +1,4 @@
 -- `put_out` is by the kind of the line. Assumes nothing.
-use borrow.Author.Rules.{rules}
 use Rattle.line.proofs.KindNumbers.{kind_5, kind_6}
 use Rattle.line_text.proofs.Lines.{out_assert, out_assume, out_other}
 use Rattle.line_text.proofs.put_out.Goals as goal

@@ -1,5 +1,4 @@
 -- `put_reads` is by whether there is a guard. Assumes nothing.
-use borrow.Author.Rules.{rules}
 use mathlib.Core.Path.{refl}
 use Rattle.line_text.proofs.Lines.{reads_plain, reads_guarded}
 use Rattle.line_text.proofs.put_reads.Goals as goal

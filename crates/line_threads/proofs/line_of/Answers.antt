@@ -1,5 +1,4 @@
 -- `line_of` reads the record with the thread that was noted for it. Assumes nothing.
-use borrow.Author.Rules.{rules}
 use Rattle.line_threads.proofs.RecordLines.{line_there}
 use Rattle.line_threads.proofs.line_of.Goals as goal
 

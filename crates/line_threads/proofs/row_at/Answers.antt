@@ -1,5 +1,4 @@
 -- `row_at` reads six numbers. Assumes nothing.
-use borrow.Author.Rules.{rules}
 use Rattle.line_threads.proofs.row_at.Goals as goal
 
 pub returns : goal.returns

@@ -1,5 +1,4 @@
 -- `threads_of` notes the 3s of the table. Assumes nothing.
-use borrow.Author.Rules.{rules}
 use Rattle.line_threads.proofs.Noted.{noted_threads}
 use Rattle.line_threads.proofs.threads_of.Goals as goal
 

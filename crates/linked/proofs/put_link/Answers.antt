@@ -1,5 +1,4 @@
 -- `put_link` puts two equations in their words. Assumes nothing.
-use borrow.Author.Rules.{rules}
 use Rattle.linked.proofs.Links.{link_spelt}
 use Rattle.linked.proofs.put_link.Goals as goal
 

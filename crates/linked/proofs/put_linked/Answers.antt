@@ -1,5 +1,4 @@
 -- `put_linked` puts the links, the equation and what closes them. Assumes nothing.
-use borrow.Author.Rules.{rules}
 use Rattle.linked.proofs.Links.{linked_spelt}
 use Rattle.linked.proofs.put_linked.Goals as goal
 

@@ -1,10 +1,8 @@
 -- `put_links` puts one link after the other. Assumes nothing.
-use borrow.Author.Rules.{rules}
 use Prim.Native.Nat.{◌-◌}
 use Rattle.script.specs.Assertions.{most_sources}
 use Rattle.linked.specs.Links.{link_heads}
-use Rattle.linked.proofs.Going.{Going, going_start, going_end, going_last}
-use Rattle.linked.proofs.Links.{links_go_on, no_links}
+use Rattle.linked.proofs.Going.{Going}
 use Rattle.linked.proofs.put_links.Given as goal
 
 abbrev pub invariant-loop-j : goal.invariant-loop-j

@@ -1,5 +1,4 @@
 -- `put_not_run` puts an equation. Assumes nothing.
-use borrow.Author.Rules.{rules}
 use Rattle.linked.proofs.Variables.{not_run_spelt}
 use Rattle.linked.proofs.put_not_run.Goals as goal
 

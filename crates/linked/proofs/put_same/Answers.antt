@@ -1,5 +1,4 @@
 -- `put_same` is by the kind of the first atom. Assumes nothing.
-use borrow.Author.Rules.{rules}
 use Rattle.linked.proofs.Links.{same_variable, same_constant}
 use Rattle.linked.proofs.put_same.Goals as goal
 

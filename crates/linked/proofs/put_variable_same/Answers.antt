@@ -1,5 +1,4 @@
 -- `put_variable_same` is by the kind of the atom. Assumes nothing.
-use borrow.Author.Rules.{rules}
 use Rattle.linked.proofs.Links.{with_variable, with_constant}
 use Rattle.linked.proofs.put_variable_same.Goals as goal
 

@@ -1,8 +1,5 @@
-use borrow.Author.Rules.{rules}
-use Prim.Native.Nat.{suc, ◌-◌}
 use native.Mathlib.Omega.{arith}
-use Rattle.model.specs.CaseFile.{records}
-use Rattle.links.proofs.ChainWalks.{Walking, walking_starts, few_passed, walk_ends, came_twice, walk_on}
+use Rattle.links.proofs.ChainWalks.{walking_starts, few_passed, walk_ends, came_twice, walk_on}
 use Rattle.links.proofs.follow.Goals as goal
 
 pub loop-k-init : goal.loop-k-init

@@ -1,11 +1,8 @@
-use borrow.Author.Rules.{rules}
-use mathlib.Core.Path.{sym, ap, ◌∙◌}
 use Prim.Native.Nat.{◌+◌, ◌-◌}
 use lib.Dec.{leb}
-use Rattle.model.specs.CaseFile.{records, next_record}
+use Rattle.model.specs.CaseFile.{next_record}
 use Rattle.model.specs.Lists.{all_from}
-use Rattle.links.specs.Links.{nexts_in}
-use Rattle.case_file.proofs.LoopTests.{all_at_end, all_fails, all_goes_on, RangeLeft, range_start, range_more, over_leb, under_leb}
+use Rattle.case_file.proofs.LoopTests.{RangeLeft}
 use Rattle.links.proofs.nexts_ok.Given as goal
 
 abbrev pub invariant-loop-k : goal.invariant-loop-k

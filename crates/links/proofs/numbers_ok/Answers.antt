@@ -1,5 +1,4 @@
 use Rattle.links.proofs.LinkNumbers.{numbers_are_ok}
-use borrow.Author.Rules.{rules}
 use Rattle.links.proofs.numbers_ok.Goals as goal
 
 pub returns : goal.returns

@@ -1,5 +1,4 @@
 -- `put_byte` stores within the slice; beyond it a store changes nothing. Assumes nothing.
-use borrow.Author.Rules.{rules}
 use mathlib.Core.Path.{sym}
 use lib.Seq.{set_out}
 use Rattle.laws.specs.Written.{numbers_at}

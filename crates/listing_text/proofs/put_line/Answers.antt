@@ -1,8 +1,7 @@
 -- `put_line` puts its numbers one after the other, the last with a line feed. Assumes nothing.
 use borrow.Author.Rules.{rules}
 use mathlib.Core.Path.{◌∙◌}
-use Prim.Native.Nat.{◌-◌}
-use Rattle.listing_text.proofs.Rows.{Lining, lining_start, lining_more, lining_end}
+use Rattle.listing_text.proofs.Rows.{lining_start, lining_more, lining_end}
 use Rattle.listing_text.proofs.put_line.Goals as goal
 
 pub loop-j-init : goal.loop-j-init

@@ -1,8 +1,6 @@
 -- `put_line` puts its numbers one after the other, the last with a line feed. Assumes nothing.
-use borrow.Author.Rules.{rules}
-use mathlib.Core.Path.{◌∙◌}
 use Prim.Native.Nat.{◌-◌}
-use Rattle.listing_text.proofs.Rows.{Lining, lining_start, lining_more, lining_end}
+use Rattle.listing_text.proofs.Rows.{Lining}
 use Rattle.listing_text.proofs.put_line.Given as goal
 
 abbrev pub invariant-loop-j : goal.invariant-loop-j

@@ -1,5 +1,4 @@
 -- `put_number` puts the digits, and then what ends them. Assumes nothing.
-use borrow.Author.Rules.{rules}
 use native.Mathlib.Omega.{arith}
 use Rattle.listing_text.proofs.Digits.{within_five}
 use Rattle.listing_text.proofs.Numbers.{put_one_digit, put_ended}

@@ -1,7 +1,5 @@
 -- `put_rows` puts the rows one after the other. Assumes nothing.
-use borrow.Author.Rules.{rules}
-use Prim.Native.Nat.{◌-◌}
-use Rattle.listing_text.proofs.Rows.{Rowing, rowing_start, rowing_more, rowing_end}
+use Rattle.listing_text.proofs.Rows.{rowing_start, rowing_more, rowing_end}
 use Rattle.listing_text.proofs.put_rows.Goals as goal
 
 pub loop-i-init : goal.loop-i-init

@@ -1,7 +1,6 @@
 -- `put_rows` puts the rows one after the other. Assumes nothing.
-use borrow.Author.Rules.{rules}
 use Prim.Native.Nat.{◌-◌}
-use Rattle.listing_text.proofs.Rows.{Rowing, rowing_start, rowing_more, rowing_end}
+use Rattle.listing_text.proofs.Rows.{Rowing}
 use Rattle.listing_text.proofs.put_rows.Given as goal
 
 abbrev pub invariant-loop-i : goal.invariant-loop-i

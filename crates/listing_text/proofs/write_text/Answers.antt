@@ -1,5 +1,4 @@
 -- `write_text` puts the counts and the rows, or the refusal. Assumes nothing.
-use borrow.Author.Rules.{rules}
 use Rattle.listing_text.proofs.Answer.{rows_have_room, table_text, refusal_text}
 use Rattle.listing_text.proofs.write_text.Goals as goal
 

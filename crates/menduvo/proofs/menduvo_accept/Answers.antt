@@ -1,7 +1,6 @@
 -- `menduvo::menduvo_accept` meets its contract.
 -- Assumes nothing.
 use mathlib.Core.Path.{ap, ◌∙◌}
-use borrow.Author.Rules.{rules}
 use Rattle.model.specs.Answers.{verdict_numbers}
 use Rattle.menduvo.proofs.menduvo_accept.Goals as goal
 

@@ -1,7 +1,6 @@
 -- `menduvo::menduvo_check` meets its contract.
 -- Assumes nothing.
 use mathlib.Core.Path.{ap, ◌∙◌}
-use borrow.Author.Rules.{rules}
 use Rattle.model.specs.Answers.{checked_numbers}
 use Rattle.menduvo.proofs.menduvo_check.Goals as goal
 

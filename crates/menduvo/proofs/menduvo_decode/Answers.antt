@@ -1,7 +1,6 @@
 -- `menduvo::menduvo_decode` meets its contract.
 -- Assumes nothing.
 use mathlib.Core.Path.{ap, ◌∙◌}
-use borrow.Author.Rules.{rules}
 use Rattle.model.specs.Answers.{decoded_numbers}
 use Rattle.menduvo.proofs.menduvo_decode.Goals as goal
 

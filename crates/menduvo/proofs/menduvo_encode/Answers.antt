@@ -1,7 +1,6 @@
 -- `menduvo::menduvo_encode` meets its contract.
 -- Assumes nothing.
 use mathlib.Core.Path.{ap, ◌∙◌}
-use borrow.Author.Rules.{rules}
 use Rattle.model.specs.Answers.{encoded_numbers}
 use Rattle.menduvo.proofs.menduvo_encode.Goals as goal
 

@@ -1,7 +1,6 @@
 -- `menduvo::menduvo_fill` meets its contract.
 -- Assumes nothing.
 use mathlib.Core.Path.{ap, ◌∙◌}
-use borrow.Author.Rules.{rules}
 use Rattle.model.specs.Answers.{filled_numbers}
 use Rattle.menduvo.proofs.menduvo_fill.Goals as goal
 

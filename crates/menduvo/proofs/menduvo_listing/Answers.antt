@@ -1,7 +1,6 @@
 -- `menduvo::menduvo_listing` meets its contract.
 -- Assumes nothing.
 use mathlib.Core.Path.{ap, ◌∙◌}
-use borrow.Author.Rules.{rules}
 use Rattle.model.specs.Listing.{listed_numbers}
 use Rattle.listing_text.proofs.Bridge.{length_told}
 use Rattle.menduvo.proofs.menduvo_listing.Goals as goal

@@ -1,7 +1,6 @@
 -- `menduvo::menduvo_replay` meets its contract.
 -- Assumes nothing.
 use mathlib.Core.Path.{ap, ◌∙◌}
-use borrow.Author.Rules.{rules}
 use Rattle.model.specs.Answers.{replayed_numbers}
 use Rattle.menduvo.proofs.menduvo_replay.Goals as goal
 

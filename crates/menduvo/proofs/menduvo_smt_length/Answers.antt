@@ -1,7 +1,6 @@
 -- `menduvo::menduvo_smt_length` meets its contract.
 -- Assumes nothing.
 use mathlib.Core.Path.{ap, ◌∙◌}
-use borrow.Author.Rules.{rules}
 use Rattle.script.specs.Text.{spelled_numbers}
 use Rattle.menduvo.proofs.menduvo_smt_length.Goals as goal
 

@@ -1,7 +1,6 @@
 -- `menduvo::menduvo_take_line` meets its contract.
 -- Assumes nothing.
 use mathlib.Core.Path.{ap, ◌∙◌}
-use borrow.Author.Rules.{rules}
 use Rattle.model.specs.Taking.{taken_numbers}
 use Rattle.menduvo.proofs.menduvo_take_line.Goals as goal
 

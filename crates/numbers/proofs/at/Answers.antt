@@ -1,7 +1,6 @@
 -- `numbers::at` meets its contract. Assumes nothing.
 use mathlib.Core.Path.{sym}
 use lib.ListN.{get_or-eq_default}
-use borrow.Author.Rules.{rules}
 use Rattle.numbers.proofs.at.Goals as goal
 
 pub returns-else-j-xs : goal.returns-else-j-xs

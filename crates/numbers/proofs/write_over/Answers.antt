@@ -1,7 +1,5 @@
 -- `numbers::write_over` meets its contract. The invariant: the first values are written. Assumes nothing.
-use Prim.Native.Nat.{◌-◌}
-use lib.ListN.{length}
-use Rattle.numbers.proofs.Writing.{Writing, writing_start, writing_more, writing_end}
+use Rattle.numbers.proofs.Writing.{writing_start, writing_more, writing_end}
 use borrow.Author.Rules.{rules}
 use Rattle.numbers.proofs.write_over.Goals as goal
 

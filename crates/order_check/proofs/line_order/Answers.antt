@@ -6,7 +6,6 @@ use Rattle.model.specs.CaseFile.{kind_of}
 use Rattle.laws.proofs.Sizes.{order_count_at_most}
 use Rattle.case_file.proofs.LoopTests.{failed, passed}
 use Rattle.order_check.proofs.LineOrder.{order_count_at_least, thread_fails, stay_fails, order_holds, follow_fails}
-use borrow.Author.Rules.{rules}
 use Rattle.order_check.proofs.line_order.Goals as goal
 
 pub returns-then-not-own_block : goal.returns-then-not-own_block

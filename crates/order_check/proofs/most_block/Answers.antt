@@ -1,7 +1,6 @@
 -- `order_check::most_block` meets its contract. Assumes nothing.
 use native.Mathlib.Omega.{arith}
 use borrow.Author.Tests.{eq-eqb, ne_eqb}
-use borrow.Author.Rules.{rules}
 use Rattle.order_check.proofs.most_block.Goals as goal
 
 pub returns-then-next-eq0 : goal.returns-then-next-eq0

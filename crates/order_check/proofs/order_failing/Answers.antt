@@ -1,7 +1,5 @@
 -- `order_check::order_failing` meets its contract. Assumes nothing.
-use Prim.Native.Nat.{◌-◌}
-use Rattle.order_check.proofs.ThreadOrder.{AllOrder, all_start, all_end, all_ready, all_found, all_more}
-use borrow.Author.Rules.{rules}
+use Rattle.order_check.proofs.ThreadOrder.{all_start, all_end, all_ready, all_found, all_more}
 use Rattle.order_check.proofs.order_failing.Goals as goal
 
 pub loop-t-init : goal.loop-t-init

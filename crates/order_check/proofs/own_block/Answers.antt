@@ -1,5 +1,4 @@
 -- `order_check::own_block` meets its contract. Assumes nothing.
-use borrow.Author.Rules.{rules}
 use Rattle.order_check.proofs.own_block.Goals as goal
 
 pub returns-then-was_run : goal.returns-then-was_run

@@ -2,7 +2,6 @@
 use Rattle.std.proofs.Common.{ap, not}
 use Rattle.case_file.proofs.LoopTests.{failed, passed}
 use Rattle.order_check.proofs.LineOrder.{unrun_stayed}
-use borrow.Author.Rules.{rules}
 use Rattle.order_check.proofs.stayed.Goals as goal
 
 pub returns-then-not-was_run : goal.returns-then-not-was_run

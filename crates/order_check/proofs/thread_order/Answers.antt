@@ -1,11 +1,8 @@
 -- `order_check::thread_order` meets its contract. Assumes nothing.
 use mathlib.Core.Path.{refl}
 use native.Mathlib.Omega.{arith}
-use lib.ListN.{length}
-use Rattle.laws.specs.Accepted.{lines_from}
 use Rattle.laws.proofs.Following.{next_low, lines_less}
-use Rattle.order_check.proofs.ThreadOrder.{ThreadOrder, thread_start, thread_end, thread_number, thread_room, thread_found, thread_more}
-use borrow.Author.Rules.{rules}
+use Rattle.order_check.proofs.ThreadOrder.{thread_start, thread_end, thread_number, thread_room, thread_found, thread_more}
 use Rattle.order_check.proofs.thread_order.Goals as goal
 
 pub overflow_cast-k : goal.overflow_cast-k

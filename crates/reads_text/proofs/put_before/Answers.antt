@@ -1,5 +1,4 @@
 -- `put_before` puts the blocks, `true` and what closes them. Assumes nothing.
-use borrow.Author.Rules.{rules}
 use Rattle.reads_text.proofs.Blocks.{before_spelt}
 use Rattle.reads_text.proofs.put_before.Goals as goal
 

@@ -1,5 +1,4 @@
 -- `put_block` puts the question and what is then read. Assumes nothing.
-use borrow.Author.Rules.{rules}
 use Rattle.reads_text.proofs.Blocks.{block_spelt}
 use Rattle.reads_text.proofs.put_block.Goals as goal
 

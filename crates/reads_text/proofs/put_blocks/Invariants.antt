@@ -1,8 +1,5 @@
 -- `put_blocks` takes the thread's blocks one after the other. Assumes nothing.
-use borrow.Author.Rules.{rules}
-use native.Mathlib.Omega.{arith}
-use mathlib.Core.Path.{◌∙◌}
-use Rattle.reads_text.proofs.Blocks.{Blocks, blocks_start, blocks_more, blocks_ended, blocks_spent}
+use Rattle.reads_text.proofs.Blocks.{Blocks}
 use Rattle.spell.specs.Atoms.{atom_term}
 use Rattle.reads_text.proofs.put_blocks.Given as goal
 

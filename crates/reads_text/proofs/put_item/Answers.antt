@@ -1,5 +1,4 @@
 -- `put_item` is by whether there is a copy. Assumes nothing.
-use borrow.Author.Rules.{rules}
 use mathlib.Core.Path.{◌∙◌}
 use Rattle.reads_text.proofs.Names.{item_none, item_some}
 use Rattle.reads_text.proofs.put_item.Goals as goal

@@ -1,5 +1,4 @@
 -- `put_name` is by what the name is of. Assumes nothing.
-use borrow.Author.Rules.{rules}
 use Rattle.reads_text.proofs.Names.{name_local, name_item, name_none}
 use Rattle.reads_text.proofs.put_name.Goals as goal
 

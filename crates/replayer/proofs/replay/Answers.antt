@@ -1,7 +1,6 @@
 -- `replayer::replay` meets its contract. Assumes nothing.
 use mathlib.Core.Path.{sym, ◌∙◌}
 use Rattle.replayer.proofs.Calls.{answers_refused}
-use borrow.Author.Rules.{rules}
 use Rattle.replayer.proofs.replay.Goals as goal
 
 pub replay_accepted-requires : goal.replay_accepted-requires

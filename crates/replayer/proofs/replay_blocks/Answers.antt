@@ -1,6 +1,5 @@
 -- `replayer::replay_blocks` meets its contract. Assumes nothing.
 use Rattle.replayer.proofs.Calls.{writes_by, ends_written}
-use borrow.Author.Rules.{rules}
 use Rattle.replayer.proofs.replay_blocks.Goals as goal
 use Rattle.replayer.proofs.replay_blocks.Goals.{in-CutOff, in-Violated, in-Clean}
 

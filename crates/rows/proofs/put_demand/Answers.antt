@@ -1,5 +1,4 @@
 -- `put_demand` writes the 5 of an assume or a lock, and nothing for another kind. Assumes nothing.
-use borrow.Author.Rules.{rules}
 use mathlib.Core.Logic.{inl, inr}
 use mathlib.Core.List.{[]}
 use native.Mathlib.Omega.{arith}

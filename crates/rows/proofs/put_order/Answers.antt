@@ -1,5 +1,4 @@
 -- `put_order` writes a line's 3, its 8 where it has one, and its 1 or 2. Assumes nothing.
-use borrow.Author.Rules.{rules}
 use native.Mathlib.Omega.{arith}
 use Rattle.rows.proofs.Made.{order_put, eight_size}
 use Rattle.rows.proofs.put_order.Goals as goal

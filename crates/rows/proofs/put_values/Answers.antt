@@ -1,6 +1,5 @@
 -- `put_values` writes a line's 4 and its 5. Assumes nothing.
 use mathlib.Core.Path.{◌∙◌}
-use borrow.Author.Rules.{rules}
 use native.Mathlib.Omega.{arith}
 use Rattle.model.specs.CaseFile.{kind_of}
 use Rattle.rows.proofs.Made.{some_row, values_are}

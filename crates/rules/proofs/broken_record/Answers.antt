@@ -1,11 +1,8 @@
 use Rattle.std.proofs.Common.{not}
 use mathlib.Core.Path.{sym, ap, ◌∙◌}
-use Prim.Native.Nat.{◌+◌, ◌-◌}
 use Rattle.model.specs.Lists.{lowest_failing}
-use Rattle.model.specs.Accept.{rule_ok}
-use Rattle.case_file.proofs.LoopTests.{RangeLeft, range_start, range_more, failed, passed}
+use Rattle.case_file.proofs.LoopTests.{range_start, range_more, failed, passed}
 use Rattle.rules.proofs.FieldRules.{lowest_at_end, lowest_found, lowest_goes_on}
-use borrow.Author.Rules.{rules}
 use Rattle.rules.proofs.broken_record.Goals as goal
 
 pub loop-k-init : goal.loop-k-init

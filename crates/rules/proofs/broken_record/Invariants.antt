@@ -1,10 +1,7 @@
-use mathlib.Core.Path.{sym, ap, ◌∙◌}
 use Prim.Native.Nat.{◌+◌, ◌-◌}
 use Rattle.model.specs.Lists.{lowest_failing}
 use Rattle.model.specs.Accept.{rule_ok}
-use Rattle.case_file.proofs.LoopTests.{RangeLeft, range_start, range_more, failed, passed}
-use Rattle.rules.proofs.FieldRules.{lowest_at_end, lowest_found, lowest_goes_on}
-use borrow.Author.Rules.{rules}
+use Rattle.case_file.proofs.LoopTests.{RangeLeft}
 use Rattle.rules.proofs.broken_record.Given as goal
 
 abbrev pub invariant-loop-k : goal.invariant-loop-k

@@ -1,6 +1,5 @@
 -- `rules::expression_ok` meets its contract. Assumes nothing.
 use borrow.Author.Tests.{lt-leb, le-leb}
-use borrow.Author.Rules.{rules}
 use Rattle.rules.proofs.expression_ok.Goals as goal
 
 pub returns-then-l-gt-HIGHEST_OP : goal.returns-then-l-gt-HIGHEST_OP

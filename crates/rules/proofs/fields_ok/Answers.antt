@@ -1,6 +1,5 @@
 -- `rules::fields_ok` meets its contract. Assumes nothing.
 use Rattle.rules.proofs.FieldRules.{guard_fails, kind_decides}
-use borrow.Author.Rules.{rules}
 use Rattle.rules.proofs.fields_ok.Goals as goal
 
 pub returns-then-l-gt-HIGHEST_GUARD : goal.returns-then-l-gt-HIGHEST_GUARD

@@ -3,7 +3,6 @@ use mathlib.Core.Path.{refl}
 use borrow.Author.Tests.{lt-ltb, le-ltb}
 use Rattle.case_file.specs.Records.{as_line}
 use Rattle.rules.proofs.FieldRules.{kind_rule_is}
-use borrow.Author.Rules.{rules}
 use Rattle.rules.proofs.kind_rule_ok.Goals as goal
 
 pub returns-then-targets-l : goal.returns-then-targets-l

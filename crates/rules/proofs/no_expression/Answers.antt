@@ -1,4 +1,3 @@
-use borrow.Author.Rules.{rules}
 use Rattle.rules.proofs.no_expression.Goals as goal
 
 pub returns : goal.returns

@@ -3,7 +3,6 @@ use mathlib.Core.Path.{sym, ◌∙◌}
 use Rattle.model.specs.CaseFile.{kind_of}
 use Rattle.case_file.specs.Records.{as_line}
 use Rattle.rules.proofs.FieldRules.{with_expression, of_load, without_expression}
-use borrow.Author.Rules.{rules}
 use Rattle.rules.proofs.operands_ok.Goals as goal
 
 pub returns-then-has_expression : goal.returns-then-has_expression

@@ -1,6 +1,5 @@
 -- `rules::rule_ok` meets its contract. Assumes nothing.
 use Rattle.rules.proofs.FieldRules.{rule_of_fields}
-use borrow.Author.Rules.{rules}
 use Rattle.rules.proofs.rule_ok.Goals as goal
 
 pub returns : goal.returns

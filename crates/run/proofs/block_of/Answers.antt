@@ -2,7 +2,6 @@
 use native.Mathlib.Omega.{arith}
 use Rattle.run.proofs.Starts.{thread_below}
 use Rattle.run.proofs.Runs.{ready_turn, moved_by}
-use borrow.Author.Rules.{rules}
 use Rattle.run.proofs.block_of.Goals as goal
 
 pub overflow_cast-t : goal.overflow_cast-t

@@ -1,6 +1,5 @@
 -- `run::first_shared` meets its contract. Assumes nothing.
 use Rattle.turn.specs.declared.Stand.TheVariants.{Running}
-use borrow.Author.Rules.{rules}
 use Rattle.run.proofs.first_shared.Goals as goal
 
 pub returns : goal.returns

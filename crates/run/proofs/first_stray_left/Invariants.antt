@@ -1,10 +1,8 @@
 -- `run::first_stray_left` meets its contract. The invariants: the threads that are left decide; what the threads that have been looked at
 -- come to. Assumes nothing.
 use Prim.Native.Nat.{◌-◌}
-use native.Mathlib.Omega.{arith}
-use Rattle.run.proofs.Unrun.{LeavingAll, all_start, all_more, all_end}
-use Rattle.run.proofs.Looks.{LookingBack, back_start, back_ready, back_more, back_end}
-use borrow.Author.Rules.{rules}
+use Rattle.run.proofs.Unrun.{LeavingAll}
+use Rattle.run.proofs.Looks.{LookingBack}
 use Rattle.run.proofs.first_stray_left.Given as goal
 
 abbrev pub invariant-loop-u : goal.invariant-loop-u

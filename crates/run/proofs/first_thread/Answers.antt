@@ -1,5 +1,4 @@
 -- `run::first_thread` meets its contract. Assumes nothing.
-use borrow.Author.Rules.{rules}
 use Rattle.run.proofs.first_thread.Goals as goal
 
 pub returns : goal.returns

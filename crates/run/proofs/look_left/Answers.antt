@@ -1,7 +1,6 @@
 -- `run::look_left` meets its contract. Assumes nothing.
 use mathlib.Core.Path.{◌∙◌}
 use Rattle.run.proofs.Looks.{looked_by, none_left, some_left, never_strayed, never_stopped}
-use borrow.Author.Rules.{rules}
 use Rattle.run.proofs.look_left.Goals as goal
 
 pub returns-in-Strayed : goal.returns-in-Strayed

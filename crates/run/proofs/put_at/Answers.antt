@@ -1,7 +1,6 @@
 -- `run::put_at` meets its contract. Assumes nothing.
 use mathlib.Core.Path.{sym}
 use lib.Seq.{set_out}
-use borrow.Author.Rules.{rules}
 use Rattle.run.proofs.put_at.Goals as goal
 
 pub returns-else-at-trace : goal.returns-else-at-trace

@@ -2,7 +2,6 @@
 use mathlib.Core.Path.{refl}
 use native.Mathlib.Omega.{arith}
 use Rattle.run.proofs.ItemsPut.{few_before, no_places, puts_items, trace_ends}
-use borrow.Author.Rules.{rules}
 use Rattle.run.proofs.put_items.Goals as goal
 
 pub returns-then-n-i : goal.returns-then-n-i

@@ -1,9 +1,6 @@
 -- `run::put_unrun` meets its contract. The invariant: the lines that are left decide. Assumes nothing.
-use lib.ListN.{length}
-use Rattle.laws.specs.Accepted.{lines_from}
 use Rattle.laws.proofs.Following.{lines_less}
-use Rattle.run.proofs.Unrun.{Leaving, leaving_start, leaving_more, leaving_end, nothing_put}
-use borrow.Author.Rules.{rules}
+use Rattle.run.proofs.Unrun.{leaving_start, leaving_more, leaving_end, nothing_put}
 use Rattle.run.proofs.put_unrun.Goals as goal
 
 pub returns-then-trace-eq0 : goal.returns-then-trace-eq0

@@ -1,7 +1,6 @@
 -- `run::put_values` meets its contract. The invariant: the values that are left decide. Assumes nothing.
 use Prim.Native.Nat.{◌-◌}
-use Rattle.run.proofs.ItemsPut.{Putting, putting_start, putting_on, putting_end}
-use borrow.Author.Rules.{rules}
+use Rattle.run.proofs.ItemsPut.{Putting}
 use Rattle.run.proofs.put_values.Given as goal
 
 abbrev pub invariant-loop-g : goal.invariant-loop-g

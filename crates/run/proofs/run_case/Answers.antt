@@ -1,7 +1,6 @@
 -- `run::run_case` meets its contract. Assumes nothing.
 use Rattle.run.proofs.Starts.{ready_start, run_replies, run_traced}
 use Rattle.run.proofs.Ends.{comes, traced_at_the_end}
-use borrow.Author.Rules.{rules}
 use Rattle.run.proofs.run_case.Goals as goal
 
 pub lend-all-requires : goal.lend-all-requires

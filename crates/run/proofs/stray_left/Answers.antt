@@ -1,9 +1,6 @@
 -- `run::stray_left` meets its contract. The invariant: the lines that are left decide. Assumes nothing.
-use lib.ListN.{length}
-use Rattle.laws.specs.Accepted.{lines_from}
 use Rattle.laws.proofs.Following.{lines_less}
-use Rattle.run.proofs.Looks.{Looking, looking_start, looking_found, looking_more, looking_end}
-use borrow.Author.Rules.{rules}
+use Rattle.run.proofs.Looks.{looking_start, looking_found, looking_more, looking_end}
 use Rattle.run.proofs.stray_left.Goals as goal
 
 pub loop-at-init : goal.loop-at-init

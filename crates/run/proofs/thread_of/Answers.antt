@@ -1,7 +1,6 @@
 -- `run::thread_of` meets its contract. Assumes nothing.
 use mathlib.Core.Path.{ap}
 use Prim.Native.Nat.{ℕ, ◌%◌}
-use borrow.Author.Rules.{rules}
 use Rattle.run.proofs.thread_of.Goals as goal
 
 pub returns : goal.returns

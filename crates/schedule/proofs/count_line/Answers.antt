@@ -3,7 +3,6 @@ use native.Mathlib.Omega.{arith}
 use borrow.Author.Tests.{lt-ltb, le-ltb}
 use Rattle.model.specs.Limits.{most_blocks}
 use Rattle.schedule.specs.Schedules.{with_line}
-use borrow.Author.Rules.{rules}
 use Rattle.schedule.proofs.count_line.Goals as goal
 
 pub returns-then-i-lt-BLOCKS : goal.returns-then-i-lt-BLOCKS

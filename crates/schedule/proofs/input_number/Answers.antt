@@ -2,7 +2,6 @@
 use mathlib.Core.List.{[]}
 use native.Mathlib.Omega.{arith}
 use Rattle.schedule.specs.Schedules.{input_number}
-use borrow.Author.Rules.{rules}
 use Rattle.schedule.proofs.input_number.Goals as goal
 
 pub returns-then-guarded : goal.returns-then-guarded

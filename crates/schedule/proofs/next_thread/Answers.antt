@@ -1,5 +1,4 @@
 -- `schedule::next_thread` meets its contract. Assumes nothing.
-use borrow.Author.Rules.{rules}
 use Rattle.schedule.proofs.Counts.{after_last, after_other}
 use Rattle.schedule.proofs.next_thread.Goals as goal
 

@@ -3,7 +3,6 @@ use native.Mathlib.Omega.{arith}
 use mathlib.Core.Path.{ap}
 use lib.ListN.{length}
 use Rattle.schedule.proofs.Walks.{own_one, put_one, put_none}
-use borrow.Author.Rules.{rules}
 use Rattle.schedule.proofs.put_number.Goals as goal
 
 pub bounds-schedule-at : goal.bounds-schedule-at

@@ -1,5 +1,4 @@
 -- `schedule::run_value` meets its contract. Assumes nothing.
-use borrow.Author.Rules.{rules}
 use Rattle.schedule.proofs.run_value.Goals as goal
 
 pub returns-then-was_run : goal.returns-then-was_run

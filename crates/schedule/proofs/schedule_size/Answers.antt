@@ -1,8 +1,7 @@
 -- `schedule::schedule_size` meets its contract. Assumes nothing.
 use native.Mathlib.Omega.{arith}
 use borrow.Author.Rules.{rules}
-use Prim.Native.Nat.{◌+◌, ◌-◌}
-use Rattle.schedule.proofs.Sizes.{Sizing, sizing_start, sizing_more, sizing_few, sizing_end}
+use Rattle.schedule.proofs.Sizes.{sizing_start, sizing_more, sizing_few, sizing_end}
 use Rattle.schedule.proofs.schedule_size.Goals as goal
 
 pub loop-k-init : goal.loop-k-init

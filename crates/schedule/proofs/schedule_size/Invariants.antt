@@ -1,8 +1,6 @@
 -- `schedule::schedule_size` meets its contract. Assumes nothing.
-use native.Mathlib.Omega.{arith}
-use borrow.Author.Rules.{rules}
 use Prim.Native.Nat.{◌+◌, ◌-◌}
-use Rattle.schedule.proofs.Sizes.{Sizing, sizing_start, sizing_more, sizing_few, sizing_end}
+use Rattle.schedule.proofs.Sizes.{Sizing}
 use Rattle.schedule.proofs.schedule_size.Given as goal
 
 abbrev pub invariant-loop-k : goal.invariant-loop-k

@@ -1,8 +1,6 @@
 -- `schedule::write_all_values` meets its contract. Assumes nothing.
 use native.Mathlib.Omega.{arith}
-use borrow.Author.Rules.{rules}
-use Prim.Native.Nat.{◌-◌}
-use Rattle.schedule.proofs.Walks.{Threads, threads_start, threads_next, threads_more, threads_end}
+use Rattle.schedule.proofs.Walks.{threads_start, threads_next, threads_more, threads_end}
 use Rattle.schedule.proofs.write_all_values.Goals as goal
 
 pub loop-t-init : goal.loop-t-init

@@ -1,8 +1,6 @@
 -- `schedule::write_all_values` meets its contract. Assumes nothing.
-use native.Mathlib.Omega.{arith}
-use borrow.Author.Rules.{rules}
 use Prim.Native.Nat.{◌-◌}
-use Rattle.schedule.proofs.Walks.{Threads, threads_start, threads_next, threads_more, threads_end}
+use Rattle.schedule.proofs.Walks.{Threads}
 use Rattle.schedule.proofs.write_all_values.Given as goal
 
 abbrev pub invariant-loop-t : goal.invariant-loop-t

@@ -3,10 +3,9 @@ use mathlib.Core.Path.{◌≡◌, sym, ap, ◌∙◌}
 use Prim.Native.Nat.{ℕ, suc, ◌+◌, ◌-◌, ◌%◌}
 use native.Mathlib.Omega.{arith}
 use native.Mathlib.Nat.{zero-mod}
-use borrow.Author.Rules.{rules}
 use Rattle.model.specs.CaseFile.{switch_count}
 use Rattle.laws.proofs.Writing.{put_single, writing_start, writing_more, writing_end}
-use Rattle.schedule.proofs.Counts.{Lengths, turn_few, lengths_go_on, lengths_end}
+use Rattle.schedule.proofs.Counts.{turn_few, lengths_go_on, lengths_end}
 use Rattle.schedule.proofs.write_lengths.Goals as goal
 
 pub loop-i-init : goal.loop-i-init

@@ -1,12 +1,6 @@
 -- `schedule::write_lengths` meets its contract. Assumes nothing.
-use mathlib.Core.Path.{◌≡◌, sym, ap, ◌∙◌}
-use Prim.Native.Nat.{ℕ, suc, ◌+◌, ◌-◌, ◌%◌}
-use native.Mathlib.Omega.{arith}
-use native.Mathlib.Nat.{zero-mod}
-use borrow.Author.Rules.{rules}
-use Rattle.model.specs.CaseFile.{switch_count}
-use Rattle.laws.proofs.Writing.{put_single, writing_start, writing_more, writing_end}
-use Rattle.schedule.proofs.Counts.{Lengths, turn_few, lengths_go_on, lengths_end}
+use Prim.Native.Nat.{◌+◌, ◌-◌}
+use Rattle.schedule.proofs.Counts.{Lengths}
 use Rattle.schedule.proofs.write_lengths.Given as goal
 
 abbrev pub invariant-loop-i : goal.invariant-loop-i

@@ -1,9 +1,6 @@
 -- `schedule::write_values` meets its contract. Assumes nothing.
 use native.Mathlib.Omega.{arith}
-use borrow.Author.Rules.{rules}
-use lib.ListN.{length}
-use Rattle.laws.specs.Accepted.{lines_from}
-use Rattle.schedule.proofs.Walks.{Walk, walk_start, walk_room, walk_few, walk_less, walk_more, walk_end}
+use Rattle.schedule.proofs.Walks.{walk_start, walk_room, walk_few, walk_less, walk_more, walk_end}
 use Rattle.schedule.proofs.write_values.Goals as goal
 
 pub loop-k-init : goal.loop-k-init

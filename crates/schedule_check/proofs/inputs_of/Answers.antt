@@ -1,9 +1,6 @@
 -- `schedule_check::inputs_of` meets its contract. The invariant: the threads that are left decide. Assumes nothing.
-use Prim.Native.Nat.{◌-◌}
 use native.Mathlib.Omega.{arith}
-use Rattle.schedule_check.specs.InputValues.{inputs}
-use Rattle.schedule_check.proofs.InputLoops.{Spreading, spreading_start, spreading_more, spreading_end}
-use borrow.Author.Rules.{rules}
+use Rattle.schedule_check.proofs.InputLoops.{spreading_start, spreading_more, spreading_end}
 use Rattle.schedule_check.proofs.inputs_of.Goals as goal
 
 pub loop-t-init : goal.loop-t-init

@@ -1,8 +1,6 @@
 -- `schedule_check::lengths_fit` meets its contract. The invariant: the threads that are left decide. Assumes nothing.
 use Prim.Native.Nat.{◌-◌}
-use native.Mathlib.Omega.{arith}
-use Rattle.schedule_check.proofs.Sums.{Comparing, comparing_start, comparing_more, comparing_fails, comparing_end}
-use borrow.Author.Rules.{rules}
+use Rattle.schedule_check.proofs.Sums.{Comparing}
 use Rattle.schedule_check.proofs.lengths_fit.Given as goal
 
 abbrev pub invariant-loop-t : goal.invariant-loop-t

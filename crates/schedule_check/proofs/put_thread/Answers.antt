@@ -1,11 +1,6 @@
 -- `schedule_check::put_thread` meets its contract. The invariant: the lines that are left decide. Assumes nothing.
-use mathlib.Core.Logic.{⊎_elim}
 use native.Mathlib.Omega.{arith}
-use lib.ListN.{length}
-use Rattle.laws.specs.Accepted.{lines_from}
-use Rattle.schedule_check.specs.InputValues.{inputs}
-use Rattle.schedule_check.proofs.InputLoops.{Putting, putting_start, putting_few, putting_more, putting_end, fewer_lines, next_is_input, next_is_other}
-use borrow.Author.Rules.{rules}
+use Rattle.schedule_check.proofs.InputLoops.{putting_start, putting_few, putting_more, putting_end, fewer_lines, next_is_input, next_is_other}
 use Rattle.schedule_check.proofs.put_thread.Goals as goal
 use Rattle.schedule_check.proofs.put_thread.Goals.{in-4, in_default}
 
@@ -22,8 +17,8 @@ pub loop-k-preserved : goal.loop-k-preserved
 loop-k-preserved c =
     putting_more c.requires _ _ c.loop-k.invariant c.loop-k-test.true c.next_of-k.ensures c.kind_of-kind.ensures
     (elim c.match-kind.branch [
-      in-4 w ↦ next_is_input _ _ _ _ _ _ w.in-4.is w.at.ensures w.given-is w.used-is
-    | in_default w ↦ next_is_other _ _ _ _ _ (λ e. omega arith) w.given-is w.used-is
+      | in-4 w ↦ next_is_input _ _ _ _ _ _ w.in-4.is w.at.ensures w.given-is w.used-is
+      | in_default w ↦ next_is_other _ _ _ _ _ (λ e. omega arith) w.given-is w.used-is
     ])
 
 pub returns : goal.returns

@@ -1,11 +1,8 @@
 -- `schedule_check::put_thread` meets its contract. The invariant: the lines that are left decide. Assumes nothing.
-use mathlib.Core.Logic.{⊎_elim}
-use native.Mathlib.Omega.{arith}
 use lib.ListN.{length}
 use Rattle.laws.specs.Accepted.{lines_from}
 use Rattle.schedule_check.specs.InputValues.{inputs}
-use Rattle.schedule_check.proofs.InputLoops.{Putting, putting_start, putting_few, putting_more, putting_end, fewer_lines, next_is_input, next_is_other}
-use borrow.Author.Rules.{rules}
+use Rattle.schedule_check.proofs.InputLoops.{Putting}
 use Rattle.schedule_check.proofs.put_thread.Given as goal
 
 abbrev pub invariant-loop-k : goal.invariant-loop-k

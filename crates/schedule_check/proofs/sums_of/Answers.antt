@@ -1,10 +1,8 @@
 -- `schedule_check::sums_of` meets its contract. The invariant: the sums so far and the lengths that are left. Assumes nothing.
 use mathlib.Core.Path.{refl}
-use Prim.Native.Nat.{◌-◌, ◌%◌}
+use Prim.Native.Nat.{◌%◌}
 use native.Mathlib.Omega.{arith}
-use lib.ListN.{length}
-use Rattle.schedule_check.proofs.Sums.{Adding, adding_start, adding_more, adding_end, belongs}
-use borrow.Author.Rules.{rules}
+use Rattle.schedule_check.proofs.Sums.{adding_start, adding_more, adding_end, belongs}
 use Rattle.schedule_check.proofs.sums_of.Goals as goal
 
 pub loop-i-init : goal.loop-i-init

@@ -1,10 +1,7 @@
 -- `schedule_check::sums_of` meets its contract. The invariant: the sums so far and the lengths that are left. Assumes nothing.
-use mathlib.Core.Path.{refl}
-use Prim.Native.Nat.{◌-◌, ◌%◌}
-use native.Mathlib.Omega.{arith}
+use Prim.Native.Nat.{◌-◌}
 use lib.ListN.{length}
-use Rattle.schedule_check.proofs.Sums.{Adding, adding_start, adding_more, adding_end, belongs}
-use borrow.Author.Rules.{rules}
+use Rattle.schedule_check.proofs.Sums.{Adding}
 use Rattle.schedule_check.proofs.sums_of.Given as goal
 
 abbrev pub invariant-loop-i : goal.invariant-loop-i

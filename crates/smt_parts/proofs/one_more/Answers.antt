@@ -1,5 +1,4 @@
 -- `one_more` adds a record where there is room. Assumes nothing.
-use borrow.Author.Rules.{rules}
 use Rattle.smt_parts.proofs.Sources.{found_full, found_more}
 use Rattle.smt_parts.proofs.one_more.Goals as goal
 

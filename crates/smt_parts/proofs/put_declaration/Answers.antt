@@ -1,5 +1,4 @@
 -- `put_declaration` puts the words around a variable. Assumes nothing.
-use borrow.Author.Rules.{rules}
 use Rattle.smt_parts.proofs.Declarations.{declaration_spelt}
 use Rattle.smt_parts.proofs.put_declaration.Goals as goal
 

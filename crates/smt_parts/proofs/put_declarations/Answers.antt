@@ -1,7 +1,6 @@
 -- `put_declarations` puts a line after the other. Assumes nothing.
 use borrow.Author.Rules.{rules}
-use Prim.Native.Nat.{◌-◌}
-use Rattle.smt_parts.proofs.Declarations.{Declaring, declaring_start, declaring_more, declaring_end}
+use Rattle.smt_parts.proofs.Declarations.{declaring_start, declaring_more, declaring_end}
 use Rattle.smt_parts.proofs.put_declarations.Goals as goal
 
 pub loop-k-init : goal.loop-k-init

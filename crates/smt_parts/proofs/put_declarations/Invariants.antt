@@ -1,7 +1,6 @@
 -- `put_declarations` puts a line after the other. Assumes nothing.
-use borrow.Author.Rules.{rules}
 use Prim.Native.Nat.{◌-◌}
-use Rattle.smt_parts.proofs.Declarations.{Declaring, declaring_start, declaring_more, declaring_end}
+use Rattle.smt_parts.proofs.Declarations.{Declaring}
 use Rattle.smt_parts.proofs.put_declarations.Given as goal
 
 abbrev pub invariant-loop-k : goal.invariant-loop-k

@@ -1,5 +1,4 @@
 -- `put_eight` puts both parts in their words. Assumes nothing.
-use borrow.Author.Rules.{rules}
 use Rattle.linked.proofs.Variables.{or_not_run_spelt}
 use Rattle.smt_parts.proofs.Order.{together_spelt}
 use Rattle.smt_parts.proofs.put_eight.Goals as goal

@@ -1,5 +1,4 @@
 -- `put_last` puts a block number and the most that it may be. Assumes nothing.
-use borrow.Author.Rules.{rules}
 use Rattle.smt_parts.proofs.Order.{last_spelt}
 use Rattle.smt_parts.proofs.put_last.Goals as goal
 

@@ -1,5 +1,4 @@
 -- `put_one` puts two block numbers. Assumes nothing.
-use borrow.Author.Rules.{rules}
 use Rattle.smt_parts.proofs.Order.{one_spelt}
 use Rattle.smt_parts.proofs.put_one.Goals as goal
 

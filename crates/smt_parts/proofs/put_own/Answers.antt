@@ -1,5 +1,4 @@
 -- `put_own` puts a remainder and a number. Assumes nothing.
-use borrow.Author.Rules.{rules}
 use Rattle.smt_parts.proofs.Order.{own_spelt}
 use Rattle.smt_parts.proofs.put_own.Goals as goal
 

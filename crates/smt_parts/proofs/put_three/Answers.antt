@@ -1,5 +1,4 @@
 -- `put_three` puts both parts in their words. Assumes nothing.
-use borrow.Author.Rules.{rules}
 use Rattle.linked.proofs.Variables.{or_not_run_spelt}
 use Rattle.smt_parts.proofs.put_three.Goals as goal
 

@@ -1,8 +1,7 @@
 -- `sources_of` takes a record after the other. Assumes nothing.
-use borrow.Author.Rules.{rules}
 use Prim.Native.Nat.{◌+◌, ◌-◌}
 use Rattle.model.specs.CaseFile.{records}
-use Rattle.smt_parts.proofs.Sources.{Sourcing, sourcing_start, sourcing_more, sourcing_end}
+use Rattle.smt_parts.proofs.Sources.{Sourcing}
 use Rattle.smt_parts.proofs.sources_of.Given as goal
 
 abbrev pub invariant-loop-k : goal.invariant-loop-k

@@ -1,5 +1,4 @@
 -- `with_source` adds inputs. Assumes nothing.
-use borrow.Author.Rules.{rules}
 use Rattle.smt_parts.proofs.Sources.{found_input, found_other}
 use Rattle.smt_parts.proofs.with_source.Goals as goal
 

@@ -1,5 +1,4 @@
 -- `fits` measures the text where some text would not fit. Assumes nothing.
-use borrow.Author.Rules.{rules}
 use Rattle.smt_text.proofs.Answer.{largest_room_fits}
 use Rattle.smt_text.proofs.fits.Goals as goal
 

@@ -1,5 +1,4 @@
 -- `put_assertion` puts the formula between its words. Assumes nothing.
-use borrow.Author.Rules.{rules}
 use Rattle.smt_text.proofs.Assertions.{assertion_spelt}
 use Rattle.smt_text.proofs.put_assertion.Goals as goal
 

@@ -1,7 +1,6 @@
 -- `put_assertions` puts the rows one after the other. Assumes nothing.
 use borrow.Author.Rules.{rules}
-use Prim.Native.Nat.{◌-◌}
-use Rattle.smt_text.proofs.Assertions.{rows_few, row_handed, Asserting, asserting_start, asserting_more, asserting_end}
+use Rattle.smt_text.proofs.Assertions.{rows_few, row_handed, asserting_start, asserting_more, asserting_end}
 use Rattle.smt_text.proofs.put_assertions.Goals as goal
 
 pub loop-j-init : goal.loop-j-init

@@ -1,7 +1,6 @@
 -- `put_assertions` puts the rows one after the other. Assumes nothing.
-use borrow.Author.Rules.{rules}
 use Prim.Native.Nat.{◌-◌}
-use Rattle.smt_text.proofs.Assertions.{rows_few, row_handed, Asserting, asserting_start, asserting_more, asserting_end}
+use Rattle.smt_text.proofs.Assertions.{Asserting}
 use Rattle.smt_text.proofs.put_assertions.Given as goal
 
 abbrev pub invariant-loop-j : goal.invariant-loop-j

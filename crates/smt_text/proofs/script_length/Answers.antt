@@ -1,5 +1,4 @@
 -- `script_length` is the place after the text, in no bytes at all. Assumes nothing.
-use borrow.Author.Rules.{rules}
 use Rattle.smt_text.proofs.Answer.{size_spelt}
 use Rattle.smt_text.proofs.script_length.Goals as goal
 

@@ -1,5 +1,4 @@
 -- `smt_length` measures the text of an accepted case. Assumes nothing.
-use borrow.Author.Rules.{rules}
 use mathlib.Core.Path.{refl}
 use Rattle.smt_text.proofs.Answer.{table_handed, verdict_refused, length_refused, length_told}
 use Rattle.smt_text.proofs.smt_length.Goals as goal

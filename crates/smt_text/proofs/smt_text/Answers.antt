@@ -1,5 +1,4 @@
 -- `smt_text` writes the text of an accepted case. Assumes nothing.
-use borrow.Author.Rules.{rules}
 use mathlib.Core.Path.{refl}
 use Rattle.smt_text.proofs.Answer.{table_handed, verdict_refused, text_refused}
 use Rattle.smt_text.proofs.smt_text.Goals as goal

@@ -1,5 +1,4 @@
 -- `write_script` puts the parts of a script one after the other. Assumes nothing.
-use borrow.Author.Rules.{rules}
 use Rattle.smt_text.proofs.Assertions.{script_spelt}
 use Rattle.smt_text.proofs.write_script.Goals as goal
 

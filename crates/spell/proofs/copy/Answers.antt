@@ -1,9 +1,6 @@
 -- `copy` stores one byte after the other. Assumes nothing.
-use borrow.Author.Rules.{rules}
 use native.Mathlib.Omega.{arith}
-use Prim.Native.Nat.{◌-◌}
-use lib.ListN.{length}
-use Rattle.spell.proofs.Places.{Copying, copying_start, copying_more, copying_end}
+use Rattle.spell.proofs.Places.{copying_start, copying_more, copying_end}
 use Rattle.spell.proofs.copy.Goals as goal
 
 pub loop-j-init : goal.loop-j-init

@@ -1,9 +1,7 @@
 -- `copy` stores one byte after the other. Assumes nothing.
-use borrow.Author.Rules.{rules}
-use native.Mathlib.Omega.{arith}
 use Prim.Native.Nat.{◌-◌}
 use lib.ListN.{length}
-use Rattle.spell.proofs.Places.{Copying, copying_start, copying_more, copying_end}
+use Rattle.spell.proofs.Places.{Copying}
 use Rattle.spell.proofs.copy.Given as goal
 
 abbrev pub invariant-loop-j : goal.invariant-loop-j

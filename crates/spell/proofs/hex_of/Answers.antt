@@ -1,5 +1,4 @@
 -- `hex_of` is a digit or a letter. Assumes nothing.
-use borrow.Author.Rules.{rules}
 use Rattle.spell.proofs.Numbers.{hex_low, hex_high}
 use Rattle.spell.proofs.hex_of.Goals as goal
 

@@ -1,5 +1,4 @@
 -- `past` adds where the sum is no higher than the highest place. Assumes nothing.
-use borrow.Author.Rules.{rules}
 use native.Mathlib.Omega.{arith}
 use mathlib.Core.Path.{sym}
 use Rattle.spell.proofs.Spelling.{capped_below, capped_beyond}

@@ -1,5 +1,4 @@
 -- `put` copies the bytes where they fit. Assumes nothing.
-use borrow.Author.Rules.{rules}
 use mathlib.Core.Path.{sym, ◌∙◌}
 use borrow.Author.Tests.{leb-true}
 use Rattle.spell.proofs.Spelling.{spelt_in, spelt_out}

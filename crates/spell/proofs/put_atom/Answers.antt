@@ -1,5 +1,4 @@
 -- `put_atom` is by the kind of the atom. Assumes nothing.
-use borrow.Author.Rules.{rules}
 use Rattle.spell.proofs.Atoms.{atom_variable, atom_constant}
 use Rattle.spell.proofs.put_atom.Goals as goal
 

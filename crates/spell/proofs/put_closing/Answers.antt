@@ -1,7 +1,6 @@
 -- `put_closing` puts one after the other. Assumes nothing.
 use borrow.Author.Rules.{rules}
-use Prim.Native.Nat.{◌-◌}
-use Rattle.spell.proofs.Numbers.{Closing, closing_start, closing_more, closing_end}
+use Rattle.spell.proofs.Numbers.{closing_start, closing_more, closing_end}
 use Rattle.spell.proofs.put_closing.Goals as goal
 
 pub loop-j-init : goal.loop-j-init

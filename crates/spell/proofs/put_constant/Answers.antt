@@ -1,5 +1,4 @@
 -- `put_constant` puts six bytes. Assumes nothing.
-use borrow.Author.Rules.{rules}
 use Rattle.spell.proofs.Numbers.{spelt_as, four_digits}
 use Rattle.spell.proofs.put_constant.Goals as goal
 

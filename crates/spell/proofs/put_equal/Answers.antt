@@ -1,5 +1,4 @@
 -- `put_equal` puts a word and two atoms. Assumes nothing.
-use borrow.Author.Rules.{rules}
 use Rattle.spell.proofs.Atoms.{equal_spelt}
 use Rattle.spell.proofs.put_equal.Goals as goal
 

@@ -1,5 +1,4 @@
 -- `put_long` puts four digits or five. Assumes nothing.
-use borrow.Author.Rules.{rules}
 use Rattle.spell.proofs.Numbers.{spelt_as, four_long, five_long}
 use Rattle.spell.proofs.put_long.Goals as goal
 

@@ -1,5 +1,4 @@
 -- `put_two` puts one atom after the other. Assumes nothing.
-use borrow.Author.Rules.{rules}
 use Rattle.spell.proofs.Atoms.{two_spelt}
 use Rattle.spell.proofs.put_two.Goals as goal
 

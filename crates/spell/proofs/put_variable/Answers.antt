@@ -1,5 +1,4 @@
 -- `put_variable` puts the digits that there are. Assumes nothing.
-use borrow.Author.Rules.{rules}
 use Rattle.spell.proofs.Numbers.{spelt_as, one_digit, two_digits, three_digits, more_digits}
 use Rattle.spell.proofs.put_variable.Goals as goal
 

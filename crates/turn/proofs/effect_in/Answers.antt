@@ -7,7 +7,6 @@ use Rattle.model.specs.Line.{name_of_a, has_expression, name_of_target, guarded_
 use Rattle.line.proofs.KindNumbers.{kind_1, kind_2, kind_3, kind_4, kind_5, kind_6, kind_7, unlock_other, breaks_kind}
 use Rattle.line.proofs.Expressions.{reads_a, reads_target}
 use Rattle.turn.proofs.LineKinds.{in_does, stops_assume, stops_lock}
-use borrow.Author.Rules.{rules}
 use Rattle.turn.proofs.effect_in.Goals as goal
 
 pub returns-in-1 : goal.returns-in-1

@@ -1,6 +1,5 @@
 -- `turn::effect_of` meets its contract. Assumes nothing.
 use mathlib.Core.Path.{sym, ◌∙◌}
-use borrow.Author.Rules.{rules}
 use Rattle.turn.proofs.effect_of.Goals as goal
 
 pub returns-then-guarded : goal.returns-then-guarded

@@ -2,7 +2,6 @@
 use mathlib.Core.Path.{refl}
 use Rattle.line.proofs.KindNumbers.{kind_4, input_other}
 use Rattle.turn.proofs.LineKinds.{out_input, out_other}
-use borrow.Author.Rules.{rules}
 use Rattle.turn.proofs.effect_out.Goals as goal
 
 pub returns-in-4 : goal.returns-in-4

@@ -5,7 +5,6 @@ use Rattle.model.specs.Line.{name_of_target, guarded_out_value}
 use Rattle.model.specs.Machine.{look}
 use Rattle.line.proofs.KindNumbers.{target_other}
 use Rattle.turn.proofs.LineKinds.{old_other}
-use borrow.Author.Rules.{rules}
 use Rattle.turn.proofs.old_value.Goals as goal
 
 pub returns-in-1 : goal.returns-in-1

@@ -1,6 +1,5 @@
 -- `turn::put_record` meets its contract. Assumes nothing.
 use Rattle.turn.proofs.Traces.{put_none, put_one}
-use borrow.Author.Rules.{rules}
 use Rattle.turn.proofs.put_record.Goals as goal
 
 pub returns-else-second-trace : goal.returns-else-second-trace

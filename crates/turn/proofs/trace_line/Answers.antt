@@ -6,7 +6,6 @@ use Rattle.model.specs.Fill.{put_record}
 use Rattle.line.specs.LineReads.{reads_by}
 use Rattle.turn.proofs.LineKinds.{old_is_value}
 use Rattle.turn.proofs.Traces.{put_none}
-use borrow.Author.Rules.{rules}
 use Rattle.turn.proofs.trace_line.Goals as goal
 
 pub returns-then-trace-eq0 : goal.returns-then-trace-eq0

@@ -8,7 +8,6 @@ use Rattle.model.specs.Holds.{demand_met}
 use Rattle.line.proofs.KindNumbers.{kind_1, kind_2, kind_3, kind_4, kind_5, kind_6, kind_7, unlock_other, breaks_kind}
 use Rattle.line.proofs.Expressions.{reads_a, reads_target}
 use Rattle.value_check.proofs.Asking.{asks_in, lock_in}
-use borrow.Author.Rules.{rules}
 use Rattle.value_check.proofs.asked_in.Goals as goal
 
 pub returns-in-1 : goal.returns-in-1

@@ -1,7 +1,6 @@
 -- `value_check::asked_of` meets its contract. Assumes nothing.
 use Rattle.std.proofs.Common.{ap, not}
 use mathlib.Core.Path.{sym, ◌∙◌}
-use borrow.Author.Rules.{rules}
 use borrow.Author.Tests.{not-true, not-false}
 use Rattle.value_check.proofs.asked_of.Goals as goal
 

@@ -6,7 +6,6 @@ use Rattle.model.specs.Holds.{demand_met}
 use Rattle.line.proofs.KindNumbers.{kind_1, kind_2, kind_3, kind_4, kind_5, kind_6, kind_7, unlock_other}
 use Rattle.line.proofs.Expressions.{reads_target}
 use Rattle.value_check.proofs.Asking.{asks_out, lock_out}
-use borrow.Author.Rules.{rules}
 use Rattle.value_check.proofs.asked_out.Goals as goal
 
 pub returns-in-1 : goal.returns-in-1

@@ -1,6 +1,5 @@
 -- `value_check::asked_unrun` meets its contract. Assumes nothing.
 use Rattle.value_check.proofs.Asking.{asks_unrun}
-use borrow.Author.Rules.{rules}
 use Rattle.value_check.proofs.asked_unrun.Goals as goal
 
 pub returns : goal.returns

@@ -3,7 +3,6 @@ use Rattle.std.proofs.Common.{ap, not}
 use mathlib.Core.Path.{refl, sym, ◌∙◌}
 use mathlib.Core.Bool.{true≢false}
 use native.Mathlib.Omega.{arith}
-use borrow.Author.Rules.{rules}
 use borrow.Author.Tests.{not-true, not-false}
 use Rattle.laws.proofs.Unrun.{within_blocks_of_run}
 use Rattle.value_check.proofs.enter_block.Goals as goal

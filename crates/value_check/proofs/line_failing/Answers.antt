@@ -1,5 +1,4 @@
 -- `value_check::line_failing` meets its contract. Assumes nothing.
-use borrow.Author.Rules.{rules}
 use borrow.Author.Tests.{eq-eqb, ne_eqb}
 use Rattle.value_check.specs.Asking.{failing_asked}
 use Rattle.value_check.proofs.line_failing.Goals as goal

@@ -1,5 +1,4 @@
 -- `value_check::note_copy` meets its contract. Assumes nothing.
-use borrow.Author.Rules.{rules}
 use Rattle.value_check.proofs.note_copy.Goals as goal
 
 pub returns : goal.returns

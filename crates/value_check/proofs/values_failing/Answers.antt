@@ -1,8 +1,6 @@
 -- `value_check::values_failing` meets its contract. Assumes nothing.
-use Prim.Native.Nat.{◌-◌}
 use native.Mathlib.Omega.{arith}
-use Rattle.value_check.proofs.AllWalk.{AllWalk, all_start, all_end, all_low, all_next, all_found, all_more}
-use borrow.Author.Rules.{rules}
+use Rattle.value_check.proofs.AllWalk.{all_start, all_end, all_low, all_next, all_found, all_more}
 use Rattle.value_check.proofs.values_failing.Goals as goal
 
 pub loop-t-init : goal.loop-t-init

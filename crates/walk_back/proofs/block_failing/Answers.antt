@@ -1,8 +1,6 @@
 -- `walk_back::block_failing` meets its contract. Assumes nothing.
-use Prim.Native.Nat.{◌-◌}
 use native.Mathlib.Omega.{arith}
-use Rattle.walk_back.proofs.Blocks.{block_thread, BlockWalk, block_start, block_end, block_room, block_found, block_more}
-use borrow.Author.Rules.{rules}
+use Rattle.walk_back.proofs.Blocks.{block_thread, block_start, block_end, block_room, block_found, block_more}
 use Rattle.walk_back.proofs.block_failing.Goals as goal
 
 pub overflow_cast-t : goal.overflow_cast-t

@@ -1,7 +1,5 @@
 -- `walk_back::blocks_failing` meets its contract. Assumes nothing.
-use Prim.Native.Nat.{◌-◌}
-use Rattle.walk_back.proofs.Blocks.{BlocksWalk, blocks_start, blocks_end, blocks_ready, blocks_found, blocks_more}
-use borrow.Author.Rules.{rules}
+use Rattle.walk_back.proofs.Blocks.{blocks_start, blocks_end, blocks_ready, blocks_found, blocks_more}
 use Rattle.walk_back.proofs.blocks_failing.Goals as goal
 
 pub loop-i-init : goal.loop-i-init

@@ -1,7 +1,6 @@
 -- `walk_back::blocks_failing` meets its contract. Assumes nothing.
 use Prim.Native.Nat.{◌-◌}
-use Rattle.walk_back.proofs.Blocks.{BlocksWalk, blocks_start, blocks_end, blocks_ready, blocks_found, blocks_more}
-use borrow.Author.Rules.{rules}
+use Rattle.walk_back.proofs.Blocks.{BlocksWalk}
 use Rattle.walk_back.proofs.blocks_failing.Given as goal
 
 abbrev pub invariant-loop-i : goal.invariant-loop-i

@@ -1,6 +1,5 @@
 -- `walk_back::decided_value` meets its contract. Assumes nothing.
 use borrow.Author.Tests.{eq-eqb, ne_eqb}
-use borrow.Author.Rules.{rules}
 use Rattle.walk_back.proofs.decided_value.Goals as goal
 
 pub returns-then-p-eq0 : goal.returns-then-p-eq0

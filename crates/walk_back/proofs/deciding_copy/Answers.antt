@@ -1,6 +1,6 @@
 -- `walk_back::deciding_copy` meets its contract. Assumes nothing.
 use mathlib.Core.Path.{refl}
-use Rattle.walk_back.proofs.Deciding.{DecidingWalk, deciding_spent, deciding_ends, deciding_found, deciding_goes_on}
+use Rattle.walk_back.proofs.Deciding.{deciding_spent, deciding_ends, deciding_found, deciding_goes_on}
 use borrow.Author.Rules.{rules}
 use Rattle.walk_back.proofs.deciding_copy.Goals as goal
 

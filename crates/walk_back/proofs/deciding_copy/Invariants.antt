@@ -1,7 +1,5 @@
 -- `walk_back::deciding_copy` meets its contract. Assumes nothing.
-use mathlib.Core.Path.{refl}
-use Rattle.walk_back.proofs.Deciding.{DecidingWalk, deciding_spent, deciding_ends, deciding_found, deciding_goes_on}
-use borrow.Author.Rules.{rules}
+use Rattle.walk_back.proofs.Deciding.{DecidingWalk}
 use Rattle.walk_back.proofs.deciding_copy.Given as goal
 
 abbrev pub invariant-chain : goal.invariant-chain

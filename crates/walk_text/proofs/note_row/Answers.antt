@@ -1,5 +1,4 @@
 -- `note_row` notes a row of its kind, and no other. Assumes nothing.
-use borrow.Author.Rules.{rules}
 use Rattle.walk_text.proofs.Noting.{other_row, own_row, far_row}
 use Rattle.walk_text.proofs.note_row.Goals as goal
 

@@ -1,7 +1,5 @@
 -- `note_rows` notes each row of the table. Assumes nothing.
-use borrow.Author.Rules.{rules}
-use Prim.Native.Nat.{◌-◌}
-use Rattle.walk_text.proofs.Noting.{Noting, noting_start, noting_more, noting_end}
+use Rattle.walk_text.proofs.Noting.{noting_start, noting_more, noting_end}
 use Rattle.walk_text.proofs.note_rows.Goals as goal
 
 pub loop-j-init : goal.loop-j-init

@@ -1,7 +1,6 @@
 -- `note_rows` notes each row of the table. Assumes nothing.
-use borrow.Author.Rules.{rules}
 use Prim.Native.Nat.{◌-◌}
-use Rattle.walk_text.proofs.Noting.{Noting, noting_start, noting_more, noting_end}
+use Rattle.walk_text.proofs.Noting.{Noting}
 use Rattle.walk_text.proofs.note_rows.Given as goal
 
 abbrev pub invariant-loop-j : goal.invariant-loop-j

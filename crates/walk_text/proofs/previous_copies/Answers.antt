@@ -1,5 +1,4 @@
 -- `previous_copies` notes the 4s of the table. Assumes nothing.
-use borrow.Author.Rules.{rules}
 use Rattle.walk_text.proofs.Previous.{copies_noted}
 use Rattle.walk_text.proofs.previous_copies.Goals as goal
 

@@ -1,7 +1,6 @@
 -- `put_copies` puts one copy after the other, from the last one back. Assumes nothing.
-use borrow.Author.Rules.{rules}
 use Prim.Native.Nat.{◌-◌}
-use Rattle.walk_text.proofs.CopyHeads.{Walking, walking_start, walking_more, walking_first, walking_spent}
+use Rattle.walk_text.proofs.CopyHeads.{Walking}
 use Rattle.walk_text.proofs.put_copies.Given as goal
 
 abbrev pub invariant-loop-many : goal.invariant-loop-many

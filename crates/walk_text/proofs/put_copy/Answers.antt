@@ -1,5 +1,4 @@
 -- `put_copy` puts a copy's question and its answer. Assumes nothing.
-use borrow.Author.Rules.{rules}
 use Rattle.walk_text.proofs.CopyHeads.{copy_spelt}
 use Rattle.walk_text.proofs.put_copy.Goals as goal
 

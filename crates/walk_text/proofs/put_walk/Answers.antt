@@ -1,5 +1,4 @@
 -- `put_walk` puts the copies, what stands innermost and what closes them. Assumes nothing.
-use borrow.Author.Rules.{rules}
 use Rattle.walk_text.proofs.CopyHeads.{walk_spelt}
 use Rattle.walk_text.proofs.put_walk.Goals as goal
 

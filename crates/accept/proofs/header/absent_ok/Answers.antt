@@ -1,5 +1,4 @@
 use Rattle.accept.proofs.Verdicts.{absent_is_ok}
-use borrow.Author.Rules.{rules}
 use Rattle.accept.proofs.header.absent_ok.Goals as goal
 
 pub returns : goal.returns

@@ -5,8 +5,7 @@ use native.Mathlib.Omega.{arith}
 use borrow.Author.Tests.{not-true, not-false}
 use Rattle.line.proofs.CaseCounts.{of_case_lem}
 use Rattle.turn.proofs.Steps.{step_strays, step_stops, step_goes, step_traced}
-use Rattle.turn.proofs.Blocks.{Stepping, stepping_start, stepping_on, block_ends, thread_ends, line_ends, run_ended}
-use borrow.Author.Rules.{rules}
+use Rattle.turn.proofs.Blocks.{stepping_start, stepping_on, block_ends, thread_ends, line_ends, run_ended}
 use Rattle.turn.proofs.Turn.block.Goals as goal
 
 pub returns-then-not-goes_on : goal.returns-then-not-goes_on

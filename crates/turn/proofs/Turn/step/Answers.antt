@@ -1,5 +1,4 @@
 -- `turn::Turn::step` meets its contract. Assumes nothing.
-use borrow.Author.Rules.{rules}
 use Rattle.turn.proofs.Turn.step.Goals as goal
 
 pub returns : goal.returns
