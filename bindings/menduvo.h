@@ -4,7 +4,7 @@
  * The calls are proved: what each of them answers, and what it leaves in each slice that it was lent, equals the definitions
  * in crates/model/specs (Accept, Answers, with what is filled in Fill, Listing, and of menduvo_take_line Taking, with the walk
  * itself in Copies) and crates/script/specs (Text), and every call returns. Not proved is how much of the stack a call takes. The
- * language has no static and no heap: the calls hold nothing between them, allocate nothing, and may be called from any thread.
+ * calls use no static and no heap: they hold nothing between them, allocate nothing, and may be called from any thread.
  *
  * A slice is a pointer and how many elements it has; those of menduvo_take_line have 8 and MENDUVO_NAMES, and come without a length.
  * The proof is about calls that keep three rules, which no call can test:

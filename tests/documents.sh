@@ -22,7 +22,7 @@ imports() {
 }
 
 # From the one statement and the exported calls, until nothing more is reached.
-all=$(imports crates/delivered/specs/Delivered.antt crates/menduvo/src/lib.rt | sort -u)
+all=$(imports crates/delivered/specs/Delivered.antt crates/menduvo/src/lib.rt crates/menduvo_c/src/lib.rt | sort -u)
 rest=
 while [ "$all" != "$rest" ]; do
     rest=$all

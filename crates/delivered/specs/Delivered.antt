@@ -1,6 +1,8 @@
--- The one statement. What the calls answer equals the definitions (each call's own theorem, for the calls that C and Rust link and
--- for those that they are made of), and about these same definitions demand 3 holds for every accepted case: so the claim is about
--- the code that is compiled, and it can be read off the numbers that the code hands out. It is proved in proofs/Delivered.antt.
+-- The one statement. What the calls answer equals the definitions (each call's own theorem, for the calls that answer in the document's
+-- numbers and for those that they are made of), and about these same definitions demand 3 holds for every accepted case: so the claim
+-- is about the code that is compiled, and it can be read off the numbers that the code hands out. What C and Rust link is `menduvo_c`:
+-- each of its functions has the clauses of the one of this name here, calls it and nothing else, and is proved by that crate's check.
+-- It is proved in proofs/Delivered.antt.
 -- Assumes nothing.
 use Rattle.std.specs.Prelude.{◌≡◌, ◌↔◌, ℕ, ◌≤◌, List, length}
 use Rattle.model.specs.Word.{AllBelow}
@@ -49,7 +51,7 @@ pub record Delivered (M : Type 1) : Type 2 where
   pub smt_length : smt_length_statement.statement M
   pub smt_text_spec : smt_text_statement.statement M
   pub take_line_lem : take_line_statement.statement M
-  -- the calls that C and Rust link, whose answers are numbers;
+  -- the calls of the public library, whose answers are numbers;
   pub menduvo_accept : exported_accept_statement.statement M
   pub menduvo_encode : exported_encode_statement.statement M
   pub menduvo_check : exported_check_statement.statement M
