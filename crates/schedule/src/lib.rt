@@ -57,6 +57,7 @@ pub fn write_schedule(case: &[u8], assignment: &[u16], schedule: &mut [u16])
 }
 
 // The thread of the next block, where this block's is thread t of so many.
+#[tactic(auto, using(crate::proofs::Counts::after_last, crate::proofs::Counts::after_other))]
 fn next_thread(t: usize, many: usize) -> usize
     requires { t < many }
     ensures { (i : ℕ) → t ≡ i % many → result ≡ (i + 1) % many }
