@@ -86,7 +86,7 @@ check() {
 # is not proved.
 judge() {
     local in_proof='^\./proofs/[^:]*:[0-9]+:[0-9]+: error: (`[^`]+`( is not admitted)?: |[0-9]+ declarations? that depends? on `)'
-    local unfit=' in scope|clause|pattern|has no field|has no `[^`]*` that can be named' errors ends
+    local unfit=' in scope|clause|pattern|has no `[^`]*` that can be named' errors ends
     errors=$(grep -E '^\./[^ ]*: error: ' "$1")
     ends=$(tail -n 2 "$1")
     if [[ $ends = logic=proved\ *$'\nexit status 0' ]]; then
