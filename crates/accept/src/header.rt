@@ -15,7 +15,7 @@ pub fn size_ok(case: &[u8]) -> bool
         return false;
     }
     let bytes = n - HEADER_BYTES;
-    (bytes % RECORD_BYTES == 0) & (bytes / RECORD_BYTES <= MOST_RECORDS)
+    bytes % RECORD_BYTES == 0 && bytes / RECORD_BYTES <= MOST_RECORDS
 }
 
 // 2
@@ -23,8 +23,7 @@ pub fn threads_ok(case: &[u8]) -> bool
     requires { Sized case.now }
     ensures { result ≡ threads_ok case.now }
 {
-    let threads = threads(case);
-    (model::LEAST_THREADS <= threads) & (threads <= model::MOST_THREADS)
+    (model::LEAST_THREADS..=model::MOST_THREADS).contains(&threads(case))
 }
 
 // 3
@@ -40,10 +39,11 @@ pub fn items_ok(case: &[u8]) -> bool
     requires { Sized case.now }
     ensures { result ≡ items_ok case.now }
 {
-    (globals(case) <= model::MOST_GLOBALS) & (mutexes(case) <= model::MOST_MUTEXES)
+    globals(case) <= model::MOST_GLOBALS && mutexes(case) <= model::MOST_MUTEXES
 }
 
 // 5
+#[tactic(auto, using(crate::proofs::Absent::absent_is_ok))]
 pub fn absent_ok(case: &[u8]) -> bool
     requires { Sized case.now }
     ensures { result ≡ absent_ok case.now }
@@ -51,5 +51,5 @@ pub fn absent_ok(case: &[u8]) -> bool
     let threads = threads(case) as usize;
     let globals = globals(case) as usize;
     all_at_most(case, FIRSTS, threads, THREADS, 0)
-        & all_at_most(case, INITIALS, globals, model::MOST_GLOBALS as usize, 0)
+        && all_at_most(case, INITIALS, globals, model::MOST_GLOBALS as usize, 0)
 }

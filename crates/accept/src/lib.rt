@@ -7,60 +7,30 @@ ghost use Rattle.accept.specs.HeaderPassed.{HeaderPassed};
 
 mod header; // header.rt: checks 1 to 5
 
-use model::Verdict;
+use model::Refusal;
 
 // Checks 1 to 9: the first that fails gives the refusal.
-pub fn accept(case: &[u8]) -> Verdict
+#[tactic(auto, using(laws::proofs::Accepted::sized_of, laws::proofs::OnCase::check_passed), unfolding(model::specs::Accept::verdict))]
+pub fn accept(case: &[u8]) -> Result<(), Refusal>
     ensures { result ≡ verdict case.now }
 {
-    if !header::size_ok(case) {
-        return Verdict::Refused {
-            number: 1,
-            place: 0,
-        };
-    }
-    if !header::threads_ok(case) {
-        return Verdict::Refused {
-            number: 2,
-            place: 0,
-        };
-    }
-    if !header::switches_ok(case) {
-        return Verdict::Refused {
-            number: 3,
-            place: 0,
-        };
-    }
-    if !header::items_ok(case) {
-        return Verdict::Refused {
-            number: 4,
-            place: 0,
-        };
-    }
-    if !header::absent_ok(case) {
-        return Verdict::Refused {
-            number: 5,
-            place: 0,
-        };
-    }
+    Refusal::Size.unless(header::size_ok(case))?;
+    Refusal::Threads.unless(header::threads_ok(case))?;
+    Refusal::Switches.unless(header::switches_ok(case))?;
+    Refusal::Counts.unless(header::items_ok(case))?;
+    Refusal::Absent.unless(header::absent_ok(case))?;
     accept_records(case)
 }
 
 // Checks 6 to 9 of a case that passes 1 to 5.
-fn accept_records(case: &[u8]) -> Verdict
+#[tactic(auto, unfolding(model::specs::Accept::verdict))]
+fn accept_records(case: &[u8]) -> Result<(), Refusal>
     requires { HeaderPassed case.now }
     ensures { result ≡ verdict case.now }
 {
-    let number = links::refusal(case);
-    if number != 0 {
-        return Verdict::Refused { number, place: 0 };
+    links::check(case)?;
+    match rules::broken_record(case) {
+        Some(record) => Err(Refusal::Fields(record)),
+        None => Ok(()),
     }
-    let broken = rules::broken_record(case);
-    if broken != 0 {
-        return Verdict::Refused {
-            number: 9,
-            place: broken,
-        };
-    }
-    Verdict::Accepted
 }

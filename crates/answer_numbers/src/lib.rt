@@ -1,31 +1,114 @@
 // The answers of the calls in the document's numbers, as C and Rust get them.
 #![tactic(auto)]
 
-ghost use Rattle.std.specs.Prelude.{◌≡◌, ◌≤◌};
+ghost use Rattle.std.specs.Prelude.{◌≡◌, ◌≤◌, Result, Ok, Err, refl};
 ghost use Rattle.model.specs.Limits.{most_listing_bytes};
-ghost use Rattle.model.specs.Answers.{refused_numbers, answer_numbers, verdict_numbers, encoded_numbers, checked_numbers, decoded_numbers, replayed_numbers, filled_numbers};
+ghost use Rattle.model.specs.declared.Refusal.{Refusal};
+ghost use Rattle.model.specs.declared.Numbers.{Numbers};
+ghost use Rattle.model.specs.Refusals.{refusal_number, refusal_place};
+ghost use Rattle.model.specs.Answers.{refused_numbers, answer_numbers, verdict_numbers, encoded_numbers, checked_numbers, decoded_numbers, replayed_numbers};
 ghost use Rattle.model.specs.Listing.{listed_numbers};
 ghost use Rattle.model.specs.Taking.{taken_numbers};
 ghost use Rattle.script.specs.Text.{spelled_numbers};
 
-use model::{
-    Checked, CopyNumbers, Decoded, Encoded, Filled, Listed, Numbers, Replayed, Taken, Verdict,
-};
-use script::{Spelled, TextNumbers};
+use model::{Checked, Copies, CopyNumbers, Numbers, Refusal, Replayed, TableSize};
+use script::TextNumbers;
 
-fn refusal(number: u16, place: u16) -> Numbers
-    ensures { result ≡ refused_numbers number place }
+// What a call answers that does not refuse.
+pub trait Answer: Sized {
+    // The document's numbers for each case of the call's answer.
+    ghost told: { Result Self Refusal → Numbers };
+
+    // The numbers of an answer.
+    fn numbers(self) -> Numbers
+        ensures { result ≡ told (Ok self) };
+
+    // Every call tells a refusal alike.
+    ghost refusals: { (e : Refusal) → told (Err e) ≡ refused_numbers (refusal_number e) (refusal_place e) };
+}
+
+// The call that only takes a case, or refuses it.
+impl Answer for () {
+    ghost told = { verdict_numbers };
+
+    ghost refusals = { λ e. refl };
+
+    fn numbers(self) -> Numbers {
+        answered(1, 0, 0)
+    }
+}
+
+impl Answer for TableSize {
+    ghost told = { encoded_numbers };
+
+    ghost refusals = { λ e. refl };
+
+    fn numbers(self) -> Numbers {
+        answered(1, self.constraints, self.variables)
+    }
+}
+
+impl Answer for Checked {
+    ghost told = { checked_numbers };
+
+    ghost refusals = { λ e. refl };
+
+    fn numbers(self) -> Numbers {
+        match self {
+            Checked::Meets => answered(1, 0, 0),
+            Checked::Fails(constraint) => answered(2, constraint, 0),
+        }
+    }
+}
+
+impl Answer for Replayed {
+    ghost told = { replayed_numbers };
+
+    ghost refusals = { λ e. refl };
+
+    fn numbers(self) -> Numbers {
+        match self {
+            Replayed::Violated(k) => answered(1, k, 0),
+            Replayed::Clean => answered(2, 0, 0),
+            Replayed::CutOff(k) => answered(3, k, 0),
+        }
+    }
+}
+
+// The calls that say how many numbers they wrote: the decoder, and the filler, whose `filled_numbers` are the same.
+impl Answer for u16 {
+    ghost told = { decoded_numbers };
+
+    ghost refusals = { λ e. refl };
+
+    fn numbers(self) -> Numbers {
+        answered(1, self, 0)
+    }
+}
+
+// A call's answer in numbers.
+pub fn numbers_of<T: Answer>(answer: Result<T, Refusal>) -> Numbers
+    ensures { result ≡ T.told answer }
+{
+    match answer {
+        Ok(answer) => answer.numbers(),
+        Err(refusal) => refused(refusal),
+    }
+}
+
+fn refused(why: Refusal) -> Numbers
+    ensures { result ≡ refused_numbers (refusal_number why) (refusal_place why) }
 {
     Numbers {
-        refusal: number,
-        place,
+        refusal: why.number(),
+        place: why.place(),
         answer: 0,
         first: 0,
         second: 0,
     }
 }
 
-fn answer(answer: u16, first: u16, second: u16) -> Numbers
+fn answered(answer: u16, first: u16, second: u16) -> Numbers
     ensures { result ≡ answer_numbers answer first second }
 {
     Numbers {
@@ -37,116 +120,51 @@ fn answer(answer: u16, first: u16, second: u16) -> Numbers
     }
 }
 
-pub fn verdict_numbers(v: Verdict) -> Numbers
-    ensures { result ≡ verdict_numbers v }
+// A listing's length is a number of 16 bits: what the code holds as `usize` has to be known to fit, so this is no `Answer`.
+pub fn listed_numbers(listed: Result<usize, Refusal>) -> Numbers
+    requires { (listed_numbers listed).first ≤ most_listing_bytes }
+    ensures { result ≡ listed_numbers listed }
 {
-    match v {
-        Verdict::Accepted => answer(1, 0, 0),
-        Verdict::Refused { number, place } => refusal(number, place),
-    }
-}
-
-pub fn encoded_numbers(e: Encoded) -> Numbers
-    ensures { result ≡ encoded_numbers e }
-{
-    match e {
-        Encoded::Table {
-            constraints,
-            variables,
-        } => answer(1, constraints, variables),
-        Encoded::Refused { number, place } => refusal(number, place),
-    }
-}
-
-pub fn checked_numbers(c: Checked) -> Numbers
-    ensures { result ≡ checked_numbers c }
-{
-    match c {
-        Checked::Meets => answer(1, 0, 0),
-        Checked::Fails(constraint) => answer(2, constraint, 0),
-        Checked::Refused { number, place } => refusal(number, place),
-    }
-}
-
-pub fn decoded_numbers(d: Decoded) -> Numbers
-    ensures { result ≡ decoded_numbers d }
-{
-    match d {
-        Decoded::Schedule { numbers } => answer(1, numbers, 0),
-        Decoded::Refused { number, place } => refusal(number, place),
-    }
-}
-
-pub fn replayed_numbers(p: Replayed) -> Numbers
-    ensures { result ≡ replayed_numbers p }
-{
-    match p {
-        Replayed::Violated(k) => answer(1, k, 0),
-        Replayed::Clean => answer(2, 0, 0),
-        Replayed::CutOff(k) => answer(3, k, 0),
-        Replayed::Refused { number, place } => refusal(number, place),
-    }
-}
-
-// A listing's length is a number of 16 bits.
-pub fn filled_numbers(f: Filled) -> Numbers
-    ensures { result ≡ filled_numbers f }
-{
-    match f {
-        Filled::Assignment { numbers } => answer(1, numbers, 0),
-        Filled::Refused { number, place } => refusal(number, place),
-    }
-}
-
-pub fn listed_numbers(l: Listed) -> Numbers
-    requires { (listed_numbers l).first ≤ most_listing_bytes }
-    ensures { result ≡ listed_numbers l }
-{
-    match l {
-        Listed::Text { bytes } => answer(1, bytes as u16, 0),
-        Listed::Refused { number, place } => refusal(number, place),
+    match listed {
+        Ok(bytes) => answered(1, bytes as u16, 0),
+        Err(refusal) => refused(refusal),
     }
 }
 
 // A text may be longer than a number of 16 bits says, so its length has a place of its own.
-pub fn spelled_numbers(s: Spelled) -> TextNumbers
-    ensures { result ≡ spelled_numbers s }
+pub fn spelled_numbers(spelled: Result<usize, Refusal>) -> TextNumbers
+    ensures { result ≡ spelled_numbers spelled }
 {
-    match s {
-        Spelled::Text { bytes } => TextNumbers {
+    match spelled {
+        Ok(bytes) => TextNumbers {
             refusal: 0,
             place: 0,
             bytes,
         },
-        Spelled::Refused { number, place } => TextNumbers {
-            refusal: number,
-            place,
+        Err(refusal) => TextNumbers {
+            refusal: refusal.number(),
+            place: refusal.place(),
             bytes: 0,
         },
     }
 }
 
 // The copies of a line are four numbers, so they have places of their own.
-pub fn taken_numbers(t: Taken) -> CopyNumbers
-    ensures { result ≡ taken_numbers t }
+pub fn taken_numbers(taken: Result<Copies, Refusal>) -> CopyNumbers
+    ensures { result ≡ taken_numbers taken }
 {
-    match t {
-        Taken::Copies {
-            guard,
-            a,
-            b,
-            target,
-        } => CopyNumbers {
+    match taken {
+        Ok(copies) => CopyNumbers {
             refusal: 0,
             place: 0,
-            guard,
-            a,
-            b,
-            target,
+            guard: copies.guard,
+            a: copies.a,
+            b: copies.b,
+            target: copies.target,
         },
-        Taken::Refused { number, place } => CopyNumbers {
-            refusal: number,
-            place,
+        Err(refusal) => CopyNumbers {
+            refusal: refusal.number(),
+            place: refusal.place(),
             guard: 0,
             a: 0,
             b: 0,

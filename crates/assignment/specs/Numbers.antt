@@ -38,8 +38,3 @@ pub record HasItems (xs : List ℕ) (place : ℕ) : Type 0 where
 pub record ItemsFrom (place count : ℕ) : Type 0 where
   pub low : place ≤ most_variables
   pub few : count ≤ most_items
-
--- An accepted case, and a number that a block can have.
-pub record AtBlock (bytes : List ℕ) (i : ℕ) : Type 0 where
-  pub accepted : Accepted bytes
-  pub block : i ≤ most_switches

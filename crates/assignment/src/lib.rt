@@ -2,16 +2,15 @@
 // starts.
 #![tactic(auto)]
 
-ghost use Rattle.std.specs.Prelude.{◌≡◌, ◌-◌, ◌*◌};
+ghost use Rattle.std.specs.Prelude.{◌≡◌, ◌-◌, ◌*◌, ◌≤◌};
 ghost use Rattle.model.specs.Word.{word_size};
-ghost use Rattle.model.specs.Limits.{most_items};
+ghost use Rattle.model.specs.Limits.{most_switches, most_items};
 ghost use Rattle.model.specs.CaseFile.{case_of};
 ghost use Rattle.model.specs.Assignment.{was_run};
-ghost use Rattle.laws.specs.Accepted.{Accepted};
 ghost use Rattle.laws.specs.Bounded.{Bounded};
-ghost use Rattle.assignment.specs.Numbers.{record_block, record_value, Filled, number_from, StartOf, HasItems, ItemsFrom, AtBlock};
+ghost use Rattle.assignment.specs.Numbers.{record_block, record_value, Filled, number_from, StartOf, HasItems, ItemsFrom};
 
-use case_file::{first_items, items, records, switches};
+use case_file::{Case, first_items, records, switches};
 use model::ITEMS;
 use numbers::at;
 
@@ -19,10 +18,7 @@ use numbers::at;
 fn start_of(k: u16) -> usize
     ensures { Bounded (2 * (k - 1)) (2 * (word_size - 1)) result }
 {
-    if k == 0 {
-        return 0;
-    }
-    2 * (k as usize - 1)
+    2 * (k as usize).saturating_sub(1)
 }
 
 // The block number of record k.
@@ -40,11 +36,10 @@ pub fn value_of(assignment: &[u16], k: u16) -> u16
 }
 
 // Whether a line with block number i was run: a line that was not has n + 1. Nothing is read at a line before this is asked.
-pub fn was_run(case: &[u8], i: u16) -> bool
-    requires { Accepted case.now }
-    ensures { result ≡ was_run (case_of case.now) i }
+pub fn was_run(case: &Case<'_>, i: u16) -> bool
+    ensures { result ≡ was_run (case_of case.now.bytes.now) i }
 {
-    i != switches(case) + 1
+    i != switches(case.bytes) + 1
 }
 
 // As many numbers as there can be items, from a place on: the length is fixed, so that they are copied at once.
@@ -53,11 +48,7 @@ fn most_items_at(assignment: &[u16], place: usize) -> [u16; ITEMS]
     ensures { Filled (number_from assignment.now place) most_items result }
 {
     let mut items = [0u16; ITEMS];
-    let mut g = 0;
-    while g < ITEMS {
-        items[g] = assignment[place + g];
-        g += 1;
-    }
+    items.copy_from_slice(&assignment[place..place + ITEMS]);
     items
 }
 
@@ -70,23 +61,21 @@ fn items_at(assignment: &[u16], place: usize, count: usize) -> [u16; ITEMS]
         return most_items_at(assignment, place);
     }
     let mut items = [0u16; ITEMS];
-    let mut g = 0;
-    while g < count {
+    for g in 0..count {
         items[g] = at(assignment, place + g);
-        g += 1;
     }
     items
 }
 
 // The items' values where block i starts.
-pub fn start_of_block(case: &[u8], assignment: &[u16], i: u16) -> [u16; ITEMS]
-    requires { AtBlock case.now i }
-    ensures { StartOf case.now assignment.now i result }
+pub fn start_of_block(case: &Case<'_>, assignment: &[u16], i: u16) -> [u16; ITEMS]
+    requires { i ≤ most_switches }
+    ensures { StartOf case.now.bytes.now assignment.now i result }
 {
     if i == 0 {
-        return first_items(case);
+        return first_items(case.bytes);
     }
-    let count = items(case);
-    let place = 2 * records(case) + (i as usize - 1) * count;
+    let count = case.items();
+    let place = 2 * records(case.bytes) + (i as usize - 1) * count;
     items_at(assignment, place, count)
 }

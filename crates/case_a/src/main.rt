@@ -2,7 +2,7 @@
 // they must be is in `stdout`.
 #![tactic(auto)]
 
-use model::{Checked, Decoded, Encoded, Filled, Replayed};
+use model::{Checked, Refusal, Replayed};
 use std::io;
 
 // Case A with n 2: 16 fields of the header, then its five records.
@@ -35,24 +35,29 @@ fn two(rt: &impl Print, text: &[u8], first: u16, second: u16) -> io::Result<()> 
     number(rt, second)
 }
 
+// A refusal: its number and its place.
+fn refused(rt: &impl Print, text: &[u8], refusal: Refusal) -> io::Result<()> {
+    two(rt, text, refusal.number(), refusal.place())
+}
+
 // What a schedule of the case is answered with, and its one item's value at the end.
 fn replayed(rt: &impl Print, name: &[u8], case: &[u8], schedule: &[u16]) -> io::Result<()> {
     word(rt, name)?;
     let mut items = [0u16; 1];
     match replayer::replay(case, schedule, &mut items) {
-        Replayed::Violated(k) => {
+        Ok(Replayed::Violated(k)) => {
             word(rt, b" violated ")?;
             number(rt, k)?;
         }
-        Replayed::Clean => {
+        Ok(Replayed::Clean) => {
             word(rt, b" clean")?;
         }
-        Replayed::CutOff(k) => {
+        Ok(Replayed::CutOff(k)) => {
             word(rt, b" cut off ")?;
             number(rt, k)?;
         }
-        Replayed::Refused { number, place } => {
-            two(rt, b" refused ", number, place)?;
+        Err(refusal) => {
+            refused(rt, b" refused ", refusal)?;
         }
     }
     word(rt, b", item ")?;
@@ -63,25 +68,25 @@ fn replayed(rt: &impl Print, name: &[u8], case: &[u8], schedule: &[u16]) -> io::
 // What an assignment of the case is answered with, and what it decodes to.
 fn checked(rt: &impl Print, case: &[u8], assignment: &[u16]) -> io::Result<()> {
     match checker::check(case, assignment) {
-        Checked::Meets => {
+        Ok(Checked::Meets) => {
             word(rt, b"meets")?;
         }
-        Checked::Fails(k) => {
+        Ok(Checked::Fails(k)) => {
             word(rt, b"fails ")?;
             number(rt, k)?;
         }
-        Checked::Refused { number, place } => {
-            two(rt, b"refused ", number, place)?;
+        Err(refusal) => {
+            refused(rt, b"refused ", refusal)?;
         }
     }
     let mut schedule = [0u16; 3];
     match decoder::decode(case, assignment, &mut schedule) {
-        Decoded::Schedule { numbers } => {
+        Ok(numbers) => {
             two(rt, b", decodes to ", schedule[0], schedule[1])?;
             two(rt, b" ", schedule[2], numbers)?;
         }
-        Decoded::Refused { number, place } => {
-            two(rt, b", decoder refuses ", number, place)?;
+        Err(refusal) => {
+            refused(rt, b", decoder refuses ", refusal)?;
         }
     }
     word(rt, b"\n")
@@ -93,26 +98,23 @@ fn empty(rt: &impl Print) -> io::Result<()> {
     case[0] = 2;
     let mut table = [9u16; 6];
     match encoder::encode(&case, &mut table) {
-        Encoded::Table {
-            constraints,
-            variables,
-        } => {
-            two(rt, b"table ", constraints, variables)?;
+        Ok(size) => {
+            two(rt, b"table ", size.constraints, size.variables)?;
         }
-        Encoded::Refused { number, place } => {
-            two(rt, b"refused ", number, place)?;
+        Err(refusal) => {
+            refused(rt, b"refused ", refusal)?;
         }
     }
     two(rt, b", row ", table[0], table[5])?;
     let none = [0u16; 1];
     match checker::check(&case, &none[..0]) {
-        Checked::Meets => word(rt, b", meets\n"),
-        Checked::Fails(k) => {
+        Ok(Checked::Meets) => word(rt, b", meets\n"),
+        Ok(Checked::Fails(k)) => {
             two(rt, b", fails ", k, 0)?;
             word(rt, b"\n")
         }
-        Checked::Refused { number, place } => {
-            two(rt, b", refused ", number, place)?;
+        Err(refusal) => {
+            refused(rt, b", refused ", refusal)?;
             word(rt, b"\n")
         }
     }
@@ -147,7 +149,7 @@ fn filled(rt: &impl Print, name: &[u8], case: &[u8], schedule: &[u16]) -> io::Re
     word(rt, name)?;
     let mut assignment = [0u16; 12];
     match filler::fill(case, schedule, &mut assignment) {
-        Filled::Assignment { numbers } => {
+        Ok(numbers) => {
             word(rt, b" fills ")?;
             number(rt, numbers)?;
             word(rt, b":")?;
@@ -158,8 +160,8 @@ fn filled(rt: &impl Print, name: &[u8], case: &[u8], schedule: &[u16]) -> io::Re
             two(rt, b" ", assignment[8], assignment[9])?;
             two(rt, b" ", assignment[10], assignment[11])?;
         }
-        Filled::Refused { number, place } => {
-            two(rt, b" refused ", number, place)?;
+        Err(refusal) => {
+            refused(rt, b" refused ", refusal)?;
         }
     }
     word(rt, b"\n")

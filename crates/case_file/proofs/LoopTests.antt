@@ -1,12 +1,11 @@
--- Tests of a range of numbers as loops meet them, and what an answer of a test, or a number that was read, says.
+-- Tests of a range of numbers as loops meet them, and what an answer of a test says.
 -- Assumes nothing.
 use mathlib.Core.Path.{◌≡◌, sym, ap, ◌∙◌}
 use Prim.Native.Nat.{ℕ, suc, ◌+◌, ◌-◌, ◌≤◌, ◌<◌}
 use mathlib.Core.Bool.{Bool, true, false, not, ◌&&◌}
 use native.Mathlib.Omega.{arith}
 use native.Mathlib.Numerals.{add-one}
-use borrow.Author.Tests.{le-leb, lt-leb, not-true, not-false}
-use lib.Dec.{leb}
+use borrow.Author.Tests.{not-true, not-false}
 use Rattle.model.specs.Lists.{all_from}
 
 -- From i to before `to`.
@@ -38,13 +37,6 @@ module _ {A : Type 0} {asked : ℕ → ℕ → A} {most : ℕ} where
 
   pub range_more : {k : ℕ} → RangeLeft asked most k → asked k (most + 1 - k) ≡ asked (k + 1) (most + 1 - (k + 1)) → RangeLeft asked most (k + 1)
   range_more v e = record { counted = omega arith; left = sym e ∙ v.left }
-
--- A number x that was read as r.
-pub over_leb : {r x m : ℕ} → r ≡ x → m < r → leb x m ≡ false
-over_leb {r} {x} {m} e h = lt-leb x m (omega arith)
-
-pub under_leb : {r x m : ℕ} → r ≡ x → r ≤ m → leb x m ≡ true
-under_leb {r} {x} {m} e h = le-leb x m (omega arith)
 
 -- The answer r of a check, and whether the code went on.
 pub failed : {r check : Bool} → r ≡ check → not r ≡ true → check ≡ false

@@ -13,13 +13,14 @@ use Rattle.model.specs.Line.{no_name, guard_name, operand_a, operand_b, target_n
 use Rattle.model.specs.Copies.{latest, copy_of, nothing_held, held_copy, take_copy, take_line, held_after}
 use Rattle.laws.proofs.Views.{EqView, same, diff, eq_view}
 use Rattle.laws.proofs.ForwardWalk.{for_any_lines_lem}
-use Rattle.copies.specs.Held.{copies_before, Held}
+use Rattle.model.specs.Taking.{copies_at}
+use Rattle.copies.specs.Held.{Held}
 
 -- A line is taken, each of its names having been found and looked up.
 pub line_taken :
     (G : ℕ) (l : Line) (held after : List ℕ) (guard a b target p q r s : ℕ) → guard ≡ guard_name l → a ≡ operand_a l → b ≡ operand_b l → target ≡ target_name G l
     → p ≡ held_copy held guard → q ≡ held_copy held a → r ≡ held_copy held b → s ≡ held_copy held target → after ≡ take_copy held target l.number
-    → (record { guard = p; a = q; b = r; target = s } ≡ copies_before G held l) × (after ≡ take_line G held l)
+    → (record { guard = p; a = q; b = r; target = s } ≡ copies_at G held l) × (after ≡ take_line G held l)
 line_taken G l held after guard a b target p q r s eg ea eb et ep eq er es e = (rw (ep, eq, er, es, eg, ea, eb, et), rw (e, et))
 
 module _ (case : Case) where

@@ -11,7 +11,9 @@ use lib.ListN.{drop}
 use borrow.Author.Tests.{eq-eqb}
 use Rattle.laws.proofs.Views.{EqView, same, diff, eq_view}
 use Rattle.model.specs.Word.{bit, nonzero}
-use Rattle.model.specs.CaseFile.{Kind, compute, store, load, input, assert, assume, lock, unlock, Line, Case}
+use Rattle.model.specs.CaseFile.{Line, Case}
+use Rattle.model.specs.declared.Kind.{Kind}
+use Rattle.model.specs.declared.Kind.TheVariants.{Compute, Store, Load, Input, Assert, Assume, Lock, Unlock}
 use Rattle.model.specs.Line.{Reads, reads_of, target_name, guard_true, expression, guarded_in_value, guarded_out_value, value_by, unrun_value, stops, stray_input, is_input, unrun_stray}
 use Rattle.model.specs.Machine.{Memory, look, reads_in, stepped}
 use Rattle.model.specs.Assignment.{Assignment}
@@ -89,49 +91,49 @@ module _ (G : ℕ) (reader : ℕ → ℕ) (l : Line) (x y : ℕ) where
 
   pub decoded_line_runs : (kind : Kind) → LineDecoded kind l x y (reads_of G reader l x) → LineRuns kind l x (reads_of G reader l y)
   unfolding value_by guard_true guarded_in_value guarded_out_value stops stray_input expression own
-  decoded_line_runs compute d = record { has_value = d.has_value; goes_on = refl; not_stray = refl }
-  decoded_line_runs store d = record { has_value = d.has_value; goes_on = refl; not_stray = refl }
-  decoded_line_runs load d = record { has_value = d.has_value; goes_on = refl; not_stray = refl }
-  decoded_line_runs input d = record {
+  decoded_line_runs Compute d = record { has_value = d.has_value; goes_on = refl; not_stray = refl }
+  decoded_line_runs Store d = record { has_value = d.has_value; goes_on = refl; not_stray = refl }
+  decoded_line_runs Load d = record { has_value = d.has_value; goes_on = refl; not_stray = refl }
+  decoded_line_runs Input d = record {
     has_value = input_value (guard_true l own) x y (reader (target_name G l)) d.has_value (d.inputs refl);
     goes_on = refl;
     not_stray = input_not_stray (guard_true l own) x y (d.inputs refl);
   }
-  decoded_line_runs assert d = record { has_value = d.has_value; goes_on = refl; not_stray = refl }
-  decoded_line_runs assume d = record {
+  decoded_line_runs Assert d = record { has_value = d.has_value; goes_on = refl; not_stray = refl }
+  decoded_line_runs Assume d = record {
     has_value = d.has_value;
     goes_on = assume_goes_on (guard_true l own) x (expression l own) d.has_value d.demand;
     not_stray = refl;
   }
-  decoded_line_runs lock d = record {
+  decoded_line_runs Lock d = record {
     has_value = d.has_value;
     goes_on = not_nonzero_where_true (guard_true l own) (reader (target_name G l)) d.demand;
     not_stray = refl;
   }
-  decoded_line_runs unlock d = record { has_value = d.has_value; goes_on = refl; not_stray = refl }
+  decoded_line_runs Unlock d = record { has_value = d.has_value; goes_on = refl; not_stray = refl }
 
   pub line_that_runs_is_decoded : (kind : Kind) → LineRuns kind l x (reads_of G reader l y) → LineDecoded kind l x y (reads_of G reader l x)
   unfolding value_by guard_true guarded_in_value guarded_out_value stops stray_input expression own
-  line_that_runs_is_decoded compute r = record { has_value = r.has_value; demand = tt; inputs = λ e. absurd (false≢true e) }
-  line_that_runs_is_decoded store r = record { has_value = r.has_value; demand = tt; inputs = λ e. absurd (false≢true e) }
-  line_that_runs_is_decoded load r = record { has_value = r.has_value; demand = tt; inputs = λ e. absurd (false≢true e) }
-  line_that_runs_is_decoded input r = record {
+  line_that_runs_is_decoded Compute r = record { has_value = r.has_value; demand = tt; inputs = λ e. absurd (false≢true e) }
+  line_that_runs_is_decoded Store r = record { has_value = r.has_value; demand = tt; inputs = λ e. absurd (false≢true e) }
+  line_that_runs_is_decoded Load r = record { has_value = r.has_value; demand = tt; inputs = λ e. absurd (false≢true e) }
+  line_that_runs_is_decoded Input r = record {
     has_value = input_own_value (guard_true l own) x y (reader (target_name G l)) r.has_value;
     demand = tt;
     inputs = λ e. input_given_lem (guard_true l own) x y (reader (target_name G l)) r.has_value r.not_stray;
   }
-  line_that_runs_is_decoded assert r = record { has_value = r.has_value; demand = tt; inputs = λ e. absurd (false≢true e) }
-  line_that_runs_is_decoded assume r = record {
+  line_that_runs_is_decoded Assert r = record { has_value = r.has_value; demand = tt; inputs = λ e. absurd (false≢true e) }
+  line_that_runs_is_decoded Assume r = record {
     has_value = r.has_value;
     demand = assume_is_one (guard_true l own) x (expression l own) r.has_value r.goes_on;
     inputs = λ e. absurd (false≢true e);
   }
-  line_that_runs_is_decoded lock r = record {
+  line_that_runs_is_decoded Lock r = record {
     has_value = r.has_value;
     demand = zero_where_true (guard_true l own) (reader (target_name G l)) r.goes_on;
     inputs = λ e. absurd (false≢true e);
   }
-  line_that_runs_is_decoded unlock r = record { has_value = r.has_value; demand = tt; inputs = λ e. absurd (false≢true e) }
+  line_that_runs_is_decoded Unlock r = record { has_value = r.has_value; demand = tt; inputs = λ e. absurd (false≢true e) }
 
 -- What a line reads is the same on both sides.
 pub same_readers : (case : Case) (α : Assignment) (i : ℕ) (l : Line) (earlier : List Line) (m : Memory) → α.block l.number ≡ i

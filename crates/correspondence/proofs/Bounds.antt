@@ -13,7 +13,9 @@ use lib.Seq.{sets}
 use Rattle.laws.proofs.Below.{below_at, all_below_set, all_below_append, all_below_replicate, all_below_numbers_from}
 use Rattle.model.specs.Word.{word_size, AllBelow, bit, nonzero}
 use Rattle.model.specs.Limits.{local_count}
-use Rattle.model.specs.CaseFile.{Kind, compute, store, load, input, assert, assume, lock, unlock, Line, Case, lines_of}
+use Rattle.model.specs.CaseFile.{Line, Case, lines_of}
+use Rattle.model.specs.declared.Kind.{Kind}
+use Rattle.model.specs.declared.Kind.TheVariants.{Compute, Store, Load, Input, Assert, Assume, Lock, Unlock}
 use Rattle.model.specs.Line.{operand_a, operand_b, target_name, Reads, guard_true, apply, expression, guarded_in_value, guarded_out_value, value_by, value_of, unrun_value, is_input}
 use Rattle.model.specs.Assignment.{Assignment, variables, block_place, value_place, items_place, assignment_of, was_run}
 use Rattle.model.specs.Copies.{reads_after}
@@ -77,25 +79,25 @@ below_expression l reads c h = below_apply l.op _ _
 
 below_guarded_in : (kind : Kind) (l : Line) (reads : Reads) → SmallLine l → SmallReads reads → guarded_in_value kind l reads < word_size
 unfolding guarded_in_value
-below_guarded_in compute l reads own h = below_expression l reads own.constant h
-below_guarded_in store l reads own h = below_expression l reads own.constant h
-below_guarded_in load l reads own h = h.a
-below_guarded_in input l reads own h = h.given
-below_guarded_in assert l reads own h = below_bit (nonzero (expression l reads))
-below_guarded_in assume l reads own h = below_bit (nonzero (expression l reads))
-below_guarded_in lock l reads own h = own.holding
-below_guarded_in unlock l reads own h = omega arith
+below_guarded_in Compute l reads own h = below_expression l reads own.constant h
+below_guarded_in Store l reads own h = below_expression l reads own.constant h
+below_guarded_in Load l reads own h = h.a
+below_guarded_in Input l reads own h = h.given
+below_guarded_in Assert l reads own h = below_bit (nonzero (expression l reads))
+below_guarded_in Assume l reads own h = below_bit (nonzero (expression l reads))
+below_guarded_in Lock l reads own h = own.holding
+below_guarded_in Unlock l reads own h = omega arith
 
 below_guarded_out : (kind : Kind) (reads : Reads) → SmallReads reads → guarded_out_value kind reads < word_size
 unfolding guarded_out_value
-below_guarded_out compute reads h = h.target
-below_guarded_out store reads h = h.target
-below_guarded_out load reads h = h.target
-below_guarded_out input reads h = h.target
-below_guarded_out assert reads h = omega arith
-below_guarded_out assume reads h = omega arith
-below_guarded_out lock reads h = h.target
-below_guarded_out unlock reads h = h.target
+below_guarded_out Compute reads h = h.target
+below_guarded_out Store reads h = h.target
+below_guarded_out Load reads h = h.target
+below_guarded_out Input reads h = h.target
+below_guarded_out Assert reads h = omega arith
+below_guarded_out Assume reads h = omega arith
+below_guarded_out Lock reads h = h.target
+below_guarded_out Unlock reads h = h.target
 
 below_value : (l : Line) (reads : Reads) → SmallLine l → SmallReads reads → value_of l reads < word_size
 unfolding value_by

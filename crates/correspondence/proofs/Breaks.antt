@@ -8,7 +8,9 @@ use native.Mathlib.Omega.{arith}
 use native.Mathlib.Nat.{zero-add}
 use lib.ListN.{get_or, length, drop}
 use Rattle.model.specs.Word.{bit}
-use Rattle.model.specs.CaseFile.{Kind, compute, store, load, input, assert, assume, lock, unlock, Line, Case}
+use Rattle.model.specs.CaseFile.{Line, Case}
+use Rattle.model.specs.declared.Kind.{Kind}
+use Rattle.model.specs.declared.Kind.TheVariants.{Compute, Store, Load, Input, Assert, Assume, Lock, Unlock}
 use Rattle.model.specs.Line.{reads_of, guard_true, value_of, breaks}
 use Rattle.model.specs.Machine.{Memory, State, look, reads_in, stepped, rest_in, memory_in}
 use Rattle.model.specs.Assignment.{Assignment}
@@ -48,14 +50,14 @@ module _ (asked : Line → Bool) where
 breaks_whatever_given : (G : ℕ) (reader : ℕ → ℕ) (run : Bool) (kind : Kind) (l : Line) (x y value : ℕ)
     → breaks run kind l (reads_of G reader l x) value ≡ breaks run kind l (reads_of G reader l y) value
 unfolding breaks guard_true
-breaks_whatever_given G reader run compute l x y value = refl
-breaks_whatever_given G reader run store l x y value = refl
-breaks_whatever_given G reader run load l x y value = refl
-breaks_whatever_given G reader run input l x y value = refl
-breaks_whatever_given G reader run assert l x y value = refl
-breaks_whatever_given G reader run assume l x y value = refl
-breaks_whatever_given G reader run lock l x y value = refl
-breaks_whatever_given G reader run unlock l x y value = refl
+breaks_whatever_given G reader run Compute l x y value = refl
+breaks_whatever_given G reader run Store l x y value = refl
+breaks_whatever_given G reader run Load l x y value = refl
+breaks_whatever_given G reader run Input l x y value = refl
+breaks_whatever_given G reader run Assert l x y value = refl
+breaks_whatever_given G reader run Assume l x y value = refl
+breaks_whatever_given G reader run Lock l x y value = refl
+breaks_whatever_given G reader run Unlock l x y value = refl
 
 module _ (case : Case) (wf : WellFormed case) (given : ℕ → ℕ) (α : Assignment) (asked : Line → Bool) where
   line_breaks_alike : (i : ℕ) (l : Line) (earlier : List Line) (m : Memory) → i ≤ case.n → α.block l.number ≡ i

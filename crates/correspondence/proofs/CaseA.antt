@@ -1,6 +1,7 @@
 -- Case A of document 01, from its bytes: its listing, as numbers and as text, and P1 to P10 as one table, over what the calls answer
 -- and, where it speaks of runs, over these too.
 -- Assumes nothing. Its bytes are met again in Examples, Refusals and Conventions.
+use Rattle.std.specs.Prelude.{Ok}
 use mathlib.Core.Path.{◌≡◌, refl, sym, ap, ◌∙◌, subst}
 use mathlib.Core.Logic.{◌↔◌, ◌⊎◌, inl, inr}
 use Prim.Native.Nat.{ℕ, zero, suc, ◌≤◌, ◌<◌}
@@ -18,8 +19,6 @@ use Rattle.model.specs.Schedule.{schedule_size, lengths_fit, run_of}
 use Rattle.model.specs.Runs.{KeepsRule, Legal, NoneBroken, InBlocks}
 use Rattle.model.specs.Answers.{answer_of_run, encoded, encoded_into, checked, decoded_into, replayed}
 use Rattle.model.specs.Listing.{listing_text}
-use Rattle.model.specs.declared.Verdict.TheVariants.{Accepted}
-use Rattle.model.specs.declared.Encoded.TheVariants.{Table}
 use Rattle.model.specs.declared.Checked.TheVariants.{Meets}
 use Rattle.model.specs.declared.Replayed.TheVariants.{Violated, Clean}
 use Rattle.laws.proofs.Accepted.{accepted_of}
@@ -122,35 +121,35 @@ OneOfTheTwo schedule = (schedule ≡ schedule_p1) ⊎ (schedule ≡ schedule_p2)
 -- "every run is clean": none is cut off or violates, and every schedule that is not refused is answered with clean.
 pub record EveryRunIsClean (bytes : List ℕ) : Type 0 where
   pub runs : (schedule : List ℕ) → InBlocks (case_of bytes) schedule → Legal (case_of bytes) schedule × NoneBroken (case_of bytes) schedule
-  pub answers : (schedule : List ℕ) (room : ℕ) → NotRefused (replayed bytes schedule room) → replayed bytes schedule room ≡ Clean
+  pub answers : (schedule : List ℕ) (room : ℕ) → NotRefused (replayed bytes schedule room) → replayed bytes schedule room ≡ Ok Clean
 
 -- Document 01: "To be proved, as one table". One item, so one number of room for the final values.
 pub record CaseA : Type 0 where
-  pub accepted : verdict (case_a 2) ≡ Accepted
-  pub counts : encoded (case_a 2) 114 ≡ Table 19 12
+  pub accepted : verdict (case_a 2) ≡ Ok tt
+  pub counts : encoded (case_a 2) 114 ≡ Ok (record { constraints = 19; variables = 12 })
   pub listing : encoded_into (case_a 2) (replicate 114 0) ≡ listing_a
   pub text : listing_text (case_a 2) ≡ text_a
-  pub p1 : replayed (case_a 2) (2 ∷ 1 ∷ 2 ∷ []) 1 ≡ Violated 4
-  pub p2 : replayed (case_a 2) (0 ∷ 1 ∷ 4 ∷ []) 1 ≡ Violated 4
-  pub p3 : replayed (case_a 2) (1 ∷ 1 ∷ 3 ∷ []) 1 ≡ Clean
-  pub p4 : replayed (case_a 2) (3 ∷ 1 ∷ 1 ∷ []) 1 ≡ Clean
-  pub p5 : replayed (case_a 2) (4 ∷ 1 ∷ 0 ∷ []) 1 ≡ Clean
-  pub p6 : checked (case_a 2) (0 ∷ 0 ∷ 0 ∷ 1 ∷ 2 ∷ 5 ∷ 2 ∷ 0 ∷ 1 ∷ 5 ∷ 1 ∷ 5 ∷ []) ≡ Meets
+  pub p1 : replayed (case_a 2) (2 ∷ 1 ∷ 2 ∷ []) 1 ≡ Ok (Violated 4)
+  pub p2 : replayed (case_a 2) (0 ∷ 1 ∷ 4 ∷ []) 1 ≡ Ok (Violated 4)
+  pub p3 : replayed (case_a 2) (1 ∷ 1 ∷ 3 ∷ []) 1 ≡ Ok Clean
+  pub p4 : replayed (case_a 2) (3 ∷ 1 ∷ 1 ∷ []) 1 ≡ Ok Clean
+  pub p5 : replayed (case_a 2) (4 ∷ 1 ∷ 0 ∷ []) 1 ≡ Ok Clean
+  pub p6 : checked (case_a 2) (0 ∷ 0 ∷ 0 ∷ 1 ∷ 2 ∷ 5 ∷ 2 ∷ 0 ∷ 1 ∷ 5 ∷ 1 ∷ 5 ∷ []) ≡ Ok Meets
   pub p6_decodes : decoded_into (case_a 2) (0 ∷ 0 ∷ 0 ∷ 1 ∷ 2 ∷ 5 ∷ 2 ∷ 0 ∷ 1 ∷ 5 ∷ 1 ∷ 5 ∷ []) (replicate 3 0) ≡ 2 ∷ 1 ∷ 2 ∷ []
-  pub p7 : checked (case_a 2) (2 ∷ 5 ∷ 2 ∷ 6 ∷ 2 ∷ 6 ∷ 2 ∷ 0 ∷ 1 ∷ 5 ∷ 0 ∷ 5 ∷ []) ≡ Meets
+  pub p7 : checked (case_a 2) (2 ∷ 5 ∷ 2 ∷ 6 ∷ 2 ∷ 6 ∷ 2 ∷ 0 ∷ 1 ∷ 5 ∷ 0 ∷ 5 ∷ []) ≡ Ok Meets
   pub p7_decodes : decoded_into (case_a 2) (2 ∷ 5 ∷ 2 ∷ 6 ∷ 2 ∷ 6 ∷ 2 ∷ 0 ∷ 1 ∷ 5 ∷ 0 ∷ 5 ∷ []) (replicate 3 0) ≡ 0 ∷ 1 ∷ 4 ∷ []
   -- Two: "Case A keeps its two violating schedules": the runs that violate are theirs, and no other schedule is answered with violated.
   pub two_violating_runs : (schedule : List ℕ) → ViolatingRun (case_a 2) schedule ↔ OneOfTheTwo schedule
-  pub two_violated : (schedule : List ℕ) (room k : ℕ) → (replayed (case_a 2) schedule room ≡ Violated k) ↔ ((1 ≤ room) × (k ≡ 4) × OneOfTheTwo schedule)
+  pub two_violated : (schedule : List ℕ) (room k : ℕ) → (replayed (case_a 2) schedule room ≡ Ok (Violated k)) ↔ ((1 ≤ room) × (k ≡ 4) × OneOfTheTwo schedule)
   -- Five: both keep the rule, so they are the two that assignments decode to; P4's does not, since its assert is run after a switch.
   pub two_keep_the_rule : (schedule : List ℕ) → OneOfTheTwo schedule → KeepsRule (case_of (case_a 2)) schedule
   pub p4_breaks_the_rule : KeepsRule (case_of (case_a 2)) (3 ∷ 1 ∷ 1 ∷ []) → ⊥
   -- Two: "P8 and P9 become: every run is clean." There are runs: here those with the most steps.
   pub p8 : EveryRunIsClean (case_a 0)
-  pub p8_most_steps : replayed (case_a 0) (4 ∷ []) 1 ≡ Clean
+  pub p8_most_steps : replayed (case_a 0) (4 ∷ []) 1 ≡ Ok Clean
   pub p9 : EveryRunIsClean (case_a 1)
-  pub p9_most_steps : replayed (case_a 1) (4 ∷ 1 ∷ []) 1 ≡ Clean
-  pub p10 : (bytes : List ℕ) → verdict bytes ≡ Accepted → records bytes ≡ 0 → switch_count bytes ≡ 0 → OneConstraintMetByNothing bytes
+  pub p9_most_steps : replayed (case_a 1) (4 ∷ 1 ∷ []) 1 ≡ Ok Clean
+  pub p10 : (bytes : List ℕ) → verdict bytes ≡ Ok tt → records bytes ≡ 0 → switch_count bytes ≡ 0 → OneConstraintMetByNothing bytes
 
 -- ---- Every schedule, tried
 
@@ -173,7 +172,7 @@ no_inputs_lem : (n : ℕ) → schedule_size (case_of (case_a n)) ≡ suc (case_o
 unfolding computing case_a
 no_inputs_lem n = omega arith
 
-module _ (n : ℕ) (small : below 256 (case_a n) ≡ true) (accepted : verdict (case_a n) ≡ Accepted) where
+module _ (n : ℕ) (small : below 256 (case_a n) ≡ true) (accepted : verdict (case_a n) ≡ Ok tt) where
   wf : WellFormed (case_of (case_a n))
   wf = well_formed (case_a n) (below_is 256 (case_a n) small) (accepted_of (case_a n) accepted)
 
@@ -182,7 +181,7 @@ module _ (n : ℕ) (small : below 256 (case_a n) ≡ true) (accepted : verdict (
 
   module _ (tried : tried_with n ≡ true) where
     answered_clean : (schedule : List ℕ) (room : ℕ) → NotRefused (replayed (case_a n) schedule room)
-        → (replayed (case_a n) schedule room ≡ Clean) ⊎ OneOfTheTwo schedule
+        → (replayed (case_a n) schedule room ≡ Ok Clean) ⊎ OneOfTheTwo schedule
     answered_clean schedule room answered =
         let fits = fits_of_answered (case_a n) schedule room answered in
         let said = each_that_fits (case_of (case_a n)) wf 5 (clean_or_two n) (few_lines_lem n) tried schedule (fits.has_size ∙ no_inputs_lem n) fits.fit in
@@ -191,7 +190,7 @@ module _ (n : ℕ) (small : below 256 (case_a n) ≡ true) (accepted : verdict (
         go : replayed (case_a n) schedule room ≡ answer_of_run (run_of (case_of (case_a n)) schedule)
             → (is_clean (answer_of_run (run_of (case_of (case_a n)) schedule)) ≡ true)
             ⊎ ((same schedule schedule_p1 || same schedule schedule_p2) ≡ true)
-            → (replayed (case_a n) schedule room ≡ Clean) ⊎ OneOfTheTwo schedule
+            → (replayed (case_a n) schedule room ≡ Ok Clean) ⊎ OneOfTheTwo schedule
         go reply (inl clean) = inl (reply ∙ clean_is _ clean)
         go reply (inr two) = inr (which (either_is _ _ two))
           where
@@ -203,11 +202,11 @@ module _ (n : ℕ) (small : below 256 (case_a n) ≡ true) (accepted : verdict (
     every_run_is_clean : (case_of (case_a n)).n < 2 → EveryRunIsClean (case_a n)
     every_run_is_clean few = record { runs = runs; answers = answers }
       where
-        answers : (schedule : List ℕ) (room : ℕ) → NotRefused (replayed (case_a n) schedule room) → replayed (case_a n) schedule room ≡ Clean
+        answers : (schedule : List ℕ) (room : ℕ) → NotRefused (replayed (case_a n) schedule room) → replayed (case_a n) schedule room ≡ Ok Clean
         answers schedule room answered = go (answered_clean schedule room answered) (fits_of_answered (case_a n) schedule room answered).has_size
           where
-            go : (replayed (case_a n) schedule room ≡ Clean) ⊎ OneOfTheTwo schedule → length schedule ≡ schedule_size (case_of (case_a n))
-                → replayed (case_a n) schedule room ≡ Clean
+            go : (replayed (case_a n) schedule room ≡ Ok Clean) ⊎ OneOfTheTwo schedule → length schedule ≡ schedule_size (case_of (case_a n))
+                → replayed (case_a n) schedule room ≡ Ok Clean
             go (inl clean) sized = clean
             go (inr (inl e)) sized = absurd (omega (arith, few, sized, no_inputs_lem n, ap length e))
             go (inr (inr e)) sized = absurd (omega (arith, few, sized, no_inputs_lem n, ap length e))
@@ -225,7 +224,7 @@ tried_2 : tried_with 2 ≡ true
 unfolding computing all_lists case_a
 tried_2 = refl
 
-two_answered : (schedule : List ℕ) (room : ℕ) → 1 ≤ room → OneOfTheTwo schedule → replayed (case_a 2) schedule room ≡ Violated 4
+two_answered : (schedule : List ℕ) (room : ℕ) → 1 ≤ room → OneOfTheTwo schedule → replayed (case_a 2) schedule room ≡ Ok (Violated 4)
 unfolding computing case_a
 two_answered schedule room h (inl e) = rw e (replayed_fits (case_a 2) schedule_p1 room (record { accepted = refl; has_room = h; has_size = refl; fit = refl }))
 two_answered schedule room h (inr e) = rw e (replayed_fits (case_a 2) schedule_p2 room (record { accepted = refl; has_room = h; has_size = refl; fit = refl }))
@@ -234,7 +233,7 @@ two_small : (schedule : List ℕ) → OneOfTheTwo schedule → AllBelow word_siz
 two_small schedule (inl e) = rw e (below_is word_size schedule_p1 refl)
 two_small schedule (inr e) = rw e (below_is word_size schedule_p2 refl)
 
-two_of_violated : (schedule : List ℕ) (room k : ℕ) → replayed (case_a 2) schedule room ≡ Violated k → (1 ≤ room) × (k ≡ 4) × OneOfTheTwo schedule
+two_of_violated : (schedule : List ℕ) (room k : ℕ) → replayed (case_a 2) schedule room ≡ Ok (Violated k) → (1 ≤ room) × (k ≡ 4) × OneOfTheTwo schedule
 unfolding computing case_a
 two_of_violated schedule room k reply = go (answered_clean 2 refl refl tried_2 schedule room answered)
   where
@@ -244,10 +243,10 @@ two_of_violated schedule room k reply = go (answered_clean 2 refl refl tried_2 s
     has_room : 1 ≤ room
     has_room = (fits_of_answered (case_a 2) schedule room answered).has_room
 
-    go : (replayed (case_a 2) schedule room ≡ Clean) ⊎ OneOfTheTwo schedule → (1 ≤ room) × (k ≡ 4) × OneOfTheTwo schedule
-    go (inl clean) = let q : Clean ≡ Violated k = sym clean ∙ reply in absurd (let z : ◌≡◌ {A = ℕ} 0 1 = cc in omega arith)
+    go : (replayed (case_a 2) schedule room ≡ Ok Clean) ⊎ OneOfTheTwo schedule → (1 ≤ room) × (k ≡ 4) × OneOfTheTwo schedule
+    go (inl clean) = let q : Ok Clean ≡ Ok (Violated k) = sym clean ∙ reply in absurd (let z : ◌≡◌ {A = ℕ} 0 1 = cc in omega arith)
     go (inr two) =
-        let q : Violated 4 ≡ Violated k = sym (two_answered schedule room has_room two) ∙ reply in
+        let q : Ok (Violated 4) ≡ Ok (Violated k) = sym (two_answered schedule room has_room two) ∙ reply in
         (has_room, (let z : k ≡ 4 = cc in z), two)
 
 violating_is_two : (schedule : List ℕ) → ViolatingRun (case_a 2) schedule ↔ OneOfTheTwo schedule

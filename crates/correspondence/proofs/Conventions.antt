@@ -3,6 +3,7 @@
 -- exchanged both where a row is made and where it is read, keeps the main theorem; it does not keep these, computed from bytes over
 -- what the calls answer.
 -- Assumes nothing. No proof uses them: they hold the definitions beside the document.
+use Rattle.std.specs.Prelude.{Ok, Err}
 use mathlib.Core.Path.{◌≡◌, refl}
 use Prim.Native.Nat.{ℕ}
 use mathlib.Core.List.{List, [], ◌∷◌}
@@ -12,12 +13,12 @@ use Rattle.model.specs.Answers.{encoded, encoded_into, checked, decoded, decoded
 use Rattle.model.specs.Answers.{verdict_numbers, encoded_numbers, checked_numbers, decoded_numbers, replayed_numbers}
 use Rattle.model.specs.Listing.{listed, listed_numbers}
 use Rattle.model.specs.declared.Numbers.{Numbers}
-use Rattle.model.specs.declared.Encoded.TheVariants.{Table}
 use Rattle.model.specs.declared.Checked.TheVariants.{Meets, Fails}
-use Rattle.model.specs.declared.Replayed.TheVariants.{Violated, CutOff, Refused}
+use Rattle.model.specs.declared.Replayed.TheVariants.{Violated, CutOff}
 use Rattle.correspondence.proofs.Computing.{computing}
 use Rattle.correspondence.proofs.CaseA.{case_a}
 use Rattle.correspondence.proofs.CaseBytes.{header, rec, file}
+use Rattle.model.specs.declared.Refusal.TheVariants as refusals
 
 -- ---- Columns and numbers: a table that has every column in use
 
@@ -111,7 +112,7 @@ unfolding computing columns columns_listing
 columns_listing_lem = refl
 
 -- 51 constraints; "2R + n × (G + M)": 26 + 2 × 2.
-columns_counts : encoded columns 306 ≡ Table 51 30
+columns_counts : encoded columns 306 ≡ Ok (record { constraints = 51; variables = 30 })
 unfolding computing columns
 columns_counts = refl
 
@@ -124,38 +125,38 @@ assigned w x y z =
 
 -- "block i (0 ≤ i < n), item g at 2R + i × (G + M) + g, globals first, then mutexes": global 0 has 14 and then 25, the mutex is
 -- locked in block 0 and free in block 1.
-block_values : checked columns (assigned 14 1 25 0) ≡ Meets
+block_values : checked columns (assigned 14 1 25 0) ≡ Ok Meets
 unfolding computing columns assigned
 block_values = refl
 
 -- The items of block 0 exchanged: row 47 is the 6 of item 0 in block 0.
-items_of_block_0_exchanged : checked columns (assigned 1 14 25 0) ≡ Fails 47
+items_of_block_0_exchanged : checked columns (assigned 1 14 25 0) ≡ Ok (Fails 47)
 unfolding computing columns assigned
 items_of_block_0_exchanged = refl
 
 -- The items of block 1 exchanged: the mutex reads 25 at record 4 in block 2, and row 39 is its 5.
-items_of_block_1_exchanged : checked columns (assigned 14 1 0 25) ≡ Fails 39
+items_of_block_1_exchanged : checked columns (assigned 14 1 0 25) ≡ Ok (Fails 39)
 unfolding computing columns assigned
 items_of_block_1_exchanged = refl
 
 -- The blocks of item 0 exchanged: record 13 in block 2 loads 14, and row 40 is its 4.
-blocks_of_item_0_exchanged : checked columns (assigned 25 1 14 0) ≡ Fails 40
+blocks_of_item_0_exchanged : checked columns (assigned 25 1 14 0) ≡ Ok (Fails 40)
 unfolding computing columns assigned
 blocks_of_item_0_exchanged = refl
 
 -- The blocks of item 1 exchanged: the mutex reads 1 at record 4.
-blocks_of_item_1_exchanged : checked columns (assigned 14 0 25 1) ≡ Fails 39
+blocks_of_item_1_exchanged : checked columns (assigned 14 0 25 1) ≡ Ok (Fails 39)
 unfolding computing columns assigned
 blocks_of_item_1_exchanged = refl
 
 -- By item and then block: record 13 loads 1.
-block_and_item_exchanged : checked columns (assigned 14 25 1 0) ≡ Fails 40
+block_and_item_exchanged : checked columns (assigned 14 25 1 0) ≡ Ok (Fails 40)
 unfolding computing columns assigned
 block_and_item_exchanged = refl
 
 -- "walking back over that thread's copies of the item, the block value is that of the first with block number i": record 10's,
 -- since 4 is in block 2. Row 48 is the 6 of item 1 in block 0.
-walks_back : checked columns (assigned 14 0 25 0) ≡ Fails 48
+walks_back : checked columns (assigned 14 0 25 0) ≡ Ok (Fails 48)
 unfolding computing columns assigned
 walks_back = refl
 
@@ -208,7 +209,7 @@ inputs_by_thread_and_chain : replayed_into four_inputs (0 ∷ 5 ∷ 4 ∷ 10 ∷
 unfolding computing four_inputs
 inputs_by_thread_and_chain = refl
 
-four_inputs_violate : replayed four_inputs (0 ∷ 5 ∷ 4 ∷ 10 ∷ 20 ∷ 30 ∷ 40 ∷ []) 4 ≡ Violated 1
+four_inputs_violate : replayed four_inputs (0 ∷ 5 ∷ 4 ∷ 10 ∷ 20 ∷ 30 ∷ 40 ∷ []) 4 ≡ Ok (Violated 1)
 unfolding computing four_inputs
 four_inputs_violate = refl
 
@@ -221,11 +222,11 @@ inputs_decoded = refl
 
 -- Two: "14 at the first such record by thread and chain": not the lowest record. The first that is left with a value is 8 of thread 0,
 -- and where thread 0's have none, 5 of thread 1.
-unrun_inputs_by_thread : replayed four_inputs (0 ∷ 0 ∷ 1 ∷ 10 ∷ 20 ∷ 30 ∷ 40 ∷ []) 4 ≡ Refused 14 8
+unrun_inputs_by_thread : replayed four_inputs (0 ∷ 0 ∷ 1 ∷ 10 ∷ 20 ∷ 30 ∷ 40 ∷ []) 4 ≡ Err (refusals.Stray 8)
 unfolding computing four_inputs
 unrun_inputs_by_thread = refl
 
-unrun_inputs_by_chain : replayed four_inputs (0 ∷ 0 ∷ 1 ∷ 10 ∷ 0 ∷ 30 ∷ 40 ∷ []) 4 ≡ Refused 14 5
+unrun_inputs_by_chain : replayed four_inputs (0 ∷ 0 ∷ 1 ∷ 10 ∷ 0 ∷ 30 ∷ 40 ∷ []) 4 ≡ Err (refusals.Stray 5)
 unfolding computing four_inputs
 unrun_inputs_by_chain = refl
 
@@ -237,12 +238,12 @@ unfolding file
 three_asserts = file (header 2 2 0 0 3 2 0 0) (rec 0 5 0 0 0 16 0 0 (rec 0 5 0 0 0 16 0 0 (rec 1 5 0 0 0 16 0 0 [])))
 
 -- "violated (the first zero assert in running order)": thread 1's, which is not that of thread 0 and not the lowest record.
-thread_1_asserts_first : replayed three_asserts (0 ∷ 1 ∷ 2 ∷ []) 0 ≡ Violated 2
+thread_1_asserts_first : replayed three_asserts (0 ∷ 1 ∷ 2 ∷ []) 0 ≡ Ok (Violated 2)
 unfolding computing three_asserts
 thread_1_asserts_first = refl
 
 -- Running order 3, 2, 1: neither the lowest record nor the last that is run.
-thread_0_asserts_first : replayed three_asserts (1 ∷ 1 ∷ 1 ∷ []) 0 ≡ Violated 3
+thread_0_asserts_first : replayed three_asserts (1 ∷ 1 ∷ 1 ∷ []) 0 ≡ Ok (Violated 3)
 unfolding computing three_asserts
 thread_0_asserts_first = refl
 
@@ -263,7 +264,7 @@ cut_after_assert = file (header 2 1 2 1 4 7 0 0)
     [])))))))
 
 -- "After a zero assert it goes on; a later cut-off is then the reply."
-cut_off_after_assert : replayed cut_after_assert (6 ∷ 1 ∷ []) 5 ≡ CutOff 3
+cut_off_after_assert : replayed cut_after_assert (6 ∷ 1 ∷ []) 5 ≡ Ok (CutOff 3)
 unfolding computing cut_after_assert
 cut_off_after_assert = refl
 

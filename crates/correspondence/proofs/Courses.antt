@@ -7,7 +7,9 @@ use mathlib.Core.Bool.{Bool, true, false, cond, true≢false}
 use mathlib.Core.List.{List, [], ◌∷◌, ◌++◌}
 use native.Mathlib.Omega.{arith}
 use borrow.Author.Tests.{ne_eqb}
-use Rattle.model.specs.CaseFile.{Kind, compute, store, load, input, assert, assume, lock, unlock, Line, Case}
+use Rattle.model.specs.CaseFile.{Line, Case}
+use Rattle.model.specs.declared.Kind.{Kind}
+use Rattle.model.specs.declared.Kind.TheVariants.{Compute, Store, Load, Input, Assert, Assume, Lock, Unlock}
 use Rattle.model.specs.Line.{Reads, stops, stray_input}
 use Rattle.model.specs.Machine.{Memory, BlockEnd, strayed, stopped, State, Outcome, refused14, cut_off, reads_in, stepped, noted, noted_at, rest_in, memory_in, after_block, ending, run_block, run_blocks}
 use Rattle.model.specs.Machine as machine
@@ -154,14 +156,14 @@ module _ (stray end break : Step → Bool) where
 -- An input never ends the run, and nothing else strays.
 apart_by_kind : (kind : Kind) (l : Line) (reads : Reads) → stray_input kind l reads ≡ true → stops kind l reads ≡ false
 unfolding stray_input stops
-apart_by_kind compute l reads e = refl
-apart_by_kind store l reads e = refl
-apart_by_kind load l reads e = refl
-apart_by_kind input l reads e = refl
-apart_by_kind assert l reads e = refl
-apart_by_kind assume l reads e = absurd (true≢false (sym e))
-apart_by_kind lock l reads e = absurd (true≢false (sym e))
-apart_by_kind unlock l reads e = refl
+apart_by_kind Compute l reads e = refl
+apart_by_kind Store l reads e = refl
+apart_by_kind Load l reads e = refl
+apart_by_kind Input l reads e = refl
+apart_by_kind Assert l reads e = refl
+apart_by_kind Assume l reads e = absurd (true≢false (sym e))
+apart_by_kind Lock l reads e = absurd (true≢false (sym e))
+apart_by_kind Unlock l reads e = refl
 
 module _ (case : Case) (given : ℕ → ℕ) where
   pub stray_goes_on : (s : Step) → strays case given s ≡ true → ends case given s ≡ false

@@ -1,6 +1,7 @@
 -- Demand 3 holds: the statement is specs/Demand3.antt, the argument docs/PROOF.md. What is left here is to bring the calls'
 -- answers (Replies) and the claims over well-formed cases (Claims) together.
 -- Assumes nothing. This is where the other modules lead.
+use Rattle.std.specs.Prelude.{Result, Ok, Err}
 use mathlib.Core.Path.{◌≡◌, refl, sym, ap, ◌∙◌, subst}
 use Prim.Native.Nat.{ℕ, suc, ◌≤◌, ◌<◌}
 use mathlib.Core.Bool.{Bool}
@@ -20,11 +21,8 @@ use Rattle.model.specs.Table.{table, numbers_of}
 use Rattle.model.specs.Schedule.{schedule_size, block_lengths, input_values, given_in, decode}
 use Rattle.model.specs.Runs.{course_of, KeepsRule, FirstLate, ends, BrokenAt, Violates, InBlocks, Takes}
 use Rattle.model.specs.Answers.{checked, late_record, filled, filled_into}
-use Rattle.model.specs.declared.Verdict.TheVariants.{Accepted}
 use Rattle.model.specs.declared.Checked.TheVariants.{Meets}
-use Rattle.model.specs.declared.Decoded.TheVariants as decodeds
 use Rattle.model.specs.declared.Replayed.{Replayed}
-use Rattle.model.specs.declared.Filled.TheVariants as filleds
 use Rattle.laws.proofs.Accepted.{accepted_of}
 use Rattle.laws.proofs.Below.{all_below_drop}
 use Rattle.laws.proofs.Views.{LtView, below, above, lt_view}
@@ -52,6 +50,8 @@ use Rattle.correspondence.proofs.Late.{breaks_of_late, none_of_keeps, keeps_of_n
 use Rattle.correspondence.proofs.FillReplies.{OfViolation, alike, violating_in, filled_short, filled_like_replayed, refused_16, no_violation_of_16, filled_of_violated, violated_of_filled, filled_of_none, refused_17, none_of_filled, late_of_17}
 use Rattle.correspondence.proofs.Moved.{moved_assignment, moved_stays, moved_meets, moved_breaks, moved_values}
 use Rattle.correspondence.proofs.RunReplies.{takes_of_answered, answered_of_takes, run_of_violated, violated_of_run, run_of_clean, clean_of_run, run_of_cut_off, cut_off_of_run, run_of_14, refused_14_of_run, values_of_cut_off, values_of_legal, takes_of_in_blocks}
+use Rattle.model.specs.declared.Refusal.{Refusal}
+use Rattle.model.specs.declared.Refusal.TheVariants as refusals
 
 -- A result as long as the slice takes its place.
 written_whole : (result slice : List ℕ) → length result ≡ length slice → written_over result slice ≡ result
@@ -69,7 +69,7 @@ record Breaking (case : Case) (schedule : List ℕ) : Type 0 where
   finished : FinishesRun case schedule
   some_broken : 0 < broken_in every_line (events_of case schedule)
 
-module _ (bytes : List ℕ) (small : AllBelow 256 bytes) (accepted : verdict bytes ≡ Accepted) where
+module _ (bytes : List ℕ) (small : AllBelow 256 bytes) (accepted : verdict bytes ≡ Ok tt) where
   abbrev case : Case
   case = case_of bytes
 
@@ -90,7 +90,7 @@ module _ (bytes : List ℕ) (small : AllBelow 256 bytes) (accepted : verdict byt
   passes_of_rows : (xs : List ℕ) → length xs ≡ variables case → AllHold case (assigned xs) (table case) → PassesCheck bytes xs
   passes_of_rows xs sized rows = record { accepted = accepted; has_size = sized; none_failed = all_hold_none_fails case (assigned xs) 1 (table case) rows }
 
-  rows_of_yes : (xs : List ℕ) → checked bytes xs ≡ Meets → AllHold case (assigned xs) (table case)
+  rows_of_yes : (xs : List ℕ) → checked bytes xs ≡ Ok Meets → AllHold case (assigned xs) (table case)
   rows_of_yes xs told = none_fails case (assigned xs) 1 (table case) (passes_of_meets bytes xs told).none_failed (omega arith)
 
   -- ---- From yes to violated.
@@ -108,7 +108,7 @@ module _ (bytes : List ℕ) (small : AllBelow 256 bytes) (accepted : verdict byt
         some_broken = rw (← (run.3 every_line)) some;
       }
 
-  met : (xs : List ℕ) → checked bytes xs ≡ Meets → meaning.Meets case (assigned xs) × (0 < meaning.break_count case (assigned xs) every_line)
+  met : (xs : List ℕ) → checked bytes xs ≡ Ok Meets → meaning.Meets case (assigned xs) × (0 < meaning.break_count case (assigned xs) every_line)
   met xs told = meets_of_table case wf (assigned xs) (all_hold_without case (assigned xs) (table case) (rows_of_yes xs told))
 
   run_of_yes : (xs : List ℕ) → Yes bytes xs → Breaking case (decode case (assigned xs))
@@ -156,7 +156,7 @@ module _ (bytes : List ℕ) (small : AllBelow 256 bytes) (accepted : verdict byt
   decoded_as_lem : (xs : List ℕ) → Yes bytes xs → DecodedAs bytes xs (decode case (assigned xs))
   decoded_as_lem xs told slice h =
       let passes = passes_of_meets bytes xs told.1 in (
-        decoded_with_room bytes accepted xs passes (length slice) h ∙ ap decodeds.Schedule (sym (size_of_decode case wf (assigned xs))),
+        decoded_with_room bytes accepted xs passes (length slice) h ∙ ap Ok (sym (size_of_decode case wf (assigned xs))),
         decoded_into_lem bytes accepted xs passes slice h,
       )
 
@@ -214,7 +214,7 @@ module _ (bytes : List ℕ) (small : AllBelow 256 bytes) (accepted : verdict byt
       filled_of_violated bytes accepted schedule room (item_room bytes) h all first.0
       (violated_of_run bytes accepted wf schedule (item_room bytes) all first.0 takes violates.legal first.1)
 
-  late_is : (schedule : List ℕ) (room : ℕ) → assignment_room bytes ≤ room → (k : ℕ) → filled bytes schedule room ≡ filleds.Refused 17 k
+  late_is : (schedule : List ℕ) (room : ℕ) → assignment_room bytes ≤ room → (k : ℕ) → filled bytes schedule room ≡ Err (refusals.Late k)
       → Takes case schedule × Violates case schedule × FirstLate case schedule k
   late_is schedule room h k told =
       let run = run_of_filled schedule room h (subst OfViolation (sym told) (omega arith)) in
@@ -223,10 +223,10 @@ module _ (bytes : List ℕ) (small : AllBelow 256 bytes) (accepted : verdict byt
       (run.0, run.1, subst (FirstLate case schedule) late.1 first)
 
   refused_17_of : (schedule : List ℕ) (room : ℕ) → assignment_room bytes ≤ room → (k : ℕ) → Takes case schedule → Violates case schedule
-      → FirstLate case schedule k → filled bytes schedule room ≡ filleds.Refused 17 k
+      → FirstLate case schedule k → filled bytes schedule room ≡ Err (refusals.Late k)
   refused_17_of schedule room h k takes violates first =
       let late = late_of_first case wf schedule takes.not_12 (finished_run case wf schedule takes violates.legal) k first in
-      filled_of_run schedule room h takes violates ∙ refused_17 (late_record case schedule) (variables case) late.0 ∙ ap (filleds.Refused 17) late.1
+      filled_of_run schedule room h takes violates ∙ refused_17 (late_record case schedule) (variables case) late.0 ∙ ap (λ (k : ℕ). Err (refusals.Late k)) late.1
 
   -- A schedule that violates and keeps the rule is filled with its own assignment, and only such a one is filled.
   filled_as_lem : (schedule : List ℕ) → Takes case schedule → Violates case schedule → KeepsRule case schedule → FilledAs bytes schedule (fill case schedule)
@@ -234,9 +234,9 @@ module _ (bytes : List ℕ) (small : AllBelow 256 bytes) (accepted : verdict byt
   filled_as_lem schedule takes violates keeps slice h =
       let none = none_of_keeps case wf schedule takes.not_12 (finished_run case wf schedule takes violates.legal) keeps in
       let answer = filled_of_run schedule (length slice) h takes violates ∙ filled_of_none (late_record case schedule) (variables case) none in
-      (answer ∙ ap filleds.Assignment (sym (filled_length case wf schedule takes.not_12)), rw answer)
+      (answer ∙ ap Ok (sym (filled_length case wf schedule takes.not_12)), rw answer)
 
-  keeps_of_filled : (schedule : List ℕ) (room : ℕ) → assignment_room bytes ≤ room → (numbers : ℕ) → filled bytes schedule room ≡ filleds.Assignment numbers
+  keeps_of_filled : (schedule : List ℕ) (room : ℕ) → assignment_room bytes ≤ room → (numbers : ℕ) → filled bytes schedule room ≡ Ok numbers
       → Takes case schedule × Violates case schedule × KeepsRule case schedule
   keeps_of_filled schedule room h numbers told =
       let run = run_of_filled schedule room h (subst OfViolation (sym told) tt) in
@@ -244,12 +244,12 @@ module _ (bytes : List ℕ) (small : AllBelow 256 bytes) (accepted : verdict byt
       (run.0, run.1, keeps_of_none case wf schedule run.0.not_12 (finished_run case wf schedule run.0 run.1.legal) none)
 
   -- A slice that is answered with an assignment has room for it.
-  room_of_filled : (schedule : List ℕ) (room numbers : ℕ) → filled bytes schedule room ≡ filleds.Assignment numbers → assignment_room bytes ≤ room
+  room_of_filled : (schedule : List ℕ) (room numbers : ℕ) → filled bytes schedule room ≡ Ok numbers → assignment_room bytes ≤ room
   room_of_filled schedule room numbers told = go (lt_view room (assignment_room bytes))
     where
       go : LtView room (assignment_room bytes) → assignment_room bytes ≤ room
       go (below less _) =
-          let other : filleds.Refused 10 0 ≡ filleds.Assignment numbers = sym (filled_short bytes accepted schedule room less) ∙ told in
+          let other : Err refusals.Short ≡ Ok numbers = sym (filled_short bytes accepted schedule room less) ∙ told in
           absurd (let z : ◌≡◌ {A = ℕ} 0 1 = cc in omega arith)
       go (above more _) = more
 
@@ -403,8 +403,8 @@ module _ (bytes : List ℕ) (small : AllBelow 256 bytes) (accepted : verdict byt
         let run = breaking_of_violated schedule (answered_of_run schedule (in_blocks_of schedule numbers_small own.0, own.1)) in
         (fill case schedule, yes_of_run schedule run own.2, fill_decoded_as schedule run own.2, (filled_as_lem schedule own.0 own.1 own.2 slice room).1);
     decoded_fills_back = fills_back;
-    refused_like_replay = λ schedule room items h h' number place reply.
-        filled_like_replayed bytes accepted schedule room items h h' ∙ ap (λ (r : Replayed). alike r (violating_in case schedule)) reply;
+    refused_like_replay = λ schedule room items h h' e reply.
+        filled_like_replayed bytes accepted schedule room items h h' ∙ ap (λ (r : Result Replayed Refusal). alike r (violating_in case schedule)) reply;
     refused_16_is_no_violation = λ schedule room items h h'. (no_violation_of_16 bytes accepted schedule room items h h', refused_16 bytes accepted schedule room items h h');
     refused_17_breaks_the_rule = λ schedule room h. (
       (λ found.

@@ -1,6 +1,7 @@
 -- What holds of every schedule of a case without inputs, found by trying: no block length is over the lines of its thread, so the
 -- schedules that fit are among the lists of small numbers, and a test of all of these is one that the checker computes.
 -- Assumes nothing. Met again in CaseA.
+use Rattle.std.specs.Prelude.{Result, Ok, Err}
 use mathlib.Core.Path.{◌≡◌, refl, sym, ap₂}
 use mathlib.Core.Logic.{◌⊎◌, inl, inr}
 use Prim.Native.Nat.{ℕ, zero, suc, ◌%◌, ◌<◌}
@@ -16,27 +17,28 @@ use Rattle.model.specs.Lists.{all_from}
 use Rattle.model.specs.CaseFile.{Case, lines_of}
 use Rattle.model.specs.Schedule.{block_lengths, steps_of, lengths_fit}
 use Rattle.model.specs.declared.Replayed.{Replayed}
-use Rattle.model.specs.declared.Replayed.TheVariants.{Violated, Clean, CutOff, Refused}
+use Rattle.model.specs.declared.Replayed.TheVariants.{Violated, Clean, CutOff}
 use Rattle.laws.proofs.Views.{and-true}
 use Rattle.laws.proofs.Ranges.{all_from_gives}
 use Rattle.correspondence.specs.Meaning.{WellFormed}
 use Rattle.correspondence.proofs.Blocks.{turn}
 use Rattle.correspondence.proofs.Endings.{few_steps_lem}
+use Rattle.model.specs.declared.Refusal.{Refusal}
 
 -- ---- Tests and what they say
 
 -- An answer with clean.
-abbrev pub is_clean : Replayed → Bool
-is_clean (Violated k) = false
-is_clean Clean = true
-is_clean (CutOff k) = false
-is_clean (Refused number place) = false
+abbrev pub is_clean : Result Replayed Refusal → Bool
+is_clean (Ok (Violated k)) = false
+is_clean (Ok Clean) = true
+is_clean (Ok (CutOff k)) = false
+is_clean (Err e) = false
 
-pub clean_is : (r : Replayed) → is_clean r ≡ true → r ≡ Clean
-clean_is (Violated k) e = absurd (true≢false (sym e))
-clean_is Clean e = refl
-clean_is (CutOff k) e = absurd (true≢false (sym e))
-clean_is (Refused number place) e = absurd (true≢false (sym e))
+pub clean_is : (r : Result Replayed Refusal) → is_clean r ≡ true → r ≡ Ok Clean
+clean_is (Ok (Violated k)) e = absurd (true≢false (sym e))
+clean_is (Ok Clean) e = refl
+clean_is (Ok (CutOff k)) e = absurd (true≢false (sym e))
+clean_is (Err r) e = absurd (true≢false (sym e))
 
 -- The same numbers; and numbers below a bound.
 abbrev pub same : List ℕ → List ℕ → Bool

@@ -1,6 +1,7 @@
 -- Worked examples of constraints and runs, each for a sentence of document 01 that case A does not touch, computed from bytes over
 -- what the calls answer.
 -- Assumes nothing. No proof uses them: they hold the definitions beside the document.
+use Rattle.std.specs.Prelude.{Ok, Err}
 use mathlib.Core.Path.{◌≡◌, refl}
 use Prim.Native.Nat.{ℕ}
 use mathlib.Core.List.{List, [], ◌∷◌}
@@ -8,10 +9,10 @@ use lib.ListN.{take, drop, replicate}
 use Rattle.model.specs.Answers.{encoded_into, checked, decoded_into, replayed, replayed_into}
 use Rattle.model.specs.declared.Checked.TheVariants as checkeds
 use Rattle.model.specs.declared.Replayed.TheVariants.{Violated, Clean, CutOff}
-use Rattle.model.specs.declared.Replayed.TheVariants as replayeds
 use Rattle.correspondence.proofs.Computing.{computing}
 use Rattle.correspondence.proofs.CaseA.{case_a}
 use Rattle.correspondence.proofs.CaseBytes.{header, rec, file}
+use Rattle.model.specs.declared.Refusal.TheVariants as refusals
 
 -- ---- Reading and copies
 
@@ -21,12 +22,12 @@ unfolding file
 guarded_store = file (header 2 0 1 0 1 0 0 0) (rec 2 2 0 0 0 16 0 5 (rec 3 2 1 0 0 16 0 7 (rec 4 3 0 1 0 0 0 0 (rec 0 5 0 0 5 1 16 0 []))))
 
 -- "Taking a store with a false guard as no copy: it carries the value it reads." Record 2's value is 5.
-guarded_store_carries : checked guarded_store (0 ∷ 5 ∷ 0 ∷ 5 ∷ 0 ∷ 5 ∷ 0 ∷ 0 ∷ []) ≡ checkeds.Meets
+guarded_store_carries : checked guarded_store (0 ∷ 5 ∷ 0 ∷ 5 ∷ 0 ∷ 5 ∷ 0 ∷ 0 ∷ []) ≡ Ok checkeds.Meets
 unfolding computing guarded_store
 guarded_store_carries = refl
 
 -- After nine rows of order, row 11 is the 4 of record 2.
-guarded_store_must_carry : checked guarded_store (0 ∷ 5 ∷ 0 ∷ 7 ∷ 0 ∷ 7 ∷ 0 ∷ 0 ∷ []) ≡ checkeds.Fails 11
+guarded_store_must_carry : checked guarded_store (0 ∷ 5 ∷ 0 ∷ 7 ∷ 0 ∷ 7 ∷ 0 ∷ 0 ∷ []) ≡ Ok (checkeds.Fails 11)
 unfolding computing guarded_store
 guarded_store_must_carry = refl
 
@@ -41,18 +42,18 @@ guarded_store_runs = refl
 
 -- "Reading a copy from an earlier block because it is the latest in the thread." In case A, record 3 in block 2 must read the
 -- 5 of thread 1 and not the 1 of record 2 in block 0: row 14 is its 4.
-earlier_block_not_read : checked (case_a 2) (0 ∷ 0 ∷ 0 ∷ 1 ∷ 2 ∷ 1 ∷ 2 ∷ 1 ∷ 1 ∷ 5 ∷ 1 ∷ 5 ∷ []) ≡ checkeds.Fails 14
+earlier_block_not_read : checked (case_a 2) (0 ∷ 0 ∷ 0 ∷ 1 ∷ 2 ∷ 1 ∷ 2 ∷ 1 ∷ 1 ∷ 5 ∷ 1 ∷ 5 ∷ []) ≡ Ok (checkeds.Fails 14)
 unfolding computing case_a
 earlier_block_not_read = refl
 
 -- "2, last line, n: the block number is at most n"; Two: "allows n + 1". Records 3 and 4 in block n + 2, which is thread 0's too:
 -- row 9.
-too_late : checked (case_a 2) (0 ∷ 0 ∷ 0 ∷ 1 ∷ 4 ∷ 5 ∷ 4 ∷ 0 ∷ 1 ∷ 5 ∷ 1 ∷ 5 ∷ []) ≡ checkeds.Fails 9
+too_late : checked (case_a 2) (0 ∷ 0 ∷ 0 ∷ 1 ∷ 4 ∷ 5 ∷ 4 ∷ 0 ∷ 1 ∷ 5 ∷ 1 ∷ 5 ∷ []) ≡ Ok (checkeds.Fails 9)
 unfolding computing case_a
 too_late = refl
 
 -- "6 .. the block value is that of the first with block number i". Row 17 is block 0's.
-wrong_block_value : checked (case_a 2) (0 ∷ 0 ∷ 0 ∷ 1 ∷ 2 ∷ 5 ∷ 2 ∷ 0 ∷ 1 ∷ 5 ∷ 2 ∷ 5 ∷ []) ≡ checkeds.Fails 17
+wrong_block_value : checked (case_a 2) (0 ∷ 0 ∷ 0 ∷ 1 ∷ 2 ∷ 5 ∷ 2 ∷ 0 ∷ 1 ∷ 5 ∷ 2 ∷ 5 ∷ []) ≡ Ok (checkeds.Fails 17)
 unfolding computing case_a
 wrong_block_value = refl
 
@@ -62,16 +63,16 @@ unfolding file
 guarded_out = file (header 2 0 0 0 1 0 0 0) (rec 2 1 2 0 0 16 0 9 (rec 3 6 2 0 0 16 0 0 (rec 0 5 0 0 0 0 0 0 [])))
 
 -- "Guard false: the target's old value (a local without copy has 0, ..), and 1 for assert and assume."
-guarded_out_values : checked guarded_out (0 ∷ 0 ∷ 0 ∷ 1 ∷ 0 ∷ 0 ∷ []) ≡ checkeds.Meets
+guarded_out_values : checked guarded_out (0 ∷ 0 ∷ 0 ∷ 1 ∷ 0 ∷ 0 ∷ []) ≡ Ok checkeds.Meets
 unfolding computing guarded_out
 guarded_out_values = refl
 
 -- After eight rows of order, rows 9 and 10 are the 4s of records 1 and 2.
-guarded_out_local : checked guarded_out (0 ∷ 9 ∷ 0 ∷ 1 ∷ 0 ∷ 1 ∷ []) ≡ checkeds.Fails 9
+guarded_out_local : checked guarded_out (0 ∷ 9 ∷ 0 ∷ 1 ∷ 0 ∷ 1 ∷ []) ≡ Ok (checkeds.Fails 9)
 unfolding computing guarded_out
 guarded_out_local = refl
 
-guarded_out_assume : checked guarded_out (0 ∷ 0 ∷ 0 ∷ 0 ∷ 0 ∷ 0 ∷ []) ≡ checkeds.Fails 10
+guarded_out_assume : checked guarded_out (0 ∷ 0 ∷ 0 ∷ 0 ∷ 0 ∷ 0 ∷ []) ≡ Ok (checkeds.Fails 10)
 unfolding computing guarded_out
 guarded_out_assume = refl
 
@@ -82,22 +83,22 @@ unfolding file
 starts_at = file (2 ∷ 2 ∷ 2 ∷ 0 ∷ 1 ∷ 4 ∷ 0 ∷ 0 ∷ 6 ∷ 7 ∷ 0 ∷ 0 ∷ 0 ∷ 0 ∷ 0 ∷ 0 ∷ [])
     (rec 2 3 0 0 0 0 0 0 (rec 3 2 0 0 0 16 0 8 (rec 0 3 0 1 0 0 0 0 (rec 0 5 0 0 0 16 0 0 []))))
 
-starts_read : checked starts_at (0 ∷ 6 ∷ 0 ∷ 8 ∷ 2 ∷ 8 ∷ 1 ∷ 0 ∷ 8 ∷ 7 ∷ 8 ∷ 7 ∷ []) ≡ checkeds.Meets
+starts_read : checked starts_at (0 ∷ 6 ∷ 0 ∷ 8 ∷ 2 ∷ 8 ∷ 1 ∷ 0 ∷ 8 ∷ 7 ∷ 8 ∷ 7 ∷ []) ≡ Ok checkeds.Meets
 unfolding computing starts_at
 starts_read = refl
 
 -- "or its initial value when k is in block 0": row 9 is the 4 of record 1.
-initial_value_read : checked starts_at (0 ∷ 0 ∷ 0 ∷ 8 ∷ 2 ∷ 8 ∷ 1 ∷ 0 ∷ 8 ∷ 7 ∷ 8 ∷ 7 ∷ []) ≡ checkeds.Fails 9
+initial_value_read : checked starts_at (0 ∷ 0 ∷ 0 ∷ 8 ∷ 2 ∷ 8 ∷ 1 ∷ 0 ∷ 8 ∷ 7 ∷ 8 ∷ 7 ∷ []) ≡ Ok (checkeds.Fails 9)
 unfolding computing starts_at
 initial_value_read = refl
 
 -- "if none, .. the initial one for i = 0": row 14 is the 6 of item 1 in block 0.
-initial_value_stays : checked starts_at (0 ∷ 6 ∷ 0 ∷ 8 ∷ 2 ∷ 8 ∷ 1 ∷ 0 ∷ 8 ∷ 0 ∷ 8 ∷ 0 ∷ []) ≡ checkeds.Fails 14
+initial_value_stays : checked starts_at (0 ∷ 6 ∷ 0 ∷ 8 ∷ 2 ∷ 8 ∷ 1 ∷ 0 ∷ 8 ∷ 0 ∷ 8 ∷ 0 ∷ []) ≡ Ok (checkeds.Fails 14)
 unfolding computing starts_at
 initial_value_stays = refl
 
 -- "if none, the block value at i − 1": row 15 is the 6 of item 0 in block 1.
-block_value_stays : checked starts_at (0 ∷ 6 ∷ 0 ∷ 8 ∷ 2 ∷ 6 ∷ 1 ∷ 0 ∷ 8 ∷ 7 ∷ 6 ∷ 7 ∷ []) ≡ checkeds.Fails 15
+block_value_stays : checked starts_at (0 ∷ 6 ∷ 0 ∷ 8 ∷ 2 ∷ 6 ∷ 1 ∷ 0 ∷ 8 ∷ 7 ∷ 6 ∷ 7 ∷ []) ≡ Ok (checkeds.Fails 15)
 unfolding computing starts_at
 block_value_stays = refl
 
@@ -121,7 +122,7 @@ unfolding file
 two_locks = file (header 2 1 0 1 1 2 0 0) (rec 0 7 0 0 0 0 0 0 (rec 0 7 0 0 0 0 0 0 []))
 
 -- "a lock whose mutex is not 0 ends the run there with nothing changed": at the cut-off the mutex is thread 0's.
-lock_taken : replayed two_locks (1 ∷ 1 ∷ []) 1 ≡ CutOff 2
+lock_taken : replayed two_locks (1 ∷ 1 ∷ []) 1 ≡ Ok (CutOff 2)
 unfolding computing two_locks
 lock_taken = refl
 
@@ -137,11 +138,11 @@ unfolding file
 inputs = file (header 2 0 0 0 1 0 0 0) (rec 2 4 2 0 0 0 0 0 (rec 3 6 0 0 0 16 0 0 (rec 0 4 2 0 0 0 0 0 [])))
 
 -- "Refusal 14 and a cut-off exclude each other: the one met first is given."
-stray_before_cut : replayed inputs (3 ∷ 8 ∷ 0 ∷ []) 0 ≡ replayeds.Refused 14 1
+stray_before_cut : replayed inputs (3 ∷ 8 ∷ 0 ∷ []) 0 ≡ Err (refusals.Stray 1)
 unfolding computing inputs
 stray_before_cut = refl
 
-stray_after_cut : replayed inputs (3 ∷ 0 ∷ 8 ∷ []) 0 ≡ CutOff 2
+stray_after_cut : replayed inputs (3 ∷ 0 ∷ 8 ∷ []) 0 ≡ Ok (CutOff 2)
 unfolding computing inputs
 stray_after_cut = refl
 
@@ -155,7 +156,7 @@ input_decoded : decoded_into one_input (0 ∷ 12 ∷ 0 ∷ 0 ∷ []) (7 ∷ 7 �
 unfolding computing one_input
 input_decoded = refl
 
-input_replayed : replayed one_input (2 ∷ 12 ∷ []) 0 ≡ Violated 2
+input_replayed : replayed one_input (2 ∷ 12 ∷ []) 0 ≡ Ok (Violated 2)
 unfolding computing one_input
 input_replayed = refl
 
@@ -165,11 +166,11 @@ unfolding file
 late_assume = file (header 2 0 0 0 1 0 0 0) (rec 2 5 0 0 0 16 0 0 (rec 0 6 0 0 0 16 0 0 []))
 
 -- "a failed assume after that assert, even in the last line, means no violation"; row 8 is the assume's 5.
-assume_after_assert : replayed late_assume (2 ∷ []) 0 ≡ CutOff 2
+assume_after_assert : replayed late_assume (2 ∷ []) 0 ≡ Ok (CutOff 2)
 unfolding computing late_assume
 assume_after_assert = refl
 
-assume_must_hold : checked late_assume (0 ∷ 0 ∷ 0 ∷ 0 ∷ []) ≡ checkeds.Fails 8
+assume_must_hold : checked late_assume (0 ∷ 0 ∷ 0 ∷ 0 ∷ []) ≡ Ok (checkeds.Fails 8)
 unfolding computing late_assume
 assume_must_hold = refl
 
@@ -181,16 +182,16 @@ unfolding file
 no_lines n = file (header 2 n 0 0 0 1 0 0) (rec 0 5 0 0 0 16 0 0 [])
 
 -- "Giving thread 1 block 0 when thread 0 has no lines" is wrong: "Block i (0 to n) belongs to thread i modulo T".
-no_lines_block_0 : replayed (no_lines 0) (1 ∷ []) 0 ≡ replayeds.Refused 13 0
+no_lines_block_0 : replayed (no_lines 0) (1 ∷ []) 0 ≡ Err refusals.Lengths
 unfolding computing no_lines
 no_lines_block_0 = refl
 
 -- Two: "a thread may stop": thread 1 has no block, and its line is not run.
-no_lines_no_block : replayed (no_lines 0) (0 ∷ []) 0 ≡ Clean
+no_lines_no_block : replayed (no_lines 0) (0 ∷ []) 0 ≡ Ok Clean
 unfolding computing no_lines
 no_lines_no_block = refl
 
-no_lines_block_1 : replayed (no_lines 1) (0 ∷ 1 ∷ []) 0 ≡ Violated 1
+no_lines_block_1 : replayed (no_lines 1) (0 ∷ 1 ∷ []) 0 ≡ Ok (Violated 1)
 unfolding computing no_lines
 no_lines_block_1 = refl
 
@@ -204,7 +205,7 @@ four_threads_lem : encoded_into four_threads (0 ∷ 0 ∷ 0 ∷ 0 ∷ 0 ∷ 0 �
 unfolding computing four_threads
 four_threads_lem = refl
 
-four_threads_run : replayed four_threads (0 ∷ 1 ∷ []) 0 ≡ Violated 1
+four_threads_run : replayed four_threads (0 ∷ 1 ∷ []) 0 ≡ Ok (Violated 1)
 unfolding computing four_threads
 four_threads_run = refl
 

@@ -1,5 +1,6 @@
 -- What the checker answers about a table: the first row that fails, or that all hold; and a table is read back from its numbers.
 -- Assumes nothing. Met again in Demand3.
+use Rattle.std.specs.Prelude.{Ok}
 use mathlib.Core.Path.{◌≡◌, refl, sym, ap, ◌∙◌}
 use mathlib.Core.Logic.{◌≢◌}
 use Prim.Native.Nat.{ℕ, suc, ◌+◌}
@@ -16,7 +17,6 @@ use Rattle.model.specs.Assignment.{Assignment, variables, assignment_of}
 use Rattle.model.specs.Table.{Row, table, numbers_of}
 use Rattle.model.specs.Holds.{holds, first_failing}
 use Rattle.model.specs.Answers.{answer_of_check, failed_in, checked}
-use Rattle.model.specs.declared.Verdict.TheVariants.{Accepted}
 use Rattle.model.specs.declared.Checked.TheVariants.{Meets, Fails}
 use Rattle.laws.proofs.OnCase.{on_accepted, past_unless, past_refusals}
 use Rattle.laws.proofs.Views.{EqView, same, diff, eq_view}
@@ -63,21 +63,21 @@ module _ (case : Case) (α : Assignment) where
   failing_of_first k rows j f =
       ap (first_failing case α k) f.split ∙ failing_after k f.before f.after f.failing f.hold f.fails ∙ f.place
 
-failed_of_fails : (bytes xs : List ℕ) (k : ℕ) → checked bytes xs ≡ Fails k
+failed_of_fails : (bytes xs : List ℕ) (k : ℕ) → checked bytes xs ≡ Ok (Fails k)
     → (length xs ≡ variables (case_of bytes)) × (failed_in bytes xs ≡ k) × (failed_in bytes xs ≢ 0)
 unfolding checked
 failed_of_fails bytes xs k e =
-    let case = past_refusals (λ r. r ≡ Fails k) (verdict bytes) _ _ (λ number place e'. let z : ◌≡◌ {A = ℕ} 0 1 = cc in omega arith) e in
-    let size = past_unless (λ r. r ≡ Fails k) (eqb (length xs) (variables (case_of bytes))) _ _ (λ e'. let z : ◌≡◌ {A = ℕ} 0 1 = cc in omega arith) case.later in
+    let case = past_refusals (λ r. r ≡ Ok (Fails k)) (verdict bytes) _ _ (λ r e'. let z : ◌≡◌ {A = ℕ} 0 1 = cc in omega arith) e in
+    let size = past_unless (λ r. r ≡ Ok (Fails k)) (eqb (length xs) (variables (case_of bytes))) _ _ (λ e'. let z : ◌≡◌ {A = ℕ} 0 1 = cc in omega arith) case.later in
     let failed = go (eq_view (failed_in bytes xs) 0) size.later in
     (eqb-true _ _ size.here, failed.0, failed.1)
   where
-    go : EqView (failed_in bytes xs) 0 → answer_of_check (failed_in bytes xs) ≡ Fails k → (failed_in bytes xs ≡ k) × (failed_in bytes xs ≢ 0)
-    go (same z q) e' = absurd (let y : Meets ≡ Fails k = rw q at e' in let z : ◌≡◌ {A = ℕ} 0 1 = cc in omega arith)
-    go (diff some q) e' = (let y : Fails (failed_in bytes xs) ≡ Fails k = rw q at e' in cc, some)
+    go : EqView (failed_in bytes xs) 0 → answer_of_check (failed_in bytes xs) ≡ Ok (Fails k) → (failed_in bytes xs ≡ k) × (failed_in bytes xs ≢ 0)
+    go (same z q) e' = absurd (let y : Ok Meets ≡ Ok (Fails k) = rw q at e' in let z : ◌≡◌ {A = ℕ} 0 1 = cc in omega arith)
+    go (diff some q) e' = (let y : Ok (Fails (failed_in bytes xs)) ≡ Ok (Fails k) = rw q at e' in cc, some)
 
 -- The number that the checker answers is that of a row that fails, and all rows before it hold.
-pub checker_names_the_first : (bytes xs : List ℕ) (k : ℕ) → checked bytes xs ≡ Fails k
+pub checker_names_the_first : (bytes xs : List ℕ) (k : ℕ) → checked bytes xs ≡ Ok (Fails k)
     → (length xs ≡ variables (case_of bytes)) × FirstFails (case_of bytes) (assignment_of (case_of bytes) xs) 1 (table (case_of bytes)) k
 checker_names_the_first bytes xs k e =
     let failed = failed_of_fails bytes xs k e in (
@@ -86,8 +86,8 @@ checker_names_the_first bytes xs k e =
     )
 
 -- And the other way round.
-pub fails_of_first : (bytes xs : List ℕ) (k : ℕ) → verdict bytes ≡ Accepted → length xs ≡ variables (case_of bytes)
-    → FirstFails (case_of bytes) (assignment_of (case_of bytes) xs) 1 (table (case_of bytes)) k → checked bytes xs ≡ Fails k
+pub fails_of_first : (bytes xs : List ℕ) (k : ℕ) → verdict bytes ≡ Ok tt → length xs ≡ variables (case_of bytes)
+    → FirstFails (case_of bytes) (assignment_of (case_of bytes) xs) 1 (table (case_of bytes)) k → checked bytes xs ≡ Ok (Fails k)
 unfolding checked
 fails_of_first bytes xs k accepted sized first =
     let found : failed_in bytes xs ≡ k = failing_of_first (case_of bytes) (assignment_of (case_of bytes) xs) 1 (table (case_of bytes)) k first in

@@ -1,5 +1,6 @@
 -- Worked examples of mutexes that know their holders (document 02, request Four), computed from bytes over what the calls answer.
 -- Assumes nothing. No proof uses them: they hold the definitions beside the documents.
+use Rattle.std.specs.Prelude.{Ok}
 use mathlib.Core.Path.{◌≡◌, refl}
 use Prim.Native.Nat.{ℕ}
 use mathlib.Core.List.{List, [], ◌∷◌}
@@ -17,7 +18,7 @@ unfolding file
 stranger_unlocks = file (header 2 1 0 1 1 2 0 0) (rec 0 7 0 0 0 0 0 0 (rec 3 8 0 0 0 0 0 0 (rec 0 7 0 0 0 0 0 0 [])))
 
 -- "a run line that unlocks with its guard true while the mutex does not read t + 1 is a violation"
-stranger_violates : replayed stranger_unlocks (1 ∷ 2 ∷ []) 1 ≡ Violated 2
+stranger_violates : replayed stranger_unlocks (1 ∷ 2 ∷ []) 1 ≡ Ok (Violated 2)
 unfolding computing stranger_unlocks
 stranger_violates = refl
 
@@ -35,7 +36,7 @@ unfolding computing stranger_unlocks
 next_holder_shown = refl
 
 -- "Constraint 7 is met by such a line too": there is no assert. The mutex reads 1 after block 0.
-stranger_meets_7 : checked stranger_unlocks (0 ∷ 1 ∷ 1 ∷ 0 ∷ 1 ∷ 2 ∷ 1 ∷ []) ≡ Meets
+stranger_meets_7 : checked stranger_unlocks (0 ∷ 1 ∷ 1 ∷ 0 ∷ 1 ∷ 2 ∷ 1 ∷ []) ≡ Ok Meets
 unfolding computing stranger_unlocks
 stranger_meets_7 = refl
 
@@ -45,16 +46,16 @@ stranger_decoded = refl
 
 -- "A lock by thread t now puts t + 1 in the mutex": thread 1's lock does not have value 1. After six rows of order and those of records
 -- 1 and 2, row 10 is the 4 of record 3.
-holder_asked : checked stranger_unlocks (0 ∷ 1 ∷ 1 ∷ 0 ∷ 1 ∷ 1 ∷ 1 ∷ []) ≡ Fails 10
+holder_asked : checked stranger_unlocks (0 ∷ 1 ∷ 1 ∷ 0 ∷ 1 ∷ 1 ∷ 1 ∷ []) ≡ Ok (Fails 10)
 unfolding computing stranger_unlocks
 holder_asked = refl
 
 -- Nothing is unlocked in block 2, where records 2 and 3 were not run, and row 13 is the 7.
-unrun_stranger_fails_7 : checked stranger_unlocks (0 ∷ 1 ∷ 2 ∷ 0 ∷ 2 ∷ 0 ∷ 1 ∷ []) ≡ Fails 13
+unrun_stranger_fails_7 : checked stranger_unlocks (0 ∷ 1 ∷ 2 ∷ 0 ∷ 2 ∷ 0 ∷ 1 ∷ []) ≡ Ok (Fails 13)
 unfolding computing stranger_unlocks
 unrun_stranger_fails_7 = refl
 
-unrun_stranger_is_clean : replayed stranger_unlocks (1 ∷ 0 ∷ []) 1 ≡ Clean
+unrun_stranger_is_clean : replayed stranger_unlocks (1 ∷ 0 ∷ []) 1 ≡ Ok Clean
 unfolding computing stranger_unlocks
 unrun_stranger_is_clean = refl
 
@@ -65,11 +66,11 @@ free_unlocked : List ℕ
 unfolding file
 free_unlocked = file (header 2 0 0 1 1 0 0 0) (rec 0 8 0 0 0 0 0 0 [])
 
-free_is_nobodys : replayed free_unlocked (1 ∷ []) 1 ≡ Violated 1
+free_is_nobodys : replayed free_unlocked (1 ∷ []) 1 ≡ Ok (Violated 1)
 unfolding computing free_unlocked
 free_is_nobodys = refl
 
-free_meets_7 : checked free_unlocked (0 ∷ 0 ∷ []) ≡ Meets
+free_meets_7 : checked free_unlocked (0 ∷ 0 ∷ []) ≡ Ok Meets
 unfolding computing free_unlocked
 free_meets_7 = refl
 
@@ -78,17 +79,17 @@ own_unlocked : List ℕ
 unfolding file
 own_unlocked = file (header 2 0 0 1 1 0 0 0) (rec 2 7 0 0 0 0 0 0 (rec 3 8 0 0 0 0 0 0 (rec 4 7 0 0 0 0 0 0 (rec 0 7 0 0 0 0 0 0 []))))
 
-own_is_clean : replayed own_unlocked (2 ∷ []) 1 ≡ Clean
+own_is_clean : replayed own_unlocked (2 ∷ []) 1 ≡ Ok Clean
 unfolding computing own_unlocked
 own_is_clean = refl
 
 -- "a lock whose mutex is not 0 ends the run there", also where the thread holds it itself.
-own_lock_cut_off : replayed own_unlocked (4 ∷ []) 1 ≡ CutOff 4
+own_lock_cut_off : replayed own_unlocked (4 ∷ []) 1 ≡ Ok (CutOff 4)
 unfolding computing own_unlocked
 own_lock_cut_off = refl
 
 -- After eight rows of order, seven of values and none of blocks, row 16 is the 7. Records 3 and 4 were not run.
-own_fails_7 : checked own_unlocked (0 ∷ 1 ∷ 0 ∷ 0 ∷ 1 ∷ 0 ∷ 1 ∷ 0 ∷ []) ≡ Fails 16
+own_fails_7 : checked own_unlocked (0 ∷ 1 ∷ 0 ∷ 0 ∷ 1 ∷ 0 ∷ 1 ∷ 0 ∷ []) ≡ Ok (Fails 16)
 unfolding computing own_unlocked
 own_fails_7 = refl
 
@@ -97,7 +98,7 @@ guarded_unlock : List ℕ
 unfolding file
 guarded_unlock = file (header 2 1 0 1 1 2 0 0) (rec 0 7 0 0 0 0 0 0 (rec 0 8 1 0 0 0 0 0 []))
 
-guarded_out_is_clean : replayed guarded_unlock (1 ∷ 1 ∷ []) 1 ≡ Clean
+guarded_out_is_clean : replayed guarded_unlock (1 ∷ 1 ∷ []) 1 ≡ Ok Clean
 unfolding computing guarded_unlock
 guarded_out_is_clean = refl
 
@@ -106,7 +107,7 @@ unfolding computing guarded_unlock
 guarded_out_keeps_holder = refl
 
 -- After four rows of order, three of values and one of blocks, row 9 is the 7.
-guarded_out_fails_7 : checked guarded_unlock (0 ∷ 1 ∷ 1 ∷ 1 ∷ 1 ∷ []) ≡ Fails 9
+guarded_out_fails_7 : checked guarded_unlock (0 ∷ 1 ∷ 1 ∷ 1 ∷ 1 ∷ []) ≡ Ok (Fails 9)
 unfolding computing guarded_unlock
 guarded_out_fails_7 = refl
 
@@ -118,16 +119,16 @@ unfolding file
 both_sorts = file (header 2 2 0 1 1 3 0 0) (rec 2 7 0 0 0 0 0 0 (rec 0 5 0 0 0 16 0 0 (rec 4 8 0 0 0 0 0 0 (rec 0 6 0 0 0 16 0 0 []))))
 
 -- "replay names the first of either sort", in running order.
-unlock_named_first : replayed both_sorts (1 ∷ 1 ∷ 1 ∷ []) 1 ≡ Violated 3
+unlock_named_first : replayed both_sorts (1 ∷ 1 ∷ 1 ∷ []) 1 ≡ Ok (Violated 3)
 unfolding computing both_sorts
 unlock_named_first = refl
 
-assert_named_first : replayed both_sorts (2 ∷ 1 ∷ 0 ∷ []) 1 ≡ Violated 2
+assert_named_first : replayed both_sorts (2 ∷ 1 ∷ 0 ∷ []) 1 ≡ Ok (Violated 2)
 unfolding computing both_sorts
 assert_named_first = refl
 
 -- "a later cut-off is then the reply"
-cut_off_after_stranger : replayed both_sorts (1 ∷ 2 ∷ 0 ∷ []) 1 ≡ CutOff 4
+cut_off_after_stranger : replayed both_sorts (1 ∷ 2 ∷ 0 ∷ []) 1 ≡ Ok (CutOff 4)
 unfolding computing both_sorts
 cut_off_after_stranger = refl
 
@@ -142,6 +143,6 @@ fourth_thread_holds : replayed_into fourth_thread (0 ∷ 0 ∷ 0 ∷ 1 ∷ []) (
 unfolding computing fourth_thread
 fourth_thread_holds = refl
 
-fourth_thread_frees : replayed fourth_thread (0 ∷ 0 ∷ 0 ∷ 2 ∷ []) 3 ≡ Clean
+fourth_thread_frees : replayed fourth_thread (0 ∷ 0 ∷ 0 ∷ 2 ∷ []) 3 ≡ Ok Clean
 unfolding computing fourth_thread
 fourth_thread_frees = refl

@@ -11,7 +11,9 @@ use lib.ListN.{get_or, length, drop}
 use lib.Seq.{set_out}
 use Rattle.model.specs.Word.{bit, nonzero}
 use Rattle.model.specs.Limits.{local_count, most_globals, most_mutexes, highest_guard}
-use Rattle.model.specs.CaseFile.{Kind, compute, store, load, input, assert, assume, lock, unlock, Line, Case, item_count, records, thread_count, line_of, case_of, lines_of}
+use Rattle.model.specs.CaseFile.{Line, Case, item_count, records, thread_count, line_of, case_of, lines_of}
+use Rattle.model.specs.declared.Kind.{Kind}
+use Rattle.model.specs.declared.Kind.TheVariants.{Compute, Store, Load, Input, Assert, Assume, Lock, Unlock}
 use Rattle.model.specs.Accept.{expression_ok, kind_rule}
 use Rattle.model.specs.Line.{no_name, local_name, item_name, guard_name, name_of_a, name_of_b, name_of_target, Reads, guard_true, apply, operand_value, expression, holder, guarded_in_value, guarded_out_value, value_by, stops, breaks, stray_input}
 use Rattle.model.specs.Machine.{Memory, State, look, put_local, put_item, stepped, start, rest_in, memory_in}
@@ -114,56 +116,56 @@ module _ (case : Case) (t : ℕ) (given : ℕ → ℕ) (l : Line) (own : l.threa
   done_is : (kind : Kind) → Rule kind → length m.items ≤ most_globals + most_mutexes
       → put true (name_of_target case.G kind l.target) (guarded_in_value kind l (reads_for kind)) m ≡ done_by_kind kind case t given l m
   unfolding kind_rule name_of_a name_of_b name_of_target guarded_in_value
-  done_is compute r h =
-      rw (expression_is l m (reads_for compute) (and-true (ltb l.target local_count) (expression_ok l) r).rest refl refl)
+  done_is Compute r h =
+      rw (expression_is l m (reads_for Compute) (and-true (ltb l.target local_count) (expression_ok l) r).rest refl refl)
       (put_local_lem l.target (expression_in l m) m (local_target _ r))
-  done_is store r h =
-      rw (expression_is l m (reads_for store) (and-true (ltb l.target case.G) (expression_ok l) r).rest refl refl)
+  done_is Store r h =
+      rw (expression_is l m (reads_for Store) (and-true (ltb l.target case.G) (expression_ok l) r).rest refl refl)
       (put_item_lem l.target (expression_in l m) m)
-  done_is load r h = rw (look_item m l.a) (put_local_lem l.target (global_in m l.a) m (local_target _ r))
-  done_is input r h = put_local_lem l.target (given l.number) m (local_target _ r)
-  done_is assert r h = put_nothing _ m h
-  done_is assume r h = put_nothing _ m h
-  done_is lock r h = rw (← own) (put_item_lem (case.G + l.target) (holder l) m)
-  done_is unlock r h = put_item_lem (case.G + l.target) 0 m
+  done_is Load r h = rw (look_item m l.a) (put_local_lem l.target (global_in m l.a) m (local_target _ r))
+  done_is Input r h = put_local_lem l.target (given l.number) m (local_target _ r)
+  done_is Assert r h = put_nothing _ m h
+  done_is Assume r h = put_nothing _ m h
+  done_is Lock r h = rw (← own) (put_item_lem (case.G + l.target) (holder l) m)
+  done_is Unlock r h = put_item_lem (case.G + l.target) 0 m
 
   module _ (small : l.guard ≤ highest_guard) where
     ends_is : (kind : Kind) → Rule kind → stops kind l (reads_for kind) ≡ (guard_holds l m && ends_by_kind kind case l m)
     unfolding kind_rule name_of_a name_of_b name_of_target stops
-    ends_is compute r = sym (and_false (guard_holds l m))
-    ends_is store r = sym (and_false (guard_holds l m))
-    ends_is load r = sym (and_false (guard_holds l m))
-    ends_is input r = sym (and_false (guard_holds l m))
-    ends_is assert r = sym (and_false (guard_holds l m))
-    ends_is assume r =
-        rw (guard_is l m (reads_for assume) small refl, expression_is l m (reads_for assume) (and-true (eqb l.target 0) (expression_ok l) r).rest refl refl)
-    ends_is lock r = rw (guard_is l m (reads_for lock) small refl, look_item m (case.G + l.target))
-    ends_is unlock r = sym (and_false (guard_holds l m))
+    ends_is Compute r = sym (and_false (guard_holds l m))
+    ends_is Store r = sym (and_false (guard_holds l m))
+    ends_is Load r = sym (and_false (guard_holds l m))
+    ends_is Input r = sym (and_false (guard_holds l m))
+    ends_is Assert r = sym (and_false (guard_holds l m))
+    ends_is Assume r =
+        rw (guard_is l m (reads_for Assume) small refl, expression_is l m (reads_for Assume) (and-true (eqb l.target 0) (expression_ok l) r).rest refl refl)
+    ends_is Lock r = rw (guard_is l m (reads_for Lock) small refl, look_item m (case.G + l.target))
+    ends_is Unlock r = sym (and_false (guard_holds l m))
 
     noted_is : (kind : Kind) → Rule kind
         → breaks true kind l (reads_for kind) (value_by kind l (reads_for kind)) ≡ (guard_holds l m && noted_by_kind kind case t l m)
     unfolding kind_rule name_of_a name_of_b name_of_target breaks value_by guarded_in_value guarded_out_value
-    noted_is compute r = sym (and_false (guard_holds l m))
-    noted_is store r = sym (and_false (guard_holds l m))
-    noted_is load r = sym (and_false (guard_holds l m))
-    noted_is input r = sym (and_false (guard_holds l m))
-    noted_is assert r =
-        rw (guard_is l m (reads_for assert) small refl, expression_is l m (reads_for assert) (and-true (eqb l.target 0) (expression_ok l) r).rest refl refl)
+    noted_is Compute r = sym (and_false (guard_holds l m))
+    noted_is Store r = sym (and_false (guard_holds l m))
+    noted_is Load r = sym (and_false (guard_holds l m))
+    noted_is Input r = sym (and_false (guard_holds l m))
+    noted_is Assert r =
+        rw (guard_is l m (reads_for Assert) small refl, expression_is l m (reads_for Assert) (and-true (eqb l.target 0) (expression_ok l) r).rest refl refl)
         (zero_and (guard_holds l m) (eqb (expression_in l m) 0))
-    noted_is assume r = sym (and_false (guard_holds l m))
-    noted_is lock r = sym (and_false (guard_holds l m))
-    noted_is unlock r = rw (guard_is l m (reads_for unlock) small refl, look_item m (case.G + l.target), ← own)
+    noted_is Assume r = sym (and_false (guard_holds l m))
+    noted_is Lock r = sym (and_false (guard_holds l m))
+    noted_is Unlock r = rw (guard_is l m (reads_for Unlock) small refl, look_item m (case.G + l.target), ← own)
 
     refused_is : (kind : Kind) → stray_input kind l (reads_for kind) ≡ (not (guard_holds l m) && refused_by_kind kind given l)
     unfolding stray_input
-    refused_is compute = sym (and_false (not (guard_holds l m)))
-    refused_is store = sym (and_false (not (guard_holds l m)))
-    refused_is load = sym (and_false (not (guard_holds l m)))
-    refused_is input = rw (guard_is l m (reads_for input) small refl)
-    refused_is assert = sym (and_false (not (guard_holds l m)))
-    refused_is assume = sym (and_false (not (guard_holds l m)))
-    refused_is lock = sym (and_false (not (guard_holds l m)))
-    refused_is unlock = sym (and_false (not (guard_holds l m)))
+    refused_is Compute = sym (and_false (not (guard_holds l m)))
+    refused_is Store = sym (and_false (not (guard_holds l m)))
+    refused_is Load = sym (and_false (not (guard_holds l m)))
+    refused_is Input = rw (guard_is l m (reads_for Input) small refl)
+    refused_is Assert = sym (and_false (not (guard_holds l m)))
+    refused_is Assume = sym (and_false (not (guard_holds l m)))
+    refused_is Lock = sym (and_false (not (guard_holds l m)))
+    refused_is Unlock = sym (and_false (not (guard_holds l m)))
 
     step_is : Rule l.kind → length m.items ≤ most_globals + most_mutexes → stepped case given l m ≡ step_by_kind case t given l m
     unfolding value_by put_local put_item

@@ -11,7 +11,9 @@ use lib.Dec.{eqb, ltb}
 use lib.ListN.{get_or}
 use Rattle.model.specs.Word.{bit, nonzero}
 use Rattle.model.specs.Limits.{local_count}
-use Rattle.model.specs.CaseFile.{Kind, compute, store, load, input, assert, assume, lock, unlock, Line, Case, lines_of, item_count, sum_of_lines, sum_of_threads, has_number}
+use Rattle.model.specs.CaseFile.{Line, Case, lines_of, item_count, sum_of_lines, sum_of_threads, has_number}
+use Rattle.model.specs.declared.Kind.{Kind}
+use Rattle.model.specs.declared.Kind.TheVariants.{Compute, Store, Load, Input, Assert, Assume, Lock, Unlock}
 use Rattle.model.specs.Line.{no_name, item_name, local_name, guard_name, name_of_a, name_of_b, name_of_target, operand_a, operand_b, target_name, has_expression, reads_of, Reads, breaks, visible}
 use Rattle.model.specs.Assignment.{Assignment, was_run}
 use Rattle.model.specs.Copies.{latest, value_before, read_local, read_item, read_name, read_after, reads_after, walk_back}
@@ -181,25 +183,25 @@ b_names kind op b = either (has_expression kind && nonzero op) _ _ (local_names 
 
 a_names : (kind : Kind) (a : ℕ) → visible kind ≡ false → LocalOrNone (name_of_a kind a)
 unfolding name_of_a
-a_names compute a unseen = local_names a
-a_names store a unseen = local_names a
-a_names load a unseen = absurd (true≢false unseen)
-a_names input a unseen = is_no_name refl
-a_names assert a unseen = local_names a
-a_names assume a unseen = local_names a
-a_names lock a unseen = is_no_name refl
-a_names unlock a unseen = is_no_name refl
+a_names Compute a unseen = local_names a
+a_names Store a unseen = local_names a
+a_names Load a unseen = absurd (true≢false unseen)
+a_names Input a unseen = is_no_name refl
+a_names Assert a unseen = local_names a
+a_names Assume a unseen = local_names a
+a_names Lock a unseen = is_no_name refl
+a_names Unlock a unseen = is_no_name refl
 
 target_names : (G : ℕ) (kind : Kind) (target : ℕ) → visible kind ≡ false → LocalOrNone (name_of_target G kind target)
 unfolding name_of_target
-target_names G compute target unseen = local_names target
-target_names G store target unseen = absurd (true≢false unseen)
-target_names G load target unseen = absurd (true≢false unseen)
-target_names G input target unseen = local_names target
-target_names G assert target unseen = is_no_name refl
-target_names G assume target unseen = is_no_name refl
-target_names G lock target unseen = absurd (true≢false unseen)
-target_names G unlock target unseen = absurd (true≢false unseen)
+target_names G Compute target unseen = local_names target
+target_names G Store target unseen = absurd (true≢false unseen)
+target_names G Load target unseen = absurd (true≢false unseen)
+target_names G Input target unseen = local_names target
+target_names G Assert target unseen = is_no_name refl
+target_names G Assume target unseen = is_no_name refl
+target_names G Lock target unseen = absurd (true≢false unseen)
+target_names G Unlock target unseen = absurd (true≢false unseen)
 
 item_is_seen : (G name : ℕ) (l : Line) → target_name G l ≡ name → local_count ≤ name → name < no_name → visible l.kind ≡ true
 item_is_seen G name l e low high = go (visible l.kind) refl

@@ -1,5 +1,6 @@
 -- Accepted cases with R 0 and n 0: their table is constraint 7 alone, and no assignment meets it.
 -- Assumes nothing. Met again in CaseA, which has it as P10.
+use Rattle.std.specs.Prelude.{Ok}
 use mathlib.Core.Path.{◌≡◌, refl, ◌∙◌}
 use Prim.Native.Nat.{ℕ, zero, suc, ◌+◌, ◌≤◌}
 use mathlib.Core.Bool.{false}
@@ -13,8 +14,6 @@ use Rattle.model.specs.Assignment.{Assignment, variables, assignment_of}
 use Rattle.model.specs.Table.{order_rows, value_rows, all_order_rows, all_value_rows, block_rows, run_rows, goal_row, table, numbers_of}
 use Rattle.model.specs.Holds.{some_breaks, some_thread_breaks, holds, first_failing}
 use Rattle.model.specs.Answers.{encoded, encoded_into, checked}
-use Rattle.model.specs.declared.Verdict.TheVariants.{Accepted}
-use Rattle.model.specs.declared.Encoded.TheVariants.{Table}
 use Rattle.model.specs.declared.Checked.TheVariants.{Meets}
 use Rattle.laws.proofs.Accepted.{accepted_of}
 use Rattle.laws.proofs.Following.{lines_end}
@@ -22,9 +21,9 @@ use Rattle.correspondence.proofs.Replies.{passes_of_meets, encoded_with_room, en
 
 -- "has one constraint, which nothing meets": the numbers of a 7, in every slice that has room for them.
 pub record OneConstraintMetByNothing (bytes : List ℕ) : Type 0 where
-  pub counts : (room : ℕ) → 6 ≤ room → encoded bytes room ≡ Table 1 0
+  pub counts : (room : ℕ) → 6 ≤ room → encoded bytes room ≡ Ok (record { constraints = 1; variables = 0 })
   pub listing : (slice : List ℕ) → 6 ≤ length slice → encoded_into bytes slice ≡ written_over (7 ∷ 0 ∷ 0 ∷ 0 ∷ 0 ∷ 0 ∷ []) slice
-  pub never_met : (xs : List ℕ) → checked bytes xs ≡ Meets → ⊥
+  pub never_met : (xs : List ℕ) → checked bytes xs ≡ Ok Meets → ⊥
 
 -- ---- So many threads, none of which has a line
 
@@ -45,7 +44,7 @@ none_breaks case α (suc many) = none_breaks case α many
 
 -- ---- The case
 
-module _ (bytes : List ℕ) (accepted : verdict bytes ≡ Accepted) (none : records bytes ≡ 0) (no_switch : switch_count bytes ≡ 0) where
+module _ (bytes : List ℕ) (accepted : verdict bytes ≡ Ok tt) (none : records bytes ≡ 0) (no_switch : switch_count bytes ≡ 0) where
   -- No first number is over R, so that each is 0.
   chains_empty : (t many : ℕ) → t + many ≤ thread_count bytes → chains bytes t many ≡ replicate many []
   unfolding chains

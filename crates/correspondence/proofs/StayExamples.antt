@@ -1,5 +1,6 @@
 -- Five, worked out by hand: an assert that is run in a later block than the line before it, and the same run with it moved.
 -- Assumes nothing.
+use Rattle.std.specs.Prelude.{Ok}
 use mathlib.Core.Path.{◌≡◌, refl}
 use Prim.Native.Nat.{ℕ, zero, suc}
 use mathlib.Core.Bool.{true≢false}
@@ -26,7 +27,7 @@ unfolding computing load_then_assert
 eight_listed = refl
 
 -- "the replayer still takes all": the assert in block 2, after the load in block 0. No assignment is this run: its own fails at row 4.
-late_is_violated : replayed load_then_assert (1 ∷ 1 ∷ 1 ∷ []) 1 ≡ Violated 1
+late_is_violated : replayed load_then_assert (1 ∷ 1 ∷ 1 ∷ []) 1 ≡ Ok (Violated 1)
 unfolding computing load_then_assert
 late_is_violated = refl
 
@@ -34,12 +35,12 @@ late_breaks_the_rule : KeepsRule (case_of load_then_assert) (1 ∷ 1 ∷ 1 ∷ [
 unfolding computing load_then_assert
 late_breaks_the_rule keeps = true≢false (keeps 0 (omega arith)).0
 
-late_fails_its_8 : checked load_then_assert (2 ∷ 0 ∷ 0 ∷ 0 ∷ 1 ∷ 5 ∷ 0 ∷ 5 ∷ []) ≡ Fails 4
+late_fails_its_8 : checked load_then_assert (2 ∷ 0 ∷ 0 ∷ 0 ∷ 1 ∷ 5 ∷ 0 ∷ 5 ∷ []) ≡ Ok (Fails 4)
 unfolding computing load_then_assert
 late_fails_its_8 = refl
 
 -- With the assert in the load's block it is an assignment's, with the same values.
-moved_meets : checked load_then_assert (0 ∷ 0 ∷ 0 ∷ 0 ∷ 1 ∷ 5 ∷ 0 ∷ 5 ∷ []) ≡ Meets
+moved_meets : checked load_then_assert (0 ∷ 0 ∷ 0 ∷ 0 ∷ 1 ∷ 5 ∷ 0 ∷ 5 ∷ []) ≡ Ok Meets
 unfolding computing load_then_assert
 moved_meets = refl
 
@@ -54,6 +55,6 @@ moved_keeps_the_rule (suc zero) few = tt
 moved_keeps_the_rule (suc (suc t)) few = absurd (omega arith)
 
 -- "or n + 1": the assert is not run, and of the 13 constraints only the 7 fails.
-unrun_meets_its_8 : checked load_then_assert (3 ∷ 1 ∷ 0 ∷ 0 ∷ 1 ∷ 5 ∷ 0 ∷ 5 ∷ []) ≡ Fails 13
+unrun_meets_its_8 : checked load_then_assert (3 ∷ 1 ∷ 0 ∷ 0 ∷ 1 ∷ 5 ∷ 0 ∷ 5 ∷ []) ≡ Ok (Fails 13)
 unfolding computing load_then_assert
 unrun_meets_its_8 = refl

@@ -9,7 +9,9 @@ use lib.Dec.{ltb}
 use lib.ListN.{set, length, length-set}
 use Rattle.laws.proofs.Views.{EqView, same, diff, eq_view, LtView, below, above, lt_view}
 use Rattle.model.specs.Limits.{local_count}
-use Rattle.model.specs.CaseFile.{Kind, compute, store, load, input, assert, assume, lock, unlock, Line, Case, item_count}
+use Rattle.model.specs.CaseFile.{Line, Case, item_count}
+use Rattle.model.specs.declared.Kind.{Kind}
+use Rattle.model.specs.declared.Kind.TheVariants.{Compute, Store, Load, Input, Assert, Assume, Lock, Unlock}
 use Rattle.model.specs.Line.{no_name, Reads, name_of_target, target_name, guard_true, guarded_out_value, value_by, value_of}
 use Rattle.model.specs.Machine.{Memory, look, put_local, put_item, reads_in, stepped}
 use Rattle.model.specs.Assignment.{Assignment}
@@ -39,14 +41,14 @@ length_put_item on name value xs = length_set_where (on && not (ltb name local_c
 guarded_out_value_is_old : (G : ℕ) (kind : Kind) (target : ℕ) (reads : Reads) → name_of_target G kind target < no_name
     → guarded_out_value kind reads ≡ reads.target
 unfolding name_of_target guarded_out_value
-guarded_out_value_is_old G compute target reads h = refl
-guarded_out_value_is_old G store target reads h = refl
-guarded_out_value_is_old G load target reads h = refl
-guarded_out_value_is_old G input target reads h = refl
-guarded_out_value_is_old G assert target reads h = absurd (omega arith)
-guarded_out_value_is_old G assume target reads h = absurd (omega arith)
-guarded_out_value_is_old G lock target reads h = refl
-guarded_out_value_is_old G unlock target reads h = refl
+guarded_out_value_is_old G Compute target reads h = refl
+guarded_out_value_is_old G Store target reads h = refl
+guarded_out_value_is_old G Load target reads h = refl
+guarded_out_value_is_old G Input target reads h = refl
+guarded_out_value_is_old G Assert target reads h = absurd (omega arith)
+guarded_out_value_is_old G Assume target reads h = absurd (omega arith)
+guarded_out_value_is_old G Lock target reads h = refl
+guarded_out_value_is_old G Unlock target reads h = refl
 
 module _ (case : Case) (given : ℕ → ℕ) (l : Line) (m : Memory) where
   pub step_fits : MemoryFits case m → MemoryFits case (stepped case given l m)

@@ -1,5 +1,6 @@
 -- Worked examples of runs that stop early (document 02, request Two), computed from bytes over what the calls answer.
 -- Assumes nothing. No proof uses them: they hold the definitions beside the documents.
+use Rattle.std.specs.Prelude.{Result, Ok, Err}
 use mathlib.Core.Path.{◌≡◌, refl}
 use Prim.Native.Nat.{ℕ, ◌+◌, ◌-◌}
 use mathlib.Core.Bool.{Bool, true, false}
@@ -9,10 +10,12 @@ use Rattle.model.specs.Lists.{all_from}
 use Rattle.model.specs.Answers.{checked, decoded_into, replayed, replayed_into}
 use Rattle.model.specs.declared.Checked.TheVariants.{Meets, Fails}
 use Rattle.model.specs.declared.Replayed.{Replayed}
-use Rattle.model.specs.declared.Replayed.TheVariants.{Violated, Clean, CutOff, Refused}
+use Rattle.model.specs.declared.Replayed.TheVariants.{Violated, Clean, CutOff}
 use Rattle.correspondence.proofs.Computing.{computing}
 use Rattle.correspondence.proofs.CaseA.{case_a}
 use Rattle.correspondence.proofs.CaseBytes.{header, rec, file}
+use Rattle.model.specs.declared.Refusal.{Refusal}
+use Rattle.model.specs.declared.Refusal.TheVariants as refusals
 
 -- ---- A fault that only a run which stops can show
 
@@ -50,7 +53,7 @@ handshake = file (header 2 4 3 0 1 12 0 0)
 
 -- "A run is legal when nothing cuts it off, and violates when it also contains a zero assert": thread 0 has run three of its eleven
 -- lines and thread 1 three of its twelve.
-stopped_run_violates : replayed handshake (1 ∷ 3 ∷ 2 ∷ 0 ∷ 0 ∷ []) 3 ≡ Violated 3
+stopped_run_violates : replayed handshake (1 ∷ 3 ∷ 2 ∷ 0 ∷ 0 ∷ []) 3 ≡ Ok (Violated 3)
 unfolding computing handshake
 stopped_run_violates = refl
 
@@ -58,16 +61,16 @@ stopped_run_violates = refl
 whole_run : ℕ → ℕ → ℕ → List ℕ
 whole_run x y z = x ∷ z ∷ y ∷ (12 - z) ∷ (11 - (x + y)) ∷ []
 
-whole_run_is_cut_off : replayed handshake (whole_run 1 10 12) 3 ≡ CutOff 17
+whole_run_is_cut_off : replayed handshake (whole_run 1 10 12) 3 ≡ Ok (CutOff 17)
 unfolding computing handshake whole_run
 whole_run_is_cut_off = refl
 
 -- "no run that finished within the bound": wherever the switches are, some assume cuts a run of all lines off.
-abbrev is_cut_off : Replayed → Bool
-is_cut_off (Violated k) = false
-is_cut_off Clean = false
-is_cut_off (CutOff k) = true
-is_cut_off (Refused number place) = false
+abbrev is_cut_off : Result Replayed Refusal → Bool
+is_cut_off (Ok (Violated k)) = false
+is_cut_off (Ok Clean) = false
+is_cut_off (Ok (CutOff k)) = true
+is_cut_off (Err e) = false
 
 no_run_finishes : all_from (λ x. all_from (λ y. all_from (λ z. is_cut_off (replayed handshake (whole_run x y z) 3)) 0 13) 0 (12 - x)) 0 12 ≡ true
 unfolding computing handshake whole_run
@@ -81,7 +84,7 @@ stopped_run =
     ∷ 1 ∷ 1 ∷ 1 ∷ 1 ∷ 1 ∷ 1 ∷ 5 ∷ 0 ∷ 5 ∷ 0 ∷ 5 ∷ 1 ∷ 5 ∷ 0 ∷ 5 ∷ 0 ∷ 5 ∷ 0 ∷ 5 ∷ 1 ∷ 5 ∷ 0 ∷ 5 ∷ 0
     ∷ 1 ∷ 0 ∷ 0 ∷ 1 ∷ 0 ∷ 1 ∷ 1 ∷ 0 ∷ 1 ∷ 1 ∷ 0 ∷ 1 ∷ []
 
-stopped_run_meets : checked handshake stopped_run ≡ Meets
+stopped_run_meets : checked handshake stopped_run ≡ Ok Meets
 unfolding computing handshake stopped_run
 stopped_run_meets = refl
 
@@ -102,30 +105,30 @@ leaving : ℕ → ℕ → ℕ → ℕ → List ℕ
 leaving x y z w = 0 ∷ 1 ∷ 0 ∷ 0 ∷ 1 ∷ x ∷ 1 ∷ y ∷ 1 ∷ z ∷ 1 ∷ w ∷ []
 
 -- "constraint 2 then allows n + 1, constraint 3 accepts it, constraint 5 is met, and the value is 0, or 1 for assert and assume"
-unrun_lines_accepted : checked stops_after_two (leaving 1 0 0 1) ≡ Meets
+unrun_lines_accepted : checked stops_after_two (leaving 1 0 0 1) ≡ Ok Meets
 unfolding computing stops_after_two leaving
 unrun_lines_accepted = refl
 
 -- After sixteen rows of order and the first lock's two, rows 19 to 22 are the 4s of records 2 to 5, 23 is the lock's 5, and 24 and 25
 -- are the 4 and the 5 of record 6.
-unrun_assert_is_1 : checked stops_after_two (leaving 0 0 0 1) ≡ Fails 20
+unrun_assert_is_1 : checked stops_after_two (leaving 0 0 0 1) ≡ Ok (Fails 20)
 unfolding computing stops_after_two leaving
 unrun_assert_is_1 = refl
 
-unrun_compute_is_0 : checked stops_after_two (leaving 1 7 0 1) ≡ Fails 21
+unrun_compute_is_0 : checked stops_after_two (leaving 1 7 0 1) ≡ Ok (Fails 21)
 unfolding computing stops_after_two leaving
 unrun_compute_is_0 = refl
 
-unrun_lock_is_0 : checked stops_after_two (leaving 1 0 1 1) ≡ Fails 22
+unrun_lock_is_0 : checked stops_after_two (leaving 1 0 1 1) ≡ Ok (Fails 22)
 unfolding computing stops_after_two leaving
 unrun_lock_is_0 = refl
 
-unrun_assume_is_1 : checked stops_after_two (leaving 1 0 0 0) ≡ Fails 24
+unrun_assume_is_1 : checked stops_after_two (leaving 1 0 0 0) ≡ Ok (Fails 24)
 unfolding computing stops_after_two leaving
 unrun_assume_is_1 = refl
 
 -- The same lines run: the second lock finds its mutex at 1.
-run_lock_must_read_0 : checked stops_after_two (0 ∷ 1 ∷ 0 ∷ 0 ∷ 0 ∷ 0 ∷ 0 ∷ 7 ∷ 0 ∷ 1 ∷ 1 ∷ 1 ∷ []) ≡ Fails 23
+run_lock_must_read_0 : checked stops_after_two (0 ∷ 1 ∷ 0 ∷ 0 ∷ 0 ∷ 0 ∷ 0 ∷ 7 ∷ 0 ∷ 1 ∷ 1 ∷ 1 ∷ []) ≡ Ok (Fails 23)
 unfolding computing stops_after_two
 run_lock_must_read_0 = refl
 
@@ -134,12 +137,12 @@ unrun_lines_not_counted : decoded_into stops_after_two (leaving 1 0 0 1) (9 ∷ 
 unfolding computing stops_after_two leaving
 unrun_lines_not_counted = refl
 
-stops_before_the_lock : replayed stops_after_two (2 ∷ []) 1 ≡ Violated 2
+stops_before_the_lock : replayed stops_after_two (2 ∷ []) 1 ≡ Ok (Violated 2)
 unfolding computing stops_after_two
 stops_before_the_lock = refl
 
 -- "Block lengths may add up to less than a thread's lines": each thread of case A leaves one. What is refused is in Refusals.
-fewer_lines_run : replayed (case_a 2) (2 ∷ 0 ∷ 1 ∷ []) 1 ≡ Clean
+fewer_lines_run : replayed (case_a 2) (2 ∷ 0 ∷ 1 ∷ []) 1 ≡ Ok Clean
 unfolding computing case_a
 fewer_lines_run = refl
 
@@ -151,11 +154,11 @@ unfolding file
 input_left = file (header 2 1 1 0 1 2 0 0) (rec 0 4 0 0 0 0 0 0 (rec 3 4 2 0 0 0 0 0 (rec 0 6 0 0 0 16 0 0 [])))
 
 -- "An unrun input has value 0, otherwise 14"
-unrun_input_is_0 : replayed input_left (0 ∷ 1 ∷ 0 ∷ 0 ∷ []) 1 ≡ Clean
+unrun_input_is_0 : replayed input_left (0 ∷ 1 ∷ 0 ∷ 0 ∷ []) 1 ≡ Ok Clean
 unfolding computing input_left
 unrun_input_is_0 = refl
 
-unrun_input_refused : replayed input_left (0 ∷ 1 ∷ 8 ∷ 0 ∷ []) 1 ≡ Refused 14 1
+unrun_input_refused : replayed input_left (0 ∷ 1 ∷ 8 ∷ 0 ∷ []) 1 ≡ Err (refusals.Stray 1)
 unfolding computing input_left
 unrun_input_refused = refl
 
@@ -166,10 +169,10 @@ unrun_input_slice = refl
 
 -- "looked for after the last step": an input that strays on the way comes first, though thread 0's comes first by thread; and so does
 -- a cut-off.
-stray_on_the_way_first : replayed input_left (0 ∷ 1 ∷ 8 ∷ 8 ∷ []) 1 ≡ Refused 14 2
+stray_on_the_way_first : replayed input_left (0 ∷ 1 ∷ 8 ∷ 8 ∷ []) 1 ≡ Err (refusals.Stray 2)
 unfolding computing input_left
 stray_on_the_way_first = refl
 
-cut_off_first : replayed input_left (0 ∷ 2 ∷ 8 ∷ 0 ∷ []) 1 ≡ CutOff 3
+cut_off_first : replayed input_left (0 ∷ 2 ∷ 8 ∷ 0 ∷ []) 1 ≡ Ok (CutOff 3)
 unfolding computing input_left
 cut_off_first = refl

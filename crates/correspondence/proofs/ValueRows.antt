@@ -8,7 +8,9 @@ use native.Mathlib.Omega.{arith}
 use lib.ListN.{get_or, length}
 use borrow.Author.Tests.{eqb-true, eq-eqb, not-true}
 use Rattle.model.specs.Limits.{local_count}
-use Rattle.model.specs.CaseFile.{Kind, compute, store, load, input, assert, assume, lock, unlock, Line, Case, item_count, line_at}
+use Rattle.model.specs.CaseFile.{Line, Case, item_count, line_at}
+use Rattle.model.specs.declared.Kind.{Kind}
+use Rattle.model.specs.declared.Kind.TheVariants.{Compute, Store, Load, Input, Assert, Assume, Lock, Unlock}
 use Rattle.model.specs.Line.{no_name, target_name, guard_true}
 use Rattle.model.specs.Assignment.{Assignment, was_run}
 use Rattle.model.specs.Copies.{reads_after}
@@ -40,36 +42,36 @@ module _ (case : Case) (few : local_count + item_count case ≤ no_name) (α : A
       → AllHold case α (demand_rows kind case earlier l) → was_run case (α.block l.number) ≡ true
       → Demanded kind l (reads_after case α earlier l) (α.value l.number)
   unfolding demand_rows holds demand_met
-  demand_of_rows compute earlier l e found h run = tt
-  demand_of_rows store earlier l e found h run = tt
-  demand_of_rows load earlier l e found h run = tt
-  demand_of_rows input earlier l e found h run = tt
-  demand_of_rows assert earlier l e found h run = tt
-  demand_of_rows assume earlier l e found h run = eqb-true (α.value l.number) 1
+  demand_of_rows Compute earlier l e found h run = tt
+  demand_of_rows Store earlier l e found h run = tt
+  demand_of_rows Load earlier l e found h run = tt
+  demand_of_rows Input earlier l e found h run = tt
+  demand_of_rows Assert earlier l e found h run = tt
+  demand_of_rows Assume earlier l e found h run = eqb-true (α.value l.number) 1
       (subst (λ (kind : Kind). demand_met kind l (reads_with case α l 0 0 0 0) (α.value l.number) ≡ true) e (rw (found, run) at h.0))
-  demand_of_rows lock earlier l e found h run = λ on. sym (copy_reads case few α (α.block l.number) earlier (target_name case.G l))
+  demand_of_rows Lock earlier l e found h run = λ on. sym (copy_reads case few α (α.block l.number) earlier (target_name case.G l))
       ∙ zero_where_true (guard_true l (lock_reads case few α earlier l)) (lock_reads case few α earlier l).target
       (not-true _ (subst (λ (kind : Kind). demand_met kind l (lock_reads case few α earlier l) (α.value l.number) ≡ true) e
       (rw (found, run) at h.0)))
       (lock_guard case few α earlier l ∙ on)
-  demand_of_rows unlock earlier l e found h run = tt
+  demand_of_rows Unlock earlier l e found h run = tt
 
   rows_of_demand : (kind : Kind) (earlier : List Line) (l : Line) → l.kind ≡ kind → line_at case l.number ≡ l
       → (was_run case (α.block l.number) ≡ true → Demanded kind l (reads_after case α earlier l) (α.value l.number))
       → AllHold case α (demand_rows kind case earlier l)
   unfolding demand_rows holds demand_met
-  rows_of_demand compute earlier l e found h = tt
-  rows_of_demand store earlier l e found h = tt
-  rows_of_demand load earlier l e found h = tt
-  rows_of_demand input earlier l e found h = tt
-  rows_of_demand assert earlier l e found h = tt
-  rows_of_demand assume earlier l e found h = (
+  rows_of_demand Compute earlier l e found h = tt
+  rows_of_demand Store earlier l e found h = tt
+  rows_of_demand Load earlier l e found h = tt
+  rows_of_demand Input earlier l e found h = tt
+  rows_of_demand Assert earlier l e found h = tt
+  rows_of_demand Assume earlier l e found h = (
     rw found (met_where_run (was_run case (α.block l.number)) _
         (λ run. subst (λ (kind : Kind). demand_met kind l (reads_with case α l 0 0 0 0) (α.value l.number) ≡ true) (sym e)
         (eq-eqb (α.value l.number) 1 (h run)))),
     tt,
   )
-  rows_of_demand lock earlier l e found h = (
+  rows_of_demand Lock earlier l e found h = (
     rw found (met_where_run (was_run case (α.block l.number)) _
         (λ run. subst (λ (kind : Kind). demand_met kind l (lock_reads case few α earlier l) (α.value l.number) ≡ true) (sym e)
         (ap not (not_nonzero_where_true (guard_true l (lock_reads case few α earlier l)) (lock_reads case few α earlier l).target
@@ -77,7 +79,7 @@ module _ (case : Case) (few : local_count + item_count case ≤ no_name) (α : A
         ∙ h run (sym (lock_guard case few α earlier l) ∙ on)))))),
     tt,
   )
-  rows_of_demand unlock earlier l e found h = tt
+  rows_of_demand Unlock earlier l e found h = tt
 
   met_of_rows : (earlier ls : List Line) → AllLines (λ l. line_at case l.number ≡ l) ls → AllHold case α (value_rows case earlier ls)
       → LinesMet case α earlier ls

@@ -3,7 +3,7 @@
 -- to equal.
 -- It is proved in proofs/Demand3.antt.
 -- Assumes nothing.
-use Rattle.std.specs.Prelude.{◌≡◌, ◌↔◌, ℕ, ◌≤◌, ◌<◌, true, List, length, take}
+use Rattle.std.specs.Prelude.{◌≡◌, ◌↔◌, ℕ, ◌≤◌, ◌<◌, true, List, length, take, Result, Ok, Err}
 use Rattle.model.specs.Word.{word_size, AllBelow}
 use Rattle.model.specs.Lists.{written_over}
 use Rattle.model.specs.CaseFile.{case_of, lines_of, item_count}
@@ -13,17 +13,15 @@ use Rattle.model.specs.Table.{Row, table, without_eights, numbers_of}
 use Rattle.model.specs.Schedule.{schedule_size, block_lengths, input_values, steps_of, lengths_fit, decode}
 use Rattle.model.specs.Runs.{Step, run_steps, lines_run, KeepsRule, FirstLate, Legal, Violates, InBlocks, Takes, FirstBroken, BrokenAt, NoneBroken, FirstEnding, Meets14, last_items}
 use Rattle.model.specs.Answers.{encoded, encoded_into, checked, decoded, decoded_into, replayed, replayed_into, filled, filled_into}
-use Rattle.model.specs.declared.Verdict.TheVariants.{Accepted}
-use Rattle.model.specs.declared.Encoded.TheVariants as encodeds
 use Rattle.model.specs.declared.Checked.TheVariants.{Meets, Fails}
-use Rattle.model.specs.declared.Decoded.TheVariants as decodeds
 use Rattle.model.specs.declared.Replayed.{Replayed}
 use Rattle.model.specs.declared.Replayed.TheVariants as replayeds
-use Rattle.model.specs.declared.Filled.TheVariants as filleds
 use Rattle.laws.specs.AllHold.{AllHold}
 use Rattle.correspondence.specs.ReadBack.{rows_of, FirstFails}
 use Rattle.correspondence.specs.KindByKind.{StepsAsSaid}
 use Rattle.model.specs.Fill.{fill}
+use Rattle.model.specs.declared.Refusal.{Refusal}
+use Rattle.model.specs.declared.Refusal.TheVariants as refusals
 
 -- How many numbers the slices lent to the encoder, the decoder, the replayer and the filler must hold.
 abbrev pub table_room : List ℕ → ℕ
@@ -44,13 +42,13 @@ written_rows bytes slice = rows_of (take (table_room bytes) (encoded_into bytes 
 
 -- "An assignment is 2R + n × (G + M) numbers from 0 to 65,535": the checker says yes to this one.
 abbrev pub Yes : List ℕ → List ℕ → Type 0
-Yes bytes xs = AllBelow word_size xs × (checked bytes xs ≡ Meets)
+Yes bytes xs = AllBelow word_size xs × (checked bytes xs ≡ Ok Meets)
 
 -- "It decodes to the schedule that the counting above gives, which is what the decoder writes": with room, it writes this one.
 abbrev pub DecodedAs : List ℕ → List ℕ → List ℕ → Type 0
 DecodedAs bytes xs schedule =
     (slice : List ℕ) → schedule_room bytes ≤ length slice
-    → (decoded bytes xs (length slice) ≡ decodeds.Schedule (length schedule)) × (decoded_into bytes xs slice ≡ written_over schedule slice)
+    → (decoded bytes xs (length slice) ≡ Ok (length schedule)) × (decoded_into bytes xs slice ≡ written_over schedule slice)
 
 -- The schedule that the counting gives.
 abbrev pub counted : List ℕ → List ℕ → List ℕ
@@ -60,21 +58,19 @@ counted bytes xs = decode (case_of bytes) (assignment_of (case_of bytes) xs)
 abbrev pub FilledAs : List ℕ → List ℕ → List ℕ → Type 0
 FilledAs bytes schedule xs =
     (slice : List ℕ) → assignment_room bytes ≤ length slice
-    → (filled bytes schedule (length slice) ≡ filleds.Assignment (length xs)) × (filled_into bytes schedule slice ≡ written_over xs slice)
+    → (filled bytes schedule (length slice) ≡ Ok (length xs)) × (filled_into bytes schedule slice ≡ written_over xs slice)
 
 -- The reply is no refusal.
-abbrev pub NotRefused : Replayed → Type 0
-NotRefused (replayeds.Violated k) = Unit
-NotRefused replayeds.Clean = Unit
-NotRefused (replayeds.CutOff k) = Unit
-NotRefused (replayeds.Refused number place) = ⊥
+abbrev pub NotRefused : Result Replayed Refusal → Type 0
+NotRefused (Ok reply) = Unit
+NotRefused (Err e) = ⊥
 
 -- The reply is neither a refusal nor a violation: "a schedule whose run does not violate".
-abbrev pub NoViolation : Replayed → Type 0
-NoViolation (replayeds.Violated k) = ⊥
-NoViolation replayeds.Clean = Unit
-NoViolation (replayeds.CutOff k) = Unit
-NoViolation (replayeds.Refused number place) = ⊥
+abbrev pub NoViolation : Result Replayed Refusal → Type 0
+NoViolation (Ok (replayeds.Violated k)) = ⊥
+NoViolation (Ok replayeds.Clean) = Unit
+NoViolation (Ok (replayeds.CutOff k)) = Unit
+NoViolation (Err e) = ⊥
 
 -- With room for the items the replayer leaves these final values.
 abbrev pub Leaves : List ℕ → List ℕ → List ℕ → Type 0
@@ -84,7 +80,7 @@ Leaves bytes schedule items = (slice : List ℕ) → item_room bytes ≤ length 
 -- record whatever the room.
 abbrev pub AnsweredViolated : List ℕ → List ℕ → Type 0
 AnsweredViolated bytes schedule =
-    AllBelow word_size schedule × ((k : ℕ) × ((room : ℕ) → item_room bytes ≤ room → replayed bytes schedule room ≡ replayeds.Violated k))
+    AllBelow word_size schedule × ((k : ℕ) × ((room : ℕ) → item_room bytes ≤ room → replayed bytes schedule room ≡ Ok (replayeds.Violated k)))
 
 -- "A run in blocks 0 to n is the run of some such schedule.": that of this one, and it violates.
 abbrev pub ViolatingRun : List ℕ → List ℕ → Type 0
@@ -100,11 +96,11 @@ pub record Demand3 (bytes : List ℕ) : Type 0 where
   -- ---- The encoder's table and the checker.
   -- The checker says yes exactly where the assignment has its length and every row holds of the table that the encoder writes;
   pub yes_is_all_rows : (slice : List ℕ) → table_room bytes ≤ length slice → (xs : List ℕ) →
-      (checked bytes xs ≡ Meets)
+      (checked bytes xs ≡ Ok Meets)
       ↔ ((length xs ≡ variables (case_of bytes)) × AllHold (case_of bytes) (assignment_of (case_of bytes) xs) (written_rows bytes slice))
   -- and it names row j exactly where the assignment has its length and row j of that table, from 1, is the first that fails.
   pub no_names_the_first_row : (slice : List ℕ) → table_room bytes ≤ length slice → (xs : List ℕ) (j : ℕ) →
-      (checked bytes xs ≡ Fails j)
+      (checked bytes xs ≡ Ok (Fails j))
       ↔ ((length xs ≡ variables (case_of bytes)) × FirstFails (case_of bytes) (assignment_of (case_of bytes) xs) 1 (written_rows bytes slice) j)
   -- ---- Assignments and runs.
   -- Some assignment gets yes exactly where some run in blocks 0 to n violates,
@@ -128,21 +124,21 @@ pub record Demand3 (bytes : List ℕ) : Type 0 where
       ↔ (AnsweredViolated bytes schedule × KeepsRule (case_of bytes) schedule × FilledAs bytes schedule xs)
   -- what is written for a schedule that is not refused gets yes and decodes to the schedule,
   pub filled_decodes_back : (schedule : List ℕ) → AllBelow word_size schedule → (slice : List ℕ) (numbers : ℕ)
-      → filled bytes schedule (length slice) ≡ filleds.Assignment numbers
+      → filled bytes schedule (length slice) ≡ Ok numbers
       → (xs : List ℕ) × Yes bytes xs × DecodedAs bytes xs schedule × (filled_into bytes schedule slice ≡ written_over xs slice)
   -- and an assignment with yes is what is written for its schedule.
   pub decoded_fills_back : (xs : List ℕ) → Yes bytes xs → FilledAs bytes (counted bytes xs) xs
   -- What the replayer refuses with 12 to 14 is refused alike; with 16 what it answers otherwise than with violated;
-  pub refused_like_replay : (schedule : List ℕ) (room items : ℕ) → assignment_room bytes ≤ room → item_room bytes ≤ items → (number place : ℕ)
-      → replayed bytes schedule items ≡ replayeds.Refused number place → filled bytes schedule room ≡ filleds.Refused number place
+  pub refused_like_replay : (schedule : List ℕ) (room items : ℕ) → assignment_room bytes ≤ room → item_room bytes ≤ items → (e : Refusal)
+      → replayed bytes schedule items ≡ Err e → filled bytes schedule room ≡ Err e
   pub refused_16_is_no_violation : (schedule : List ℕ) (room items : ℕ) → assignment_room bytes ≤ room → item_room bytes ≤ items →
-      (filled bytes schedule room ≡ filleds.Refused 16 0) ↔ NoViolation (replayed bytes schedule items)
+      (filled bytes schedule room ≡ Err refusals.NoViolation) ↔ NoViolation (replayed bytes schedule items)
   -- with 17 what violates and breaks the rule, and the record is that of the first late line by thread and chain.
   pub refused_17_breaks_the_rule : (schedule : List ℕ) (room : ℕ) → assignment_room bytes ≤ room →
-      ((k : ℕ) × (filled bytes schedule room ≡ filleds.Refused 17 k))
+      ((k : ℕ) × (filled bytes schedule room ≡ Err (refusals.Late k)))
       ↔ (Takes (case_of bytes) schedule × Violates (case_of bytes) schedule × (KeepsRule (case_of bytes) schedule → ⊥))
   pub refused_17_names_the_first : (schedule : List ℕ) (room : ℕ) → assignment_room bytes ≤ room → (k : ℕ) →
-      (filled bytes schedule room ≡ filleds.Refused 17 k)
+      (filled bytes schedule room ≡ Err (refusals.Late k))
       ↔ (Takes (case_of bytes) schedule × Violates (case_of bytes) schedule × FirstLate (case_of bytes) schedule k)
   -- ---- Five: "the solver's yes or no is unchanged by the new constraint".
   -- Some assignment gets yes exactly where some assignment meets the table that the encoder writes without its 8s,
@@ -159,21 +155,21 @@ pub record Demand3 (bytes : List ℕ) : Type 0 where
   -- Violated: taken, and the run violates; the record is that of its first line that does in running order, a zero assert or an unlock by
   -- a stranger.
   pub violated_names_the_first : (schedule : List ℕ) (room : ℕ) → item_room bytes ≤ room → (k : ℕ) →
-      (replayed bytes schedule room ≡ replayeds.Violated k)
+      (replayed bytes schedule room ≡ Ok (replayeds.Violated k))
       ↔ (Takes (case_of bytes) schedule × Violates (case_of bytes) schedule × FirstBroken (case_of bytes) schedule k)
   -- Clean: taken, legal, and no line violates.
   pub clean_is_nothing_broken : (schedule : List ℕ) (room : ℕ) → item_room bytes ≤ room →
-      (replayed bytes schedule room ≡ replayeds.Clean)
+      (replayed bytes schedule room ≡ Ok replayeds.Clean)
       ↔ (Takes (case_of bytes) schedule × Legal (case_of bytes) schedule × NoneBroken (case_of bytes) schedule)
   -- Cut off: taken, and the record is that of the line whose assume or lock failed first.
   pub cut_off_names_the_first : (schedule : List ℕ) (room : ℕ) → item_room bytes ≤ room → (k : ℕ) →
-      (replayed bytes schedule room ≡ replayeds.CutOff k)
+      (replayed bytes schedule room ≡ Ok (replayeds.CutOff k))
       ↔ (Takes (case_of bytes) schedule × ((s : Step) × FirstEnding (case_of bytes) schedule s × (s.line.number ≡ k)))
   -- Refused with 14: neither 12 nor 13 meets the schedule, and the record is that of the first input that strays, which the run
   -- meets before any line ends it; or, where no line ends the run and none strays, that of the first unrun input with a value other
   -- than 0.
   pub refused_14_names_the_first : (schedule : List ℕ) (room : ℕ) → item_room bytes ≤ room → (k : ℕ) →
-      (replayed bytes schedule room ≡ replayeds.Refused 14 k)
+      (replayed bytes schedule room ≡ Err (refusals.Stray k))
       ↔ ((length schedule ≡ schedule_size (case_of bytes)) × (lengths_fit (case_of bytes) (block_lengths (case_of bytes) schedule) ≡ true)
       × Meets14 (case_of bytes) schedule k)
   -- Every step is one of the thread of its block, and does what the documents say of a line of that thread, kind by kind: what it
@@ -192,12 +188,12 @@ pub record Demand3 (bytes : List ℕ) : Type 0 where
       → Leaves bytes schedule s.memory.items
   -- ---- A slice that is too short is refused with 10. With room, the table is written; an assignment with yes and its schedule are
   -- not refused, as `decodes_to_violated` says.
-  pub short_table : (room : ℕ) → room < table_room bytes → encoded bytes room ≡ encodeds.Refused 10 0
-  pub long_table : (room : ℕ) → table_room bytes ≤ room → encoded bytes room ≡ encodeds.Table (length (table (case_of bytes))) (variables (case_of bytes))
-  pub short_schedule : (xs : List ℕ) → Yes bytes xs → (room : ℕ) → room < schedule_room bytes → decoded bytes xs room ≡ decodeds.Refused 10 0
-  pub short_assignment : (schedule : List ℕ) (room : ℕ) → room < assignment_room bytes → filled bytes schedule room ≡ filleds.Refused 10 0
-  pub short_items : (schedule : List ℕ) (room : ℕ) → room < item_room bytes → replayed bytes schedule room ≡ replayeds.Refused 10 0
+  pub short_table : (room : ℕ) → room < table_room bytes → encoded bytes room ≡ Err refusals.Short
+  pub long_table : (room : ℕ) → table_room bytes ≤ room → encoded bytes room ≡ Ok (record { constraints = length (table (case_of bytes)); variables = variables (case_of bytes) })
+  pub short_schedule : (xs : List ℕ) → Yes bytes xs → (room : ℕ) → room < schedule_room bytes → decoded bytes xs room ≡ Err refusals.Short
+  pub short_assignment : (schedule : List ℕ) (room : ℕ) → room < assignment_room bytes → filled bytes schedule room ≡ Err refusals.Short
+  pub short_items : (schedule : List ℕ) (room : ℕ) → room < item_room bytes → replayed bytes schedule room ≡ Err refusals.Short
 
 -- Demand 3: for every list of bytes that no refusal from 1 to 9 meets.
 abbrev pub ForEveryAcceptedCase : Type 0
-ForEveryAcceptedCase = (bytes : List ℕ) → AllBelow 256 bytes → verdict bytes ≡ Accepted → Demand3 bytes
+ForEveryAcceptedCase = (bytes : List ℕ) → AllBelow 256 bytes → verdict bytes ≡ Ok tt → Demand3 bytes

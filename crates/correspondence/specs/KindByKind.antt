@@ -4,7 +4,9 @@
 use Rattle.std.specs.Prelude.{◌≡◌, ℕ, suc, ◌+◌, ◌-◌, ◌%◌, Bool, true, false, cond, not, ◌&&◌, eqb, leb, ltb, List, [], ◌∷◌, get_or, set}
 use Rattle.model.specs.Word.{nonzero}
 use Rattle.model.specs.Limits.{local_count}
-use Rattle.model.specs.CaseFile.{Kind, compute, store, load, input, assert, assume, lock, unlock, Line, Case}
+use Rattle.model.specs.CaseFile.{Line, Case}
+use Rattle.model.specs.declared.Kind.{Kind}
+use Rattle.model.specs.declared.Kind.TheVariants.{Compute, Store, Load, Input, Assert, Assume, Lock, Unlock}
 use Rattle.model.specs.Line.{apply, value_of, stops, breaks, stray_input}
 use Rattle.model.specs.Machine.{Memory, reads_in, stepped}
 use Rattle.model.specs.Schedule.{given_in}
@@ -50,14 +52,14 @@ expression_in l m = apply l.op (operand_in m l.c l.a) (operand_in m l.c l.b)
 -- gets the expression"; "load: local target gets global a"; "lock, unlock: mutex target becomes .. 0". Four: "A lock by thread t now puts
 -- t + 1 in the mutex".
 abbrev pub done_by_kind : Kind → Case → ℕ → (ℕ → ℕ) → Line → Memory → Memory
-done_by_kind compute case t given l m = local_gets l.target (expression_in l m) m
-done_by_kind store case t given l m = global_gets l.target (expression_in l m) m
-done_by_kind load case t given l m = local_gets l.target (global_in m l.a) m
-done_by_kind input case t given l m = local_gets l.target (given l.number) m
-done_by_kind assert case t given l m = m
-done_by_kind assume case t given l m = m
-done_by_kind lock case t given l m = mutex_gets case l.target (suc t) m
-done_by_kind unlock case t given l m = mutex_gets case l.target 0 m
+done_by_kind Compute case t given l m = local_gets l.target (expression_in l m) m
+done_by_kind Store case t given l m = global_gets l.target (expression_in l m) m
+done_by_kind Load case t given l m = local_gets l.target (global_in m l.a) m
+done_by_kind Input case t given l m = local_gets l.target (given l.number) m
+done_by_kind Assert case t given l m = m
+done_by_kind Assume case t given l m = m
+done_by_kind Lock case t given l m = mutex_gets case l.target (suc t) m
+done_by_kind Unlock case t given l m = mutex_gets case l.target 0 m
 
 -- "Guard false: no local, global or mutex changes"
 abbrev pub step_by_kind : Case → ℕ → (ℕ → ℕ) → Line → Memory → Memory
@@ -65,14 +67,14 @@ step_by_kind case t given l m = cond (guard_holds l m) (done_by_kind l.kind case
 
 -- "But with a true guard, an assume that is zero or a lock whose mutex is not 0 ends the run there"
 abbrev pub ends_by_kind : Kind → Case → Line → Memory → Bool
-ends_by_kind compute case l m = false
-ends_by_kind store case l m = false
-ends_by_kind load case l m = false
-ends_by_kind input case l m = false
-ends_by_kind assert case l m = false
-ends_by_kind assume case l m = eqb (expression_in l m) 0
-ends_by_kind lock case l m = nonzero (mutex_in case m l.target)
-ends_by_kind unlock case l m = false
+ends_by_kind Compute case l m = false
+ends_by_kind Store case l m = false
+ends_by_kind Load case l m = false
+ends_by_kind Input case l m = false
+ends_by_kind Assert case l m = false
+ends_by_kind Assume case l m = eqb (expression_in l m) 0
+ends_by_kind Lock case l m = nonzero (mutex_in case m l.target)
+ends_by_kind Unlock case l m = false
 
 abbrev pub ends_run : Case → Line → Memory → Bool
 ends_run case l m = guard_holds l m && ends_by_kind l.kind case l m
@@ -80,28 +82,28 @@ ends_run case l m = guard_holds l m && ends_by_kind l.kind case l m
 -- "Guard true: .. an assert that is zero is noted". Four: "a run line that unlocks with its guard true while the mutex does not read t + 1
 -- is a violation"
 abbrev pub noted_by_kind : Kind → Case → ℕ → Line → Memory → Bool
-noted_by_kind compute case t l m = false
-noted_by_kind store case t l m = false
-noted_by_kind load case t l m = false
-noted_by_kind input case t l m = false
-noted_by_kind assert case t l m = eqb (expression_in l m) 0
-noted_by_kind assume case t l m = false
-noted_by_kind lock case t l m = false
-noted_by_kind unlock case t l m = not (eqb (mutex_in case m l.target) (suc t))
+noted_by_kind Compute case t l m = false
+noted_by_kind Store case t l m = false
+noted_by_kind Load case t l m = false
+noted_by_kind Input case t l m = false
+noted_by_kind Assert case t l m = eqb (expression_in l m) 0
+noted_by_kind Assume case t l m = false
+noted_by_kind Lock case t l m = false
+noted_by_kind Unlock case t l m = not (eqb (mutex_in case m l.target) (suc t))
 
 abbrev pub is_noted : Case → ℕ → Line → Memory → Bool
 is_noted case t l m = guard_holds l m && noted_by_kind l.kind case t l m
 
 -- "Guard false: .. an input's schedule value must be 0 (else refusal 14)"
 abbrev pub refused_by_kind : Kind → (ℕ → ℕ) → Line → Bool
-refused_by_kind compute given l = false
-refused_by_kind store given l = false
-refused_by_kind load given l = false
-refused_by_kind input given l = nonzero (given l.number)
-refused_by_kind assert given l = false
-refused_by_kind assume given l = false
-refused_by_kind lock given l = false
-refused_by_kind unlock given l = false
+refused_by_kind Compute given l = false
+refused_by_kind Store given l = false
+refused_by_kind Load given l = false
+refused_by_kind Input given l = nonzero (given l.number)
+refused_by_kind Assert given l = false
+refused_by_kind Assume given l = false
+refused_by_kind Lock given l = false
+refused_by_kind Unlock given l = false
 
 abbrev pub is_refused : (ℕ → ℕ) → Line → Memory → Bool
 is_refused given l m = not (guard_holds l m) && refused_by_kind l.kind given l

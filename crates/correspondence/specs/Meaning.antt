@@ -4,7 +4,9 @@
 use Rattle.std.specs.Prelude.{◌≡◌, ℕ, zero, suc, ◌+◌, ◌%◌, ◌≤◌, ◌<◌, Bool, true, cond, ◌&&◌, List, [], ◌∷◌, reverse, length}
 use Rattle.model.specs.Word.{word_size, AllBelow, bit}
 use Rattle.model.specs.Limits.{local_count}
-use Rattle.model.specs.CaseFile.{Kind, compute, store, load, input, assert, assume, lock, unlock, Line, Case, lines_of, item_count, sum_of_threads, has_number}
+use Rattle.model.specs.CaseFile.{Line, Case, lines_of, item_count, sum_of_threads, has_number}
+use Rattle.model.specs.declared.Kind.{Kind}
+use Rattle.model.specs.declared.Kind.TheVariants.{Compute, Store, Load, Input, Assert, Assume, Lock, Unlock}
 use Rattle.model.specs.Line.{no_name, Reads, guard_true, holder, is_input}
 use Rattle.model.specs.Assignment.{Assignment, was_run}
 use Rattle.model.specs.Copies.{reads_after, walk_back}
@@ -35,14 +37,14 @@ pub record WellFormed (case : Case) : Type 0 where
 
 -- Constraint 5: an assume's value is 1; a lock whose guard is true reads 0.
 abbrev pub Demanded : Kind → Line → Reads → ℕ → Type 0
-Demanded compute l reads value = Unit
-Demanded store l reads value = Unit
-Demanded load l reads value = Unit
-Demanded input l reads value = Unit
-Demanded assert l reads value = Unit
-Demanded assume l reads value = value ≡ 1
-Demanded lock l reads value = guard_true l reads ≡ true → reads.target ≡ 0
-Demanded unlock l reads value = Unit
+Demanded Compute l reads value = Unit
+Demanded Store l reads value = Unit
+Demanded Load l reads value = Unit
+Demanded Input l reads value = Unit
+Demanded Assert l reads value = Unit
+Demanded Assume l reads value = value ≡ 1
+Demanded Lock l reads value = guard_true l reads ≡ true → reads.target ≡ 0
+Demanded Unlock l reads value = Unit
 
 -- Constraints 4 and 5 of a line after these earlier lines, latest first; of a line that was not run "constraint 5 is met" (Two).
 pub record LineMet (case : Case) (α : Assignment) (earlier : List Line) (l : Line) : Type 0 where

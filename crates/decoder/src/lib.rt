@@ -2,62 +2,39 @@
 #![tactic(auto)]
 
 ghost use Rattle.std.specs.Prelude.{◌≡◌, length};
-ghost use Rattle.model.specs.Accept.{verdict};
 ghost use Rattle.model.specs.Answers.{decoded, decoded_into};
-ghost use Rattle.model.specs.declared.Verdict.TheVariants as verdicts;
-ghost use Rattle.decoder.specs.Decoding.{Answered, refusal_of};
+ghost use Rattle.decoder.specs.Decoding.{Answered};
 
 use accept::accept;
+use case_file::Case;
 use checker::check_accepted;
-use model::{Checked, Decoded, Verdict};
+use model::{Checked, Refusal};
 use schedule::{schedule_size, write_schedule};
 
-// The schedule of an assignment: refusals 1 to 9, then 10, 11 and 15; else its numbers, from the slice's start.
-pub fn decode(case: &[u8], assignment: &[u16], schedule: &mut [u16]) -> Decoded
+// The schedule of an assignment: refusals 1 to 9, then 10, 11 and 15; else how many numbers it has, from the slice's start.
+#[tactic(auto, using(laws::proofs::Accepted::accepted_of), unfolding(model::specs::Answers::on_case, model::specs::Answers::decoded, model::specs::Answers::decoded_into))]
+pub fn decode(case: &[u8], assignment: &[u16], schedule: &mut [u16]) -> Result<u16, Refusal>
     ensures value { result ≡ decoded case.now assignment.now (length schedule.old) }
     ensures schedule_after { schedule.new ≡ decoded_into case.now assignment.now schedule.old }
 {
-    match accept(case) {
-        Verdict::Accepted => decode_accepted(case, assignment, schedule),
-        Verdict::Refused { number, place } => Decoded::Refused { number, place },
-    }
+    accept(case)?;
+    decode_accepted(&Case { bytes: case }, assignment, schedule)
 }
 
 // The schedule of an assignment to an accepted case: refusals 10, 11 and 15 before any number is written.
-fn decode_accepted(case: &[u8], assignment: &[u16], schedule: &mut [u16]) -> Decoded
-    requires { verdict case.now ≡ verdicts.Accepted }
-    ensures { Answered case.now assignment.now schedule.old schedule.new result }
+#[tactic(auto, unfolding(model::specs::Answers::on_case, model::specs::Answers::decoded, model::specs::Answers::decoded_into, checker::specs::Answer::checked_accepted))]
+fn decode_accepted(
+    case: &Case<'_>,
+    assignment: &[u16],
+    schedule: &mut [u16],
+) -> Result<u16, Refusal>
+    ensures { Answered case.now.bytes.now assignment.now schedule.old schedule.new result }
 {
     let size = schedule_size(case);
-    if schedule.len() < size {
-        return Decoded::Refused {
-            number: 10,
-            place: 0,
-        };
-    }
-    let answer = check_accepted(case, assignment);
-    let Checked::Meets = answer else {
-        return refusal_of(answer);
+    Refusal::Short.unless(size <= schedule.len())?;
+    let Checked::Fails(constraint) = check_accepted(case, assignment)? else {
+        write_schedule(case, assignment, schedule);
+        return Ok(size as u16);
     };
-    write_schedule(case, assignment, schedule);
-    Decoded::Schedule {
-        numbers: size as u16,
-    }
-}
-
-// The refusal where the checker does not say yes.
-fn refusal_of(answer: Checked) -> Decoded
-    ensures { result ≡ refusal_of answer }
-{
-    match answer {
-        Checked::Meets => Decoded::Refused {
-            number: 15,
-            place: 0,
-        },
-        Checked::Fails(constraint) => Decoded::Refused {
-            number: 15,
-            place: constraint,
-        },
-        Checked::Refused { number, place } => Decoded::Refused { number, place },
-    }
+    Err(Refusal::Fails(constraint))
 }

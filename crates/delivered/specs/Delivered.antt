@@ -4,13 +4,11 @@
 -- each of its functions has the clauses of the one of this name here, calls it and nothing else, and is proved by that crate's check.
 -- It is proved in proofs/Delivered.antt.
 -- Assumes nothing.
-use Rattle.std.specs.Prelude.{◌≡◌, ◌↔◌, ℕ, ◌≤◌, List, length}
+use Rattle.std.specs.Prelude.{◌≡◌, ◌↔◌, ℕ, ◌≤◌, List, length, Ok}
 use Rattle.model.specs.Word.{AllBelow}
 use Rattle.model.specs.Limits.{most_listing_bytes}
 use Rattle.model.specs.Accept.{verdict}
 use Rattle.model.specs.Listing.{listing_text, listed}
-use Rattle.model.specs.declared.Verdict.TheVariants.{Accepted}
-use Rattle.model.specs.declared.Listed.TheVariants.{Text}
 use Rattle.laws.specs.ForwardWalk.{ForAnyLines}
 use Rattle.laws.specs.HandedOn.{ForEveryLine}
 use Rattle.laws.specs.Sizes.{Sizes, LargestSizes, NeverTooShort}
@@ -72,11 +70,11 @@ pub record Delivered (M : Type 1) : Type 2 where
   pub copies : ForAnyLines
   pub handed_on : ForEveryLine
   -- no accepted case needs more than the largest sizes, and slices of these sizes are never refused with 10;
-  pub sizes : (bytes : List ℕ) → verdict bytes ≡ Accepted → Sizes bytes
+  pub sizes : (bytes : List ℕ) → verdict bytes ≡ Ok tt → Sizes bytes
   pub largest_sizes : LargestSizes
   pub never_too_short : (bytes : List ℕ) → NeverTooShort bytes
-  pub text_at_most : (bytes : List ℕ) → verdict bytes ≡ Accepted → length (smt_text bytes) ≤ most_text_bytes
-  pub listing_never_too_short : (bytes : List ℕ) (room : ℕ) → most_listing_bytes ≤ room → listed bytes room ≡ Text (length (listing_text bytes))
+  pub text_at_most : (bytes : List ℕ) → verdict bytes ≡ Ok tt → length (smt_text bytes) ≤ most_text_bytes
+  pub listing_never_too_short : (bytes : List ℕ) (room : ℕ) → most_listing_bytes ≤ room → listed bytes room ≡ Ok (length (listing_text bytes))
   -- and the numbers tell the answers apart, so that it can be read off them.
   pub told_apart : AnswersToldApart
-  pub corresponds_in_numbers : (bytes : List ℕ) → AllBelow 256 bytes → verdict bytes ≡ Accepted → SomeYes bytes ↔ SomeViolated bytes
+  pub corresponds_in_numbers : (bytes : List ℕ) → AllBelow 256 bytes → verdict bytes ≡ Ok tt → SomeYes bytes ↔ SomeViolated bytes

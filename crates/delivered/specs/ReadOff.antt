@@ -1,59 +1,82 @@
 -- What C and Rust get is an answer's numbers: they tell the answers apart, so demand 3 can be read off them.
 -- It is proved in proofs/ReadOff.antt.
 -- Assumes nothing.
-use Rattle.std.specs.Prelude.{◌≡◌, ◌↔◌, ◌≢◌, ℕ, ◌≤◌, List}
+use Rattle.std.specs.Prelude.{◌≡◌, ◌↔◌, ◌≢◌, ℕ, ◌≤◌, List, Result, Ok, Err}
 use Rattle.model.specs.Word.{word_size, AllBelow}
+use Rattle.model.specs.declared.Refusal.{Refusal}
+use Rattle.model.specs.declared.Refusal.TheVariants.{Size, Threads, Switches, Counts, Absent, Links, Unreached, Lines, Fields, Short, Assignment, Schedule, Lengths, Stray, Fails, NoViolation, Late}
+use Rattle.model.specs.Refusals.{Verdict, refusal_number, refusal_place}
 use Rattle.model.specs.Answers.{refused_numbers, answer_numbers, verdict_numbers, encoded_numbers, checked_numbers, decoded_numbers, replayed_numbers, filled_numbers, checked, replayed}
 use Rattle.model.specs.Listing.{listed_numbers}
-use Rattle.model.specs.declared.Verdict.{Verdict}
-use Rattle.model.specs.declared.Verdict.TheVariants as verdicts
-use Rattle.model.specs.declared.Encoded.{Encoded}
-use Rattle.model.specs.declared.Encoded.TheVariants as encodeds
+use Rattle.model.specs.declared.TableSize.{TableSize}
 use Rattle.model.specs.declared.Checked.{Checked}
 use Rattle.model.specs.declared.Checked.TheVariants as checkeds
-use Rattle.model.specs.declared.Decoded.{Decoded}
-use Rattle.model.specs.declared.Decoded.TheVariants as decodeds
 use Rattle.model.specs.declared.Replayed.{Replayed}
 use Rattle.model.specs.declared.Replayed.TheVariants as replayeds
-use Rattle.model.specs.declared.Filled.{Filled}
-use Rattle.model.specs.declared.Filled.TheVariants as filleds
-use Rattle.model.specs.declared.Listed.{Listed}
-use Rattle.model.specs.declared.Listed.TheVariants as listeds
-use Rattle.model.specs.Taking.{taken, taken_numbers}
-use Rattle.model.specs.declared.Taken.{Taken}
-use Rattle.model.specs.declared.Taken.TheVariants as takens
+use Rattle.model.specs.Taking.{taken_numbers}
+use Rattle.model.specs.declared.Copies.{Copies}
 use Rattle.script.specs.Text.{spelled_numbers}
-use Rattle.script.specs.declared.Spelled.{Spelled}
-use Rattle.script.specs.declared.Spelled.TheVariants as spelleds
 use Rattle.correspondence.specs.Demand3.{item_room}
 
--- Each answer of each call has numbers of its own.
+-- A refusal has this number and this place; an answer is such a refusal.
+abbrev pub Numbered : Refusal → ℕ → ℕ → Type 0
+Numbered e number place = (refusal_number e ≡ number) × (refusal_place e ≡ place)
+
+abbrev pub RefusedWith : {A : Type 0} → ℕ → ℕ → Result A Refusal → Type 0
+RefusedWith number place (Ok answer) = ⊥
+RefusedWith number place (Err e) = Numbered e number place
+
+-- The document's number of each refusal, 1 to 15, and Six's 16 and 17; "Each comes with a place, 0 unless stated".
+pub record RefusalsNumbered : Type 0 where
+  pub size : Numbered Size 1 0
+  pub threads : Numbered Threads 2 0
+  pub switches : Numbered Switches 3 0
+  pub counts : Numbered Counts 4 0
+  pub absent : Numbered Absent 5 0
+  pub links : Numbered Links 6 0
+  pub unreached : Numbered Unreached 7 0
+  pub lines : Numbered Lines 8 0
+  pub fields : (k : ℕ) → Numbered (Fields k) 9 k
+  pub short : Numbered Short 10 0
+  pub assignment : Numbered Assignment 11 0
+  pub schedule : Numbered Schedule 12 0
+  pub lengths : Numbered Lengths 13 0
+  pub stray : (k : ℕ) → Numbered (Stray k) 14 k
+  pub fails : (k : ℕ) → Numbered (Fails k) 15 k
+  pub no_violation : Numbered NoViolation 16 0
+  pub late : (k : ℕ) → Numbered (Late k) 17 k
+
+-- Each answer of each call has numbers of its own, and number and place are a refusal's own.
 pub record AnswersToldApart : Type 0 where
-  pub accepted : (r : Verdict) → (verdict_numbers r ≡ answer_numbers 1 0 0) ↔ (r ≡ verdicts.Accepted)
-  pub not_accepted : (r : Verdict) (number place : ℕ) → (verdict_numbers r ≡ refused_numbers number place) ↔ (r ≡ verdicts.Refused number place)
-  pub table : (r : Encoded) (constraints variables : ℕ)
-      → (encoded_numbers r ≡ answer_numbers 1 constraints variables) ↔ (r ≡ encodeds.Table constraints variables)
-  pub not_encoded : (r : Encoded) (number place : ℕ) → (encoded_numbers r ≡ refused_numbers number place) ↔ (r ≡ encodeds.Refused number place)
-  pub meets : (r : Checked) → (checked_numbers r ≡ answer_numbers 1 0 0) ↔ (r ≡ checkeds.Meets)
-  pub fails : (r : Checked) (constraint : ℕ) → (checked_numbers r ≡ answer_numbers 2 constraint 0) ↔ (r ≡ checkeds.Fails constraint)
-  pub not_checked : (r : Checked) (number place : ℕ) → (checked_numbers r ≡ refused_numbers number place) ↔ (r ≡ checkeds.Refused number place)
-  pub schedule : (r : Decoded) (numbers : ℕ) → (decoded_numbers r ≡ answer_numbers 1 numbers 0) ↔ (r ≡ decodeds.Schedule numbers)
-  pub not_decoded : (r : Decoded) (number place : ℕ) → (decoded_numbers r ≡ refused_numbers number place) ↔ (r ≡ decodeds.Refused number place)
-  pub violated : (r : Replayed) (k : ℕ) → (replayed_numbers r ≡ answer_numbers 1 k 0) ↔ (r ≡ replayeds.Violated k)
-  pub clean : (r : Replayed) → (replayed_numbers r ≡ answer_numbers 2 0 0) ↔ (r ≡ replayeds.Clean)
-  pub cut_off : (r : Replayed) (k : ℕ) → (replayed_numbers r ≡ answer_numbers 3 k 0) ↔ (r ≡ replayeds.CutOff k)
-  pub not_replayed : (r : Replayed) (number place : ℕ) → (replayed_numbers r ≡ refused_numbers number place) ↔ (r ≡ replayeds.Refused number place)
-  pub assignment : (r : Filled) (numbers : ℕ) → (filled_numbers r ≡ answer_numbers 1 numbers 0) ↔ (r ≡ filleds.Assignment numbers)
-  pub not_filled : (r : Filled) (number place : ℕ) → (filled_numbers r ≡ refused_numbers number place) ↔ (r ≡ filleds.Refused number place)
-  pub text : (r : Listed) (bytes : ℕ) → (listed_numbers r ≡ answer_numbers 1 bytes 0) ↔ (r ≡ listeds.Text bytes)
-  pub not_listed : (r : Listed) (number place : ℕ) → (listed_numbers r ≡ refused_numbers number place) ↔ (r ≡ listeds.Refused number place)
-  -- No text is empty, and no refusal has number 0.
-  pub spelled : (r : Spelled) (bytes : ℕ) → bytes ≢ 0 → (spelled_numbers r ≡ spelled_numbers (spelleds.Text bytes)) ↔ (r ≡ spelleds.Text bytes)
-  pub not_spelled : (r : Spelled) (number place : ℕ) → number ≢ 0 → (spelled_numbers r ≡ spelled_numbers (spelleds.Refused number place)) ↔ (r ≡ spelleds.Refused number place)
-  -- No refusal of a line has number 0.
-  pub copies : (G M number : ℕ) (fields held : List ℕ) (guard a b target : ℕ)
-      → (taken_numbers (taken G M number fields held) ≡ taken_numbers (takens.Copies guard a b target)) ↔ (taken G M number fields held ≡ takens.Copies guard a b target)
-  pub not_taken : (r : Taken) (number place : ℕ) → number ≢ 0 → (taken_numbers r ≡ taken_numbers (takens.Refused number place)) ↔ (r ≡ takens.Refused number place)
+  pub numbered : RefusalsNumbered
+  pub refusals : (e f : Refusal) → refusal_number e ≡ refusal_number f → refusal_place e ≡ refusal_place f → e ≡ f
+  pub accepted : (r : Verdict) → (verdict_numbers r ≡ answer_numbers 1 0 0) ↔ (r ≡ Ok tt)
+  pub not_accepted : (r : Verdict) (number place : ℕ) → (verdict_numbers r ≡ refused_numbers number place) ↔ RefusedWith number place r
+  pub table : (r : Result TableSize Refusal) (constraints variables : ℕ)
+      → (encoded_numbers r ≡ answer_numbers 1 constraints variables) ↔ (r ≡ Ok (record { constraints = constraints; variables = variables }))
+  pub not_encoded : (r : Result TableSize Refusal) (number place : ℕ) → (encoded_numbers r ≡ refused_numbers number place) ↔ RefusedWith number place r
+  pub meets : (r : Result Checked Refusal) → (checked_numbers r ≡ answer_numbers 1 0 0) ↔ (r ≡ Ok checkeds.Meets)
+  pub fails : (r : Result Checked Refusal) (constraint : ℕ) → (checked_numbers r ≡ answer_numbers 2 constraint 0) ↔ (r ≡ Ok (checkeds.Fails constraint))
+  pub not_checked : (r : Result Checked Refusal) (number place : ℕ) → (checked_numbers r ≡ refused_numbers number place) ↔ RefusedWith number place r
+  pub schedule : (r : Result ℕ Refusal) (numbers : ℕ) → (decoded_numbers r ≡ answer_numbers 1 numbers 0) ↔ (r ≡ Ok numbers)
+  pub not_decoded : (r : Result ℕ Refusal) (number place : ℕ) → (decoded_numbers r ≡ refused_numbers number place) ↔ RefusedWith number place r
+  pub violated : (r : Result Replayed Refusal) (k : ℕ) → (replayed_numbers r ≡ answer_numbers 1 k 0) ↔ (r ≡ Ok (replayeds.Violated k))
+  pub clean : (r : Result Replayed Refusal) → (replayed_numbers r ≡ answer_numbers 2 0 0) ↔ (r ≡ Ok replayeds.Clean)
+  pub cut_off : (r : Result Replayed Refusal) (k : ℕ) → (replayed_numbers r ≡ answer_numbers 3 k 0) ↔ (r ≡ Ok (replayeds.CutOff k))
+  pub not_replayed : (r : Result Replayed Refusal) (number place : ℕ) → (replayed_numbers r ≡ refused_numbers number place) ↔ RefusedWith number place r
+  pub assignment : (r : Result ℕ Refusal) (numbers : ℕ) → (filled_numbers r ≡ answer_numbers 1 numbers 0) ↔ (r ≡ Ok numbers)
+  pub not_filled : (r : Result ℕ Refusal) (number place : ℕ) → (filled_numbers r ≡ refused_numbers number place) ↔ RefusedWith number place r
+  pub text : (r : Result ℕ Refusal) (bytes : ℕ) → (listed_numbers r ≡ answer_numbers 1 bytes 0) ↔ (r ≡ Ok bytes)
+  pub not_listed : (r : Result ℕ Refusal) (number place : ℕ) → (listed_numbers r ≡ refused_numbers number place) ↔ RefusedWith number place r
+  pub spelled : (r : Result ℕ Refusal) (bytes : ℕ) → (spelled_numbers r ≡ spelled_numbers (Ok bytes)) ↔ (r ≡ Ok bytes)
+  -- No refusal has number 0.
+  pub not_spelled : (r : Result ℕ Refusal) (number place : ℕ) → number ≢ 0
+      → (spelled_numbers r ≡ record { refusal = number; place = place; bytes = 0 }) ↔ RefusedWith number place r
+  pub copies : (r : Result Copies Refusal) (guard a b target : ℕ)
+      → (taken_numbers r ≡ record { refusal = 0; place = 0; guard = guard; a = a; b = b; target = target })
+      ↔ (r ≡ Ok (record { guard = guard; a = a; b = b; target = target }))
+  pub not_taken : (r : Result Copies Refusal) (number place : ℕ) → number ≢ 0
+      → (taken_numbers r ≡ record { refusal = number; place = place; guard = 0; a = 0; b = 0; target = 0 }) ↔ RefusedWith number place r
 
 -- Some assignment is answered with 1 by the checker, and some schedule with 1 and a record by the replayer, the same one in every
 -- room that holds the items.

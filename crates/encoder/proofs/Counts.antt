@@ -8,7 +8,8 @@ use mathlib.Core.List.{List, [], ◌∷◌, ◌++◌}
 use native.Mathlib.Omega.{arith}
 use lib.ListN.{length, length-append}
 use Rattle.model.specs.Word.{bit}
-use Rattle.model.specs.CaseFile.{Kind, kind_of, Line, Case, records, record_field, thread_count, switch_count, first_record, chains, case_of, item_count, sum_of_lines, sum_of_threads}
+use Rattle.model.specs.CaseFile.{kind_of, Line, Case, records, record_field, thread_count, switch_count, first_record, chains, case_of, item_count, sum_of_lines, sum_of_threads}
+use Rattle.model.specs.declared.Kind.{Kind}
 use Rattle.model.specs.Line.{visible}
 use Rattle.model.specs.Table.{order_rows, all_order_rows, value_rows, all_value_rows, block_rows, run_rows, goal_row, table}
 use Rattle.laws.specs.Accepted.{Accepted, thread_lines}
@@ -17,7 +18,7 @@ use Rattle.laws.proofs.Counting.{sum_from}
 use Rattle.laws.proofs.RecordSums.{lines_add_up, records_from, records_all, records_more, records_none}
 use Rattle.laws.proofs.Following.{lines_end, lines_more, chains_more, chains_end}
 use Rattle.laws.proofs.Sizes.{order_count, order_length, order_count_at_most, value_length, value_count_at_most, blocks_length}
-use Rattle.encoder.specs.Firsts.{invisible_first, invisible_firsts, OfThread}
+use Rattle.encoder.specs.Firsts.{invisible_first, invisible_firsts}
 
 -- The rows of record k: its order rows, as those of a line that is not its thread's first, and the others.
 unfoldable pub record_rows : List ℕ → ℕ → ℕ
@@ -33,12 +34,12 @@ pub record Counting (bytes : List ℕ) (k n : ℕ) : Type 0 where
 pub counting_start : (bytes : List ℕ) → Counting bytes 1 0
 counting_start bytes = record { some = omega arith; upto = omega arith; small = omega arith; left = omega (arith, records_all bytes (record_rows bytes)) }
 
-pub few_rows : (kind : ℕ) {orders values : ℕ} → orders ≡ order_row_count false (kind_of kind) → values ≡ value_row_count (kind_of kind) → orders + values ≤ 5
-few_rows kind eo ev = omega (arith, order_count_at_most false (kind_of kind), value_count_at_most (kind_of kind))
+pub few_rows : (kind : Kind) {orders values : ℕ} → orders ≡ order_row_count false kind → values ≡ value_row_count kind → orders + values ≤ 5
+few_rows kind eo ev = omega (arith, order_count_at_most false kind, value_count_at_most kind)
 
 pub counting_more :
-    (bytes : List ℕ) (k n : ℕ) → Counting bytes k n → k ≤ records bytes → (kind orders values : ℕ) → kind ≡ record_field bytes k 1
-    → orders ≡ order_row_count false (kind_of kind) → values ≡ value_row_count (kind_of kind) → Counting bytes (k + 1) (n + (orders + values))
+    (bytes : List ℕ) (k n : ℕ) → Counting bytes k n → k ≤ records bytes → (kind : Kind) (orders values : ℕ) → kind ≡ kind_of (record_field bytes k 1)
+    → orders ≡ order_row_count false kind → values ≡ value_row_count kind → Counting bytes (k + 1) (n + (orders + values))
 unfolding record_rows
 counting_more bytes k n v h kind orders values ek eo ev =
     let here : orders + values ≡ record_rows bytes k = rw (eo, ev, ek) in
@@ -149,5 +150,5 @@ module _ (bytes : List ℕ) (t : ℕ) {k : ℕ} (e : k ≡ first_record bytes t)
   pub no_first : k ≡ 0 → false ≡ invisible_first (thread_lines bytes t)
   no_first z = rw (← e, lines_end bytes t k z)
 
-  pub first_kind : OfThread bytes t → k ≢ 0 → {kind : ℕ} → kind ≡ record_field bytes k 1 → has_eight false (kind_of kind) ≡ invisible_first (thread_lines bytes t)
-  first_kind of some ek = rw (← e, lines_more bytes of.accepted t k some (omega (arith, of.accepted.firsts t of.thread)), ek)
+  pub first_kind : Accepted bytes → t < thread_count bytes → k ≢ 0 → {kind : Kind} → kind ≡ kind_of (record_field bytes k 1) → has_eight false kind ≡ invisible_first (thread_lines bytes t)
+  first_kind ok few some ek = rw (← e, lines_more bytes ok t k some (omega (arith, ok.firsts t few)), ek)

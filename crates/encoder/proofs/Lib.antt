@@ -5,5 +5,4 @@ pub mod Lines
 pub mod Series
 pub mod Parts
 pub mod Counts
-pub mod Answer
 pub mod WholeTable

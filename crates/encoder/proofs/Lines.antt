@@ -9,9 +9,12 @@ use borrow.Author.Tests.{ne_eqb}
 use lib.Dec.{eqb}
 use lib.ListN.{length}
 use Rattle.model.specs.CaseFile.{kind_of, Line, records, record_field, thread_count, switch_count, global_count, next_record, line_of, case_of, lines_of}
+use Rattle.model.specs.declared.Kind.{Kind}
 use Rattle.model.specs.Line.{guard_name, operand_a, operand_b, target_name}
 use Rattle.model.specs.Copies.{copy_of, held_copy, take_line, held_after}
 use Rattle.model.specs.Table.{value_row}
+use Rattle.model.specs.Taking.{copies_at}
+use Rattle.model.specs.declared.Copies.{Copies}
 use Rattle.laws.specs.Accepted.{Accepted, lines_from, thread_lines}
 use Rattle.laws.specs.RowCounts.{order_row_count, is_first, value_row_count}
 use Rattle.laws.proofs.Chains.{threads_are}
@@ -20,8 +23,7 @@ use Rattle.laws.proofs.Views.{EqView, same, diff, eq_view}
 use Rattle.case_file.specs.declared.Record.{Record}
 use Rattle.case_file.specs.Records.{record_of, as_line}
 use Rattle.laws.proofs.ForwardWalk.{held_more, held_copy_lem}
-use Rattle.line.specs.declared.Copies.{Copies}
-use Rattle.copies.specs.Held.{copies_before, HeldAfter}
+use Rattle.copies.specs.Held.{HeldAfter}
 use Rattle.case_file.specs.declared.Link.{Link}
 use Rattle.rows.specs.Rows.{Nearest, PutsOrder, four_of, PutsValues}
 use Rattle.encoder.proofs.Walking.{orders, values, Walking, walking_width, walking_room, walking_more}
@@ -41,21 +43,21 @@ no_line_before k (l ∷ earlier) near = ne_eqb k 0 near.some
 
 -- There is room for its order rows.
 pub order_room :
-    (previous kind : ℕ) {bytes : List ℕ} {t k : ℕ} {out : List ℕ} {at : ℕ} {numbers before : List ℕ} {start : ℕ}
-    → Walking bytes t (orders (case_of bytes) t) (Nearest previous) k numbers before start out at → Accepted bytes → k ≢ 0 → kind ≡ record_field bytes k 1
-    → start + length numbers ≤ length before → at + 6 * order_row_count (eqb previous 0) (kind_of kind) ≤ length out
+    (previous : ℕ) (kind : Kind) {bytes : List ℕ} {t k : ℕ} {out : List ℕ} {at : ℕ} {numbers before : List ℕ} {start : ℕ}
+    → Walking bytes t (orders (case_of bytes) t) (Nearest previous) k numbers before start out at → Accepted bytes → k ≢ 0 → kind ≡ kind_of (record_field bytes k 1)
+    → start + length numbers ≤ length before → at + 6 * order_row_count (eqb previous 0) kind ≤ length out
 order_room previous kind v ok some ek h = rw (no_line_before previous v.earlier v.known, ek) (walking_room v ok some h)
 
 -- They are put: it is then the nearest of the earlier lines.
 pub order_step :
     {bytes : List ℕ} {t k : ℕ} {link : Link} {T n : ℕ} {out : List ℕ} {at : ℕ} {numbers before : List ℕ} {start : ℕ} {out' : List ℕ} {end : ℕ} → PutsOrder link T n t out at out' end
-    → Walking bytes t (orders (case_of bytes) t) (Nearest link.before) k numbers before start out at → Accepted bytes → k ≢ 0 → link.line ≡ k → link.kind ≡ record_field bytes k 1
+    → Walking bytes t (orders (case_of bytes) t) (Nearest link.before) k numbers before start out at → Accepted bytes → k ≢ 0 → link.line ≡ k → link.kind ≡ kind_of (record_field bytes k 1)
     → link.next ≡ next_record bytes k → T ≡ thread_count bytes → n ≡ switch_count bytes
     → Walking bytes t (orders (case_of bytes) t) (Nearest link.line) link.next numbers before start out' end
 unfolding Nearest
 order_step {bytes} {t} {k} {link} puts v ok some line kind next e_t en =
     walking_more v ok some next (record { number = line; some = λ z. some (sym line ∙ z) })
-    (puts (case_of bytes) v.earlier (line_of bytes t k) (lines_from bytes t (next_record bytes k)) (record { before = v.known; line = line; kind = ap kind_of kind; next = nearest }) e_t en)
+    (puts (case_of bytes) v.earlier (line_of bytes t k) (lines_from bytes t (next_record bytes k)) (record { before = v.known; line = line; kind = kind; next = nearest }) e_t en)
   where
     nearest : Nearest link.next (lines_from bytes t (next_record bytes k))
     nearest = rw next (nearest_line bytes t (next_record bytes k) ok (next_low bytes ok t k some v.low))
@@ -64,15 +66,15 @@ order_step {bytes} {t} {k} {link} puts v ok some line kind next e_t en =
 module _ {bytes : List ℕ} {t k : ℕ} {held : List ℕ} {out : List ℕ} {at : ℕ} {numbers before : List ℕ} {start : ℕ}
     (v : Walking bytes t (values (case_of bytes)) (HeldAfter (global_count bytes) held) k numbers before start out at) (ok : Accepted bytes) (some : k ≢ 0)
     {l : Record} (el : l ≡ record_of bytes t k) where
-  width : {c : ℕ} → c ≡ value_row_count (kind_of l.kind) → c ≡ value_row_count (kind_of (record_field bytes k 1))
+  width : {c : ℕ} → c ≡ value_row_count l.kind → c ≡ value_row_count (kind_of (record_field bytes k 1))
   width ec = rw el at ec
 
-  pub value_room : {c : ℕ} → c ≡ value_row_count (kind_of l.kind) → start + length numbers ≤ length before → at + 6 * c ≤ length out
+  pub value_room : {c : ℕ} → c ≡ value_row_count l.kind → start + length numbers ≤ length before → at + 6 * c ≤ length out
   value_room ec h = omega (arith, walking_room v ok some h, width ec)
 
   pub value_step :
-      {G c next : ℕ} {out' held' : List ℕ} {copies : Copies} → G ≡ global_count bytes → copies ≡ copies_before G held (as_line l k) → held' ≡ take_line G held (as_line l k)
-      → PutsValues (kind_of l.kind) (four_of k copies) out at out' → c ≡ value_row_count (kind_of l.kind) → next ≡ next_record bytes k
+      {G c next : ℕ} {out' held' : List ℕ} {copies : Copies} → G ≡ global_count bytes → copies ≡ copies_at G held (as_line l k) → held' ≡ take_line G held (as_line l k)
+      → PutsValues l.kind (four_of k copies) out at out' → c ≡ value_row_count l.kind → next ≡ next_record bytes k
       → Walking bytes t (values (case_of bytes)) (HeldAfter (global_count bytes) held') next numbers before start out' (at + 6 * c)
   value_step {G} {held' = held'} {copies} eG ec taken puts ew next =
       walking_more v ok some next after (record { slice = (rw el at puts) (case_of bytes) v.earlier (line_of bytes t k) four; place = omega (arith, width ew, walking_width v ok some) })
@@ -80,7 +82,7 @@ module _ {bytes : List ℕ} {t k : ℕ} {held : List ℕ} {out : List ℕ} {at :
       copy : (name : ℕ) → held_copy held name ≡ copy_of (global_count bytes) name v.earlier
       copy name = ap (λ (xs : List ℕ). held_copy xs name) v.known ∙ held_copy_lem (global_count bytes) name v.earlier
 
-      found : copies ≡ copies_before (global_count bytes) held (line_of bytes t k)
+      found : copies ≡ copies_at (global_count bytes) held (line_of bytes t k)
       found = rw (el, eG) at ec
 
       four : four_of k copies ≡ value_row (case_of bytes) v.earlier (line_of bytes t k)

@@ -1,10 +1,9 @@
 -- The threads whose first line is invisible: it has no 8, as it has no line before it.
 -- Assumes nothing.
-use Rattle.std.specs.Prelude.{ℕ, ◌+◌, ◌<◌, Bool, false, List, [], ◌∷◌}
+use Rattle.std.specs.Prelude.{ℕ, ◌+◌, Bool, false, List, [], ◌∷◌}
 use Rattle.model.specs.Word.{bit}
-use Rattle.model.specs.CaseFile.{Line, thread_count}
+use Rattle.model.specs.CaseFile.{Line}
 use Rattle.laws.specs.RowCounts.{has_eight}
-use Rattle.laws.specs.Accepted.{Accepted}
 
 -- Whether the first of a thread's lines would have an 8 after another, and how many threads have such a line.
 abbrev pub invisible_first : List Line → Bool
@@ -14,8 +13,3 @@ invisible_first (l ∷ ls) = has_eight false l.kind
 abbrev pub invisible_firsts : List (List Line) → ℕ
 invisible_firsts [] = 0
 invisible_firsts (ls ∷ threads) = bit (invisible_first ls) + invisible_firsts threads
-
--- A thread of an accepted case.
-pub record OfThread (bytes : List ℕ) (t : ℕ) : Type 0 where
-  pub accepted : Accepted bytes
-  pub thread : t < thread_count bytes

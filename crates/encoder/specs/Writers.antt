@@ -1,26 +1,18 @@
 -- What the writers are given and what they leave, with the latest copies where a writer has them; and the answer of the call.
 -- Assumes nothing.
-use Rattle.std.specs.Prelude.{◌≡◌, ℕ, ◌≤◌, ◌<◌, List, length}
-use Rattle.model.specs.CaseFile.{thread_count, global_count, case_of, lines_of}
-use Rattle.model.specs.Copies.{nothing_held, held_after}
+use Rattle.std.specs.Prelude.{◌≡◌, ℕ, ◌≤◌, List, length, Result}
+use Rattle.model.specs.CaseFile.{global_count, case_of, lines_of}
+use Rattle.model.specs.Copies.{held_after}
 use Rattle.model.specs.Answers.{encoded, encoded_into}
-use Rattle.model.specs.declared.Encoded.{Encoded}
-use Rattle.laws.specs.Accepted.{Accepted}
+use Rattle.model.specs.declared.Refusal.{Refusal}
+use Rattle.model.specs.declared.TableSize.{TableSize}
 use Rattle.laws.specs.Written.{Put}
 use Rattle.copies.specs.Held.{Held}
 use Rattle.encoder.specs.Parts.{value_numbers}
 
--- An accepted case, the latest copies after all lines of the threads before t, and a slice with room for so many numbers.
+-- The latest copies after all lines of the threads before t, and a slice with room for so many numbers.
 pub record CopiesRoom (bytes : List ℕ) (copies : List (List ℕ)) (t size : ℕ) (slice : List ℕ) : Type 0 where
-  pub accepted : Accepted bytes
   pub held : Held (case_of bytes) copies t
-  pub room : size ≤ length slice
-
--- The same for the numbers of thread t, of which no line has been taken.
-pub record ThreadCopiesRoom (bytes held : List ℕ) (t size : ℕ) (slice : List ℕ) : Type 0 where
-  pub accepted : Accepted bytes
-  pub thread : t < thread_count bytes
-  pub nothing : held ≡ nothing_held
   pub room : size ≤ length slice
 
 -- These numbers are written, and all lines of thread t are held.
@@ -34,6 +26,6 @@ pub record PutCopies (bytes numbers before : List ℕ) (at : ℕ) (after : List 
   pub held : Held (case_of bytes) copies t
 
 -- The call's answer, and what it leaves in a slice.
-pub record Answered (bytes before after : List ℕ) (r : Encoded) : Type 0 where
+pub record Answered (bytes before after : List ℕ) (r : Result TableSize Refusal) : Type 0 where
   pub answer : r ≡ encoded bytes (length before)
   pub slice : after ≡ encoded_into bytes before

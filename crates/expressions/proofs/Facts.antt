@@ -4,16 +4,16 @@ use mathlib.Core.Path.{◌≡◌, refl, sym, ap, ◌∙◌}
 use Prim.Native.Nat.{ℕ, ◌+◌, ◌-◌, ◌*◌, ◌<◌, ◌≤◌}
 use mathlib.Core.List.{List, [], ◌∷◌, ◌++◌, append_assoc, append-nil}
 use native.Mathlib.Nat.{zero-mul, suc-mul}
-use lib.ListN.{length, get_or, replicate-append-replicate}
+use lib.ListN.{length, get_or, drop, replicate-append-replicate}
 use Rattle.smt.specs.Term.{Test, Term, variable, test, Formula}
 use Rattle.smt.specs.Spelling.{ascii, two, formula_text}
-use Rattle.script.specs.Assertions.{most_sources, equal, value_of, fact_of, facts_with, facts}
-use Rattle.spell.specs.Spelt.{Spelt}
+use Rattle.script.specs.Assertions.{equal, value_of, fact_of, facts_with, facts}
+use Rattle.spell.specs.declared.Writer.{Writer}
+use Rattle.spell.specs.Spelt.{Puts}
 use Rattle.spell.specs.Atoms.{closing}
-use Rattle.spell.proofs.Spelling.{spelt_then}
-use Rattle.spell.proofs.Numbers.{spelt_as}
+use Rattle.spell.proofs.Spelling.{puts_then, Remains, puts_as}
 use Rattle.linked.proofs.Nesting.{closing_none, nested, head_of_two}
-use Rattle.linked.proofs.Going.{Going, going_more}
+use Rattle.linked.proofs.Going.{going_more, going_end}
 use Rattle.expressions.specs.Facts.{fact_head, fact_heads_with, fact_heads}
 
 -- One fact, as it is put: words that stand together are put together.
@@ -22,41 +22,40 @@ words_of_fact : (A B C D : List ℕ)
     ≡ ascii "(and " ++ (two (ascii "(=> ") (two (ascii "(and ") A B) (ascii "(not " ++ (two (ascii "(xor ") C D ++ ascii ")")) ++ ascii " ")
 words_of_fact A B C D = simp append_assoc
 
-module _ {e₁ e₂ e₃ e₄ e₅ e₆ e₇ e₈ e₉ e₀ : List ℕ} {start p₁ p₂ p₃ p₄ p₅ p₆ p₇ p₈ r : ℕ} (t : Test) (x y : Term) (s u : ℕ) {v w : ℕ} where
+module _ {e₁ e₂ e₃ e₄ e₅ e₆ e₇ e₈ e₉ e₀ : Writer} (t : Test) (x y : Term) (s u : ℕ) {v w : ℕ} where
   pub fact_spelt : v ≡ 2 * (s - 1) + 1 → w ≡ 2 * (u - 1) + 1
-      → Spelt (ascii "(and (=> (and ") e₀ start e₁ p₁ → Spelt (formula_text (equal x (variable v))) e₁ p₁ e₂ p₂
-      → Spelt (ascii " ") e₂ p₂ e₃ p₃ → Spelt (formula_text (equal y (variable w))) e₃ p₃ e₄ p₄
-      → Spelt (ascii ") (not (xor ") e₄ p₄ e₅ p₅ → Spelt (formula_text (test t x y)) e₅ p₅ e₆ p₆
-      → Spelt (ascii " ") e₆ p₆ e₇ p₇ → Spelt (formula_text (test t (variable v) (variable w))) e₇ p₇ e₈ p₈
-      → Spelt (ascii "))) ") e₈ p₈ e₉ r → Spelt (fact_head t x y s u) e₀ start e₉ r
+      → Puts (ascii "(and (=> (and ") e₀ e₁ → Puts (formula_text (equal x (variable v))) e₁ e₂
+      → Puts (ascii " ") e₂ e₃ → Puts (formula_text (equal y (variable w))) e₃ e₄
+      → Puts (ascii ") (not (xor ") e₄ e₅ → Puts (formula_text (test t x y)) e₅ e₆
+      → Puts (ascii " ") e₆ e₇ → Puts (formula_text (test t (variable v) (variable w))) e₇ e₈
+      → Puts (ascii "))) ") e₈ e₉ → Puts (fact_head t x y s u) e₀ e₉
   unfolding fact_head formula_text
   fact_spelt h k a b c d e f g i j =
-      spelt_as
+      puts_as
       (words_of_fact (formula_text (equal x (value_of s))) (formula_text (equal y (value_of u))) (formula_text (test t x y)) (formula_text (test t (value_of s) (value_of u))))
-      (rw (h, k) at (spelt_then a (spelt_then b (spelt_then c (spelt_then d (spelt_then e (spelt_then f (spelt_then g (spelt_then i j)))))))))
+      (rw (h, k) at (puts_then a (puts_then b (puts_then c (puts_then d (puts_then e (puts_then f (puts_then g (puts_then i j)))))))))
 
 -- The two loops: over the second sources, and over the first.
-module _ (t : Test) (x y : Term) {xs : List ℕ} {count : ℕ} {before : List ℕ} {start j : ℕ} {out : List ℕ} {at : ℕ} {a : List ℕ} {place : ℕ} where
-  pub seconds_go_on : (s : ℕ) → Going (fact_heads_with t x y s) xs count before start j out at → (j ≡ count → ⊥) → j < length xs
-      → Spelt (fact_head t x y s (get_or xs j 0)) out at a place
-      → Going (fact_heads_with t x y s) xs count before start (j + 1) a place
-  unfolding fact_heads_with
-  seconds_go_on s v n h put = going_more v (fact_head t x y s) (λ u others. refl) n h put.same (λ few. put)
+module _ (t : Test) (x y : Term) (xs : List ℕ) {before : Writer} {j : ℕ} {out : Writer} where
+  module _ (s : ℕ) (v : Remains (fact_heads_with t x y s xs) before out (fact_heads_with t x y s (drop j xs))) where
+    pub seconds_more : j < length xs → {a : Writer} → Puts (fact_head t x y s (get_or xs j 0)) out a
+        → Remains (fact_heads_with t x y s xs) before a (fact_heads_with t x y s (drop (j + 1) xs))
+    unfolding fact_heads_with
+    seconds_more h put = going_more (fact_heads_with t x y s) xs v (fact_head t x y s) (λ u others. refl) h put
 
-  pub firsts_go_on : (sources : List ℕ) → Going (fact_heads t x y sources) xs count before start j out at → (j ≡ count → ⊥) → j < length xs
-      → length a ≡ length out → (count ≤ most_sources → Spelt (fact_heads_with t x y (get_or xs j 0) sources) out at a place)
-      → Going (fact_heads t x y sources) xs count before start (j + 1) a place
-  unfolding fact_heads
-  firsts_go_on sources v n h l put = going_more v (λ (s : ℕ). fact_heads_with t x y s sources) (λ s firsts. refl) n h l put
+    pub seconds_end : length xs ≤ j → Puts (fact_heads_with t x y s xs) before out
+    unfolding fact_heads_with
+    seconds_end h = going_end (fact_heads_with t x y s) xs v refl h
 
-module _ (t : Test) (x y : Term) where
-  pub no_seconds : (s : ℕ) → fact_heads_with t x y s [] ≡ []
-  unfolding fact_heads_with
-  no_seconds s = refl
+  module _ (sources : List ℕ) (v : Remains (fact_heads t x y sources xs) before out (fact_heads t x y sources (drop j xs))) where
+    pub firsts_more : j < length xs → {a : Writer} → Puts (fact_heads_with t x y (get_or xs j 0) sources) out a
+        → Remains (fact_heads t x y sources xs) before a (fact_heads t x y sources (drop (j + 1) xs))
+    unfolding fact_heads
+    firsts_more h put = going_more (fact_heads t x y sources) xs v (λ (s : ℕ). fact_heads_with t x y s sources) (λ s firsts. refl) h put
 
-  pub no_firsts : (sources : List ℕ) → fact_heads t x y sources [] ≡ []
-  unfolding fact_heads
-  no_firsts sources = refl
+    pub firsts_end : length xs ≤ j → Puts (fact_heads t x y sources xs) before out
+    unfolding fact_heads
+    firsts_end h = going_end (fact_heads t x y sources) xs v refl h
 
 -- The formula that the heads begin.
 closing_add : (many more : ℕ) → closing many ++ closing more ≡ closing (many + more)

@@ -1,4 +1,4 @@
-pub mod Operands
+pub mod Guards
 pub mod Expressions
 pub mod Facts
 pub mod Beside

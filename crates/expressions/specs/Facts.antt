@@ -1,12 +1,11 @@
 -- The text of the facts that stand beside a comparison, as the code writes it: their heads one after the other, what they stand
 -- beside, and the closing parentheses.
 -- Assumes nothing.
-use Rattle.std.specs.Prelude.{ℕ, ◌*◌, Bool, cond, ◌&&◌, List, [], ◌∷◌, ◌++◌, leb, take}
+use Rattle.std.specs.Prelude.{ℕ, ◌*◌, Bool, cond, ◌&&◌, List, [], ◌∷◌, ◌++◌, leb}
 use Rattle.smt.specs.Term.{Test, Term}
 use Rattle.smt.specs.Spelling.{ascii, formula_text}
 use Rattle.script.specs.Assertions.{value_of, is_variable, comparison, fact_of}
 use Rattle.spell.specs.Atoms.{closing}
-use Rattle.linked.specs.declared.Sources.{Sources}
 
 -- One fact, those of one first source, and all.
 unfoldable pub fact_head : Test → Term → Term → ℕ → ℕ → List ℕ
@@ -19,10 +18,6 @@ fact_heads_with t x y s (u ∷ others) = fact_head t x y s u ++ fact_heads_with 
 unfoldable pub fact_heads : Test → Term → Term → List ℕ → List ℕ → List ℕ
 fact_heads t x y sources [] = []
 fact_heads t x y sources (s ∷ firsts) = fact_heads_with t x y s sources ++ fact_heads t x y sources firsts
-
--- The sources that an array of them holds.
-abbrev pub source_list : Sources → List ℕ
-source_list sources = take sources.count sources.records
 
 -- Whether facts stand beside an expression; what stands before it and what behind, for so many sources.
 unfoldable pub has_facts : ℕ → Term → Term → Bool

@@ -1,22 +1,24 @@
-// Operands, guards, expressions and the facts that stand beside comparisons, as text.
+// Operands, guards, expressions and the facts that stand beside comparisons, as text. Document 01 names the form of what follows: match on op
+// numbers and on ranges of guards.
 #![tactic(auto)]
 
-ghost use Rattle.std.specs.Prelude.{◌≡◌, ◌≤◌};
+ghost use Rattle.std.specs.Prelude.{◌≡◌, length};
 ghost use Rattle.model.specs.CaseFile.{Line, Case};
 ghost use Rattle.smt.specs.Term.{constant, choice, test};
 ghost use Rattle.smt.specs.Spelling.{operation_word, term_text, formula_text};
-ghost use Rattle.script.specs.Assertions.{equal, is_zero, local_with, most_sources, sources_of, is_variable, guard_true, operand as operandTerm};
+ghost use Rattle.script.specs.Assertions.{equal, is_zero, local_with, sources_of, guard_true, operand as operandTerm};
 ghost use Rattle.script.specs.Assertions.{comparison, operation, expression, is_expression, is_truth};
-ghost use Rattle.spell.specs.Spelt.{Spelt};
+ghost use Rattle.spell.specs.Spelt.{Puts};
 ghost use Rattle.spell.specs.Atoms.{atom_term};
-ghost use Rattle.linked.specs.Shape.{HasSources};
-ghost use Rattle.expressions.specs.Facts.{fact_head, fact_heads_with, fact_heads, source_list, has_facts, facts_before, facts_behind};
+ghost use Rattle.linked.specs.Shape.{HasSources, source_list};
+ghost use Rattle.expressions.specs.Facts.{fact_head, fact_heads_with, fact_heads, has_facts, facts_before, facts_behind};
 
-use linked::{SOURCES, Sources, put_same, value_variable};
+use linked::{Sources, put_same, value_variable};
 use model::LOCALS;
-use spell::{Atom, put, put_atom, put_closing, put_equal, put_two};
+use spell::{Atom, Writer};
 
 // The value of a local with copy p.
+#[tactic(auto, unfolding(script::specs::Assertions::local_with))]
 pub fn local_with(p: u16) -> Atom
     ensures { atom_term result ≡ local_with p }
 {
@@ -27,242 +29,181 @@ pub fn local_with(p: u16) -> Atom
 }
 
 // Operand x of a line whose constant is c, with copy p.
+#[tactic(auto, unfolding(script::specs::Assertions::operand))]
 pub fn operand(x: u16, c: u16, p: u16) -> Atom
     ensures { atom_term result ≡ operandTerm x c p }
 {
-    if x as usize == LOCALS {
+    if usize::from(x) == LOCALS {
         return Atom::Constant(c);
     }
     local_with(p)
 }
 
 // The guard of a line, with copy p of its local, is true.
-pub fn put_guard(text: &mut [u8], start: usize, guard: u16, p: u16) -> usize
-    ensures { (l : Line) → l.guard ≡ guard → Spelt (formula_text (guard_true l p)) text.old start text.new result }
+#[tactic(auto, unfolding(script::specs::Assertions::guard_true))]
+pub fn put_guard(w: &mut Writer<'_>, guard: u16, p: u16)
+    ensures { (l : Line) → l.guard ≡ guard → Puts (formula_text (guard_true l p)) w.old w.new }
 {
     let x = local_with(p);
-    if guard < 17 {
-        let mut at = put(text, start, b"(not ");
-        at = put_equal(text, at, x, Atom::Constant(0));
-        return put(text, at, b")");
+    match guard {
+        0..=16 => {
+            w.put(b"(not ");
+            w.put_equal(x, Atom::Constant(0));
+            w.put(b")");
+        }
+        _ => w.put_equal(x, Atom::Constant(0)),
     }
-    put_equal(text, start, x, Atom::Constant(0))
 }
 
 // The comparison of two atoms.
-fn put_comparison(text: &mut [u8], start: usize, op: u16, x: Atom, y: Atom) -> usize
-    ensures { Spelt (formula_text (test (comparison op) (atom_term x) (atom_term y))) text.old start text.new result }
+#[tactic(auto, unfolding(script::specs::Assertions::comparison))]
+fn put_comparison(w: &mut Writer<'_>, op: u16, x: Atom, y: Atom)
+    ensures { Puts (formula_text (test (comparison op) (atom_term x) (atom_term y))) w.old w.new }
 {
     if op == 5 {
-        return put_equal(text, start, x, y);
+        w.put_equal(x, y);
+    } else {
+        w.put(b"(bvult ");
+        w.put_two(x, y);
     }
-    let at = put(text, start, b"(bvult ");
-    put_two(text, at, x, y)
 }
 
 // The word of an operation.
-fn put_operation(text: &mut [u8], start: usize, op: u16) -> usize
-    ensures { Spelt (operation_word (operation op)) text.old start text.new result }
+#[tactic(auto, unfolding(script::specs::Assertions::operation))]
+fn put_operation(w: &mut Writer<'_>, op: u16)
+    ensures { Puts (operation_word (operation op)) w.old w.new }
 {
-    if op == 1 {
-        return put(text, start, b"(bvadd ");
+    match op {
+        1 => w.put(b"(bvadd "),
+        2 => w.put(b"(bvsub "),
+        3 => w.put(b"(bvand "),
+        _ => w.put(b"(bvor "),
     }
-    if op == 2 {
-        return put(text, start, b"(bvsub ");
-    }
-    if op == 3 {
-        return put(text, start, b"(bvand ");
-    }
-    put(text, start, b"(bvor ")
 }
 
 // The expression of two atoms.
-pub fn put_expression(text: &mut [u8], start: usize, op: u16, x: Atom, y: Atom) -> usize
-    ensures { Spelt (term_text (expression op (atom_term x) (atom_term y))) text.old start text.new result }
+#[tactic(auto, unfolding(script::specs::Assertions::expression))]
+pub fn put_expression(w: &mut Writer<'_>, op: u16, x: Atom, y: Atom)
+    ensures { Puts (term_text (expression op (atom_term x) (atom_term y))) w.old w.new }
 {
-    if op == 0 {
-        return put_atom(text, start, x);
+    match op {
+        0 => w.put_atom(x),
+        1..=4 => {
+            put_operation(w, op);
+            w.put_two(x, y);
+        }
+        _ => {
+            w.put(b"(ite ");
+            put_comparison(w, op, x, y);
+            w.put(b" #x0001 #x0000)");
+        }
     }
-    if op < 5 {
-        let at = put_operation(text, start, op);
-        return put_two(text, at, x, y);
-    }
-    let mut at = put(text, start, b"(ite ");
-    at = put_comparison(text, at, op, x, y);
-    put(text, at, b" #x0001 #x0000)")
 }
 
 // A fact: where x equals one source and y another, x and y compare as the sources do.
-fn put_fact(
-    text: &mut [u8],
-    start: usize,
-    op: u16,
-    x: Atom,
-    y: Atom,
-    first: u16,
-    second: u16,
-) -> usize
-    ensures { Spelt (fact_head (comparison op) (atom_term x) (atom_term y) first second) text.old start text.new result }
+fn put_fact(w: &mut Writer<'_>, op: u16, x: Atom, y: Atom, first: u16, second: u16)
+    ensures { Puts (fact_head (comparison op) (atom_term x) (atom_term y) first second) w.old w.new }
 {
     let s = Atom::Variable(value_variable(first));
     let u = Atom::Variable(value_variable(second));
-    let mut at = put(text, start, b"(and (=> (and ");
-    at = put_equal(text, at, x, s);
-    at = put(text, at, b" ");
-    at = put_equal(text, at, y, u);
-    at = put(text, at, b") (not (xor ");
-    at = put_comparison(text, at, op, x, y);
-    at = put(text, at, b" ");
-    at = put_comparison(text, at, op, s, u);
-    put(text, at, b"))) ")
+    w.put(b"(and (=> (and ");
+    w.put_equal(x, s);
+    w.put(b" ");
+    w.put_equal(y, u);
+    w.put(b") (not (xor ");
+    put_comparison(w, op, x, y);
+    w.put(b" ");
+    put_comparison(w, op, s, u);
+    w.put(b"))) ");
 }
 
 // The facts of one first source with each second one.
-fn put_facts_with(
-    text: &mut [u8],
-    start: usize,
-    op: u16,
-    x: Atom,
-    y: Atom,
-    first: u16,
-    sources: Sources,
-) -> usize
-    ensures { sources.count ≤ most_sources → Spelt (fact_heads_with (comparison op) (atom_term x) (atom_term y) first (source_list sources)) text.old start text.new result }
+fn put_facts_with(w: &mut Writer<'_>, op: u16, x: Atom, y: Atom, first: u16, sources: Sources)
+    ensures { Puts (fact_heads_with (comparison op) (atom_term x) (atom_term y) first (source_list sources)) w.old w.new }
 {
-    let mut at = start;
-    let mut j = 0;
-    while j < SOURCES {
-        if j == sources.count {
-            return at;
-        }
-        at = put_fact(text, at, op, x, y, first, sources.records[j]);
-        j += 1;
+    for second in sources.items() {
+        put_fact(w, op, x, y, first, *second);
     }
-    at
 }
 
 // The facts of each two sources.
-fn put_facts(text: &mut [u8], start: usize, op: u16, x: Atom, y: Atom, sources: Sources) -> usize
-    ensures { sources.count ≤ most_sources → Spelt (fact_heads (comparison op) (atom_term x) (atom_term y) (source_list sources) (source_list sources)) text.old start text.new result }
+fn put_facts(w: &mut Writer<'_>, op: u16, x: Atom, y: Atom, sources: Sources)
+    ensures { Puts (fact_heads (comparison op) (atom_term x) (atom_term y) (source_list sources) (source_list sources)) w.old w.new }
 {
-    let mut at = start;
-    let mut j = 0;
-    while j < SOURCES {
-        if j == sources.count {
-            return at;
-        }
-        at = put_facts_with(text, at, op, x, y, sources.records[j], sources);
-        j += 1;
-    }
-    at
-}
-
-fn is_variable(x: Atom) -> bool
-    ensures { result ≡ is_variable (atom_term x) }
-{
-    match x {
-        Atom::Variable(_) => true,
-        Atom::Constant(_) => false,
+    for first in sources.items() {
+        put_facts_with(w, op, x, y, *first, sources);
     }
 }
 
 // Whether facts stand beside an expression: where it compares two variables.
+#[tactic(auto, unfolding(crate::specs::Facts::has_facts))]
 fn has_facts(op: u16, x: Atom, y: Atom) -> bool
     ensures { result ≡ has_facts op (atom_term x) (atom_term y) }
 {
-    if op < 5 {
-        return false;
-    }
-    if is_variable(x) {
-        return is_variable(y);
-    }
-    false
+    5 <= op && matches!((x, y), (Atom::Variable(_), Atom::Variable(_)))
 }
 
 // What stands before an equation with an expression, and what behind.
-fn put_facts_before(
-    text: &mut [u8],
-    start: usize,
-    op: u16,
-    x: Atom,
-    y: Atom,
-    sources: Sources,
-) -> usize
-    ensures { sources.count ≤ most_sources → Spelt (facts_before (source_list sources) op (atom_term x) (atom_term y)) text.old start text.new result }
+#[tactic(auto, unfolding(crate::specs::Facts::facts_before))]
+fn put_facts_before(w: &mut Writer<'_>, op: u16, x: Atom, y: Atom, sources: Sources)
+    ensures { Puts (facts_before (source_list sources) op (atom_term x) (atom_term y)) w.old w.new }
 {
     if has_facts(op, x, y) {
-        return put_facts(text, start, op, x, y, sources);
+        put_facts(w, op, x, y, sources);
     }
-    start
 }
 
-fn put_facts_behind(text: &mut [u8], start: usize, op: u16, x: Atom, y: Atom, many: usize) -> usize
-    ensures { many ≤ most_sources → Spelt (facts_behind many op (atom_term x) (atom_term y)) text.old start text.new result }
+#[tactic(auto, unfolding(crate::specs::Facts::facts_behind))]
+fn put_facts_behind(w: &mut Writer<'_>, op: u16, x: Atom, y: Atom, sources: Sources)
+    ensures { Puts (facts_behind (length (source_list sources)) op (atom_term x) (atom_term y)) w.old w.new }
 {
-    if SOURCES < many {
-        return start;
-    }
     if has_facts(op, x, y) {
-        return put_closing(text, start, many * many);
+        let many = sources.items().len();
+        w.put_closing(many * many);
     }
-    start
 }
 
 // v is the expression.
-fn put_value_of(text: &mut [u8], start: usize, v: Atom, op: u16, x: Atom, y: Atom) -> usize
-    ensures { Spelt (formula_text (equal (atom_term v) (expression op (atom_term x) (atom_term y)))) text.old start text.new result }
+fn put_value_of(w: &mut Writer<'_>, v: Atom, op: u16, x: Atom, y: Atom)
+    ensures { Puts (formula_text (equal (atom_term v) (expression op (atom_term x) (atom_term y)))) w.old w.new }
 {
-    let mut at = put(text, start, b"(= ");
-    at = put_atom(text, at, v);
-    at = put(text, at, b" ");
-    at = put_expression(text, at, op, x, y);
-    put(text, at, b")")
+    w.put(b"(= ");
+    w.put_atom(v);
+    w.put(b" ");
+    put_expression(w, op, x, y);
+    w.put(b")");
 }
 
 // v is 1 if the expression is not zero, else 0.
-fn put_truth_of(text: &mut [u8], start: usize, v: Atom, op: u16, x: Atom, y: Atom) -> usize
-    ensures { Spelt (formula_text (equal (atom_term v) (choice (is_zero (expression op (atom_term x) (atom_term y))) (constant 0) (constant 1)))) text.old start text.new result }
+fn put_truth_of(w: &mut Writer<'_>, v: Atom, op: u16, x: Atom, y: Atom)
+    ensures { Puts (formula_text (equal (atom_term v) (choice (is_zero (expression op (atom_term x) (atom_term y))) (constant 0) (constant 1)))) w.old w.new }
 {
-    let mut at = put(text, start, b"(= ");
-    at = put_atom(text, at, v);
-    at = put(text, at, b" (ite (= ");
-    at = put_expression(text, at, op, x, y);
-    put(text, at, b" #x0000) #x0000 #x0001))")
+    w.put(b"(= ");
+    w.put_atom(v);
+    w.put(b" (ite (= ");
+    put_expression(w, op, x, y);
+    w.put(b" #x0000) #x0000 #x0001))");
 }
 
 // v is the expression, with the facts that stand beside it.
-pub fn put_is_expression(
-    text: &mut [u8],
-    start: usize,
-    v: Atom,
-    op: u16,
-    x: Atom,
-    y: Atom,
-    sources: Sources,
-) -> usize
-    ensures { (case : Case) → HasSources case sources → Spelt (formula_text (is_expression (sources_of case) (atom_term v) op (atom_term x) (atom_term y))) text.old start text.new result }
+#[tactic(auto, unfolding(script::specs::Assertions::is_expression))]
+pub fn put_is_expression(w: &mut Writer<'_>, v: Atom, op: u16, x: Atom, y: Atom, sources: Sources)
+    ensures { (case : Case) → HasSources case sources → Puts (formula_text (is_expression (sources_of case) (atom_term v) op (atom_term x) (atom_term y))) w.old w.new }
 {
     if op == 0 {
-        return put_same(text, start, v, x, sources);
+        put_same(w, v, x, sources);
+    } else {
+        put_facts_before(w, op, x, y, sources);
+        put_value_of(w, v, op, x, y);
+        put_facts_behind(w, op, x, y, sources);
     }
-    let mut at = put_facts_before(text, start, op, x, y, sources);
-    at = put_value_of(text, at, v, op, x, y);
-    put_facts_behind(text, at, op, x, y, sources.count)
 }
 
 // v is 1 if the expression is not zero, else 0, with the facts that stand beside it.
-pub fn put_is_truth(
-    text: &mut [u8],
-    start: usize,
-    v: Atom,
-    op: u16,
-    x: Atom,
-    y: Atom,
-    sources: Sources,
-) -> usize
-    ensures { (case : Case) → HasSources case sources → Spelt (formula_text (is_truth (sources_of case) (atom_term v) op (atom_term x) (atom_term y))) text.old start text.new result }
+pub fn put_is_truth(w: &mut Writer<'_>, v: Atom, op: u16, x: Atom, y: Atom, sources: Sources)
+    ensures { (case : Case) → HasSources case sources → Puts (formula_text (is_truth (sources_of case) (atom_term v) op (atom_term x) (atom_term y))) w.old w.new }
 {
-    let mut at = put_facts_before(text, start, op, x, y, sources);
-    at = put_truth_of(text, at, v, op, x, y);
-    put_facts_behind(text, at, op, x, y, sources.count)
+    put_facts_before(w, op, x, y, sources);
+    put_truth_of(w, v, op, x, y);
+    put_facts_behind(w, op, x, y, sources);
 }

@@ -5,7 +5,9 @@ use Prim.Native.Nat.{ℕ, zero, suc, ◌+◌}
 use mathlib.Core.List.{List, [], ◌∷◌, ◌++◌, append_assoc, append-nil}
 use native.Mathlib.Omega.{arith}
 use Rattle.model.specs.Word.{bit}
-use Rattle.model.specs.CaseFile.{Kind, compute, store, load, input, assert, assume, lock, unlock, Line, Case, case_of, sum_of_lines, line_at}
+use Rattle.model.specs.CaseFile.{Line, Case, case_of, sum_of_lines, line_at}
+use Rattle.model.specs.declared.Kind.{Kind}
+use Rattle.model.specs.declared.Kind.TheVariants.{Compute, Store, Load, Input, Assert, Assume, Lock, Unlock}
 use Rattle.model.specs.Line.{guard_name, target_name}
 use Rattle.model.specs.Copies.{copy_of}
 use Rattle.model.specs.Table.{value_rows, all_value_rows}
@@ -17,10 +19,10 @@ use Rattle.laws.proofs.Lines.{numbers_once}
 use Rattle.smt.specs.Term.{Formula}
 use Rattle.smt.specs.Spelling.{ascii, formula_text}
 use Rattle.script.specs.Assertions.{is_zero, value_of, sources_of, unlocks_as_stranger, or_breaks, some_breaks, some_thread_breaks}
-use Rattle.spell.specs.Spelt.{Spelt}
+use Rattle.spell.specs.declared.Writer.{Writer}
+use Rattle.spell.specs.Spelt.{Puts}
 use Rattle.spell.specs.Atoms.{closing}
-use Rattle.spell.proofs.Spelling.{spelt_then}
-use Rattle.spell.proofs.Numbers.{spelt_as}
+use Rattle.spell.proofs.Spelling.{puts_then, puts_as}
 use Rattle.linked.proofs.Nesting.{head_of_two}
 use Rattle.goal_text.specs.Goal.{has_part, parts_of, or_head, part_head, row_heads, goal_heads}
 use Rattle.goal_text.proofs.RowHeads.{heads_append, line_heads, table_heads}
@@ -40,14 +42,14 @@ module _ (case : Case) (sources : List ℕ) where
       → formula_text (or_breaks κ case sources earlier l f)
       ≡ part_head κ case sources l (copy_of case.G (guard_name l) earlier) (copy_of case.G (target_name case.G l) earlier) ++ (formula_text f ++ closing (bit (has_part κ)))
   unfolding or_breaks part_head or_head closing formula_text
-  line_text compute earlier l f = sym (append-nil (formula_text f))
-  line_text store earlier l f = sym (append-nil (formula_text f))
-  line_text load earlier l f = sym (append-nil (formula_text f))
-  line_text input earlier l f = sym (append-nil (formula_text f))
-  line_text assert earlier l f = head_of_two (ascii "(or ") (formula_text (is_zero (value_of l.number))) (formula_text f)
-  line_text assume earlier l f = sym (append-nil (formula_text f))
-  line_text lock earlier l f = sym (append-nil (formula_text f))
-  line_text unlock earlier l f =
+  line_text Compute earlier l f = sym (append-nil (formula_text f))
+  line_text Store earlier l f = sym (append-nil (formula_text f))
+  line_text Load earlier l f = sym (append-nil (formula_text f))
+  line_text Input earlier l f = sym (append-nil (formula_text f))
+  line_text Assert earlier l f = head_of_two (ascii "(or ") (formula_text (is_zero (value_of l.number))) (formula_text f)
+  line_text Assume earlier l f = sym (append-nil (formula_text f))
+  line_text Lock earlier l f = sym (append-nil (formula_text f))
+  line_text Unlock earlier l f =
       head_of_two (ascii "(or ")
       (formula_text (unlocks_as_stranger case sources l (copy_of case.G (guard_name l) earlier) (copy_of case.G (target_name case.G l) earlier))) (formula_text f)
 
@@ -91,6 +93,6 @@ module _ (bytes : List ℕ) (ok : Accepted bytes) where
       threads_text case (sources_of case) case.threads found
       ∙ ap (λ (xs : List ℕ). xs ++ (ascii "false" ++ closing (parts_of case.threads))) (sym (table_heads case (sources_of case)))
 
-  pub goal_spelt : {many : ℕ} → many ≡ parts_of case.threads → {d a b e : List ℕ} {start at place r : ℕ} → Spelt (goal_heads bytes) d start a at
-      → Spelt (ascii "false") a at b place → Spelt (closing many) b place e r → Spelt (formula_text (some_thread_breaks case (sources_of case) case.threads)) d start e r
-  goal_spelt is heads word close = spelt_as (sym goal_text) (spelt_then heads (spelt_then word (rw is at close)))
+  pub goal_spelt : {many : ℕ} → many ≡ parts_of case.threads → {d a b e : Writer} → Puts (goal_heads bytes) d a
+      → Puts (ascii "false") a b → Puts (closing many) b e → Puts (formula_text (some_thread_breaks case (sources_of case) case.threads)) d e
+  goal_spelt is heads word close = puts_as (sym goal_text) (puts_then heads (puts_then word (rw is at close)))

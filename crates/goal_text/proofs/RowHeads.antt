@@ -2,7 +2,9 @@
 use mathlib.Core.Path.{◌≡◌, refl, sym, ap, ◌∙◌}
 use Prim.Native.Nat.{ℕ, zero, suc, ◌%◌}
 use mathlib.Core.List.{List, [], ◌∷◌, ◌++◌, reverse, append_assoc, append-nil}
-use Rattle.model.specs.CaseFile.{Kind, compute, store, load, input, assert, assume, lock, unlock, Line, Case, lines_of, item_count, line_at}
+use Rattle.model.specs.CaseFile.{Line, Case, lines_of, item_count, line_at}
+use Rattle.model.specs.declared.Kind.{Kind}
+use Rattle.model.specs.declared.Kind.TheVariants.{Compute, Store, Load, Input, Assert, Assume, Lock, Unlock}
 use Rattle.model.specs.Line.{guard_name, target_name}
 use Rattle.model.specs.Copies.{copy_of}
 use Rattle.model.specs.Table.{Row, follow_row, stay_rows, line_order_rows, order_rows, demand_rows, value_rows, all_order_rows, all_value_rows, item_rows, block_rows, run_rows, goal_row, table}
@@ -49,14 +51,14 @@ module _ (case : Case) (sources : List ℕ) where
 
   demand_none : (kind : Kind) (earlier : List Line) (l : Line) (ws : List Row) → heads (demand_rows kind case earlier l ++ ws) ≡ heads ws
   unfolding row_heads row_head demand_rows
-  demand_none compute earlier l ws = refl
-  demand_none store earlier l ws = refl
-  demand_none load earlier l ws = refl
-  demand_none input earlier l ws = refl
-  demand_none assert earlier l ws = refl
-  demand_none assume earlier l ws = refl
-  demand_none lock earlier l ws = refl
-  demand_none unlock earlier l ws = refl
+  demand_none Compute earlier l ws = refl
+  demand_none Store earlier l ws = refl
+  demand_none Load earlier l ws = refl
+  demand_none Input earlier l ws = refl
+  demand_none Assert earlier l ws = refl
+  demand_none Assume earlier l ws = refl
+  demand_none Lock earlier l ws = refl
+  demand_none Unlock earlier l ws = refl
 
   items_none : (lines : List Line) (i g many : ℕ) → heads (item_rows case lines i g many) ≡ []
   unfolding row_heads row_head item_rows

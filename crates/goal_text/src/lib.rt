@@ -4,178 +4,107 @@
 
 ghost use Rattle.std.specs.Prelude.{◌≡◌, ◌≤◌, ◌<◌};
 ghost use Rattle.model.specs.Limits.{most_threads, most_globals};
-ghost use Rattle.model.specs.CaseFile.{Case, case_of, kind_of};
-ghost use Rattle.laws.specs.Accepted.{Accepted};
+ghost use Rattle.model.specs.CaseFile as model;
+ghost use Rattle.model.specs.CaseFile.{case_of};
 ghost use Rattle.smt.specs.Spelling.{formula_text};
 ghost use Rattle.script.specs.Assertions.{is_zero, value_of, sources_of, unlocks_as_stranger, some_thread_breaks};
 ghost use Rattle.case_file.specs.Records.{as_line};
-ghost use Rattle.spell.specs.Spelt.{Spelt};
-ghost use Rattle.linked.specs.Shape.{HasShape, HasSources};
+ghost use Rattle.spell.specs.Spelt.{Puts};
+ghost use Rattle.linked.specs.Shape.{HasFrame};
 ghost use Rattle.line_threads.specs.Threads.{row_at};
-ghost use Rattle.goal_text.specs.Goal.{has_part, parts_of, or_head, part_head, row_head, goal_heads, CaseHanded, RowThere};
+ghost use Rattle.goal_text.specs.Goal.{has_part, parts_of, or_head, part_head, row_head, goal_heads};
 
-use case_file::{Record, kind_of, records};
-use line::{bit_of, holder};
+use case_file::{Case, Record, kind_of, records};
+use line::holder;
 use line_text::put_reads;
-use line_threads::{line_of, row_at};
-use linked::{Shape, Sources, put_not_run, value_variable};
-use spell::{Atom, put, put_closing, put_equal};
+use line_threads::Tabled;
+use linked::{Frame, put_not_run, value_variable};
+use model::Kind;
+use spell::{Atom, Writer};
 
 // Whether a line of a kind has a part in the goal: an assert or an unlock.
-fn has_part(kind: u16) -> bool
-    ensures { result ≡ has_part (kind_of kind) }
+fn has_part(kind: Kind) -> bool
+    ensures { result ≡ has_part kind }
 {
-    match kind {
-        1 => false,
-        2 => false,
-        3 => false,
-        4 => false,
-        5 => true,
-        6 => false,
-        7 => false,
-        _ => true,
-    }
+    matches!(kind, Kind::Assert | Kind::Unlock)
 }
 
 // How many parts the goal of an accepted case has.
-fn part_count(case: &[u8]) -> usize
-    requires { Accepted case.now }
-    ensures { result ≡ parts_of (case_of case.now).threads }
+fn part_count(case: &Case<'_>) -> usize
+    ensures { result ≡ parts_of (case_of case.now.bytes.now).threads }
 {
-    let last = records(case);
     let mut n = 0;
-    let mut k = 1;
-    while k <= last {
-        n += bit_of(has_part(kind_of(case, k))) as usize;
-        k += 1;
+    for k in 1..records(case.bytes) + 1 {
+        if has_part(kind_of(case.bytes, k)) {
+            n += 1;
+        }
     }
     n
 }
 
 // The value of line k is 0, or ..
-fn put_zero(text: &mut [u8], start: usize, k: u16) -> usize
-    ensures { Spelt (or_head (is_zero (value_of k))) text.old start text.new result }
+fn put_zero(w: &mut Writer<'_>, k: u16)
+    ensures { Puts (or_head (is_zero (value_of k))) w.old w.new }
 {
-    let value = Atom::Variable(value_variable(k));
-    let mut at = put(text, start, b"(or ");
-    at = put_equal(text, at, value, Atom::Constant(0));
-    put(text, at, b" ")
+    w.put(b"(or ");
+    w.put_equal(Atom::Variable(value_variable(k)), Atom::Constant(0));
+    w.put(b" ");
 }
 
 // Line k, which has record l, was run and unlocks what its thread does not hold, or ..
-fn put_stranger(
-    text: &mut [u8],
-    start: usize,
-    shape: Shape,
-    sources: Sources,
-    l: Record,
-    k: u16,
-    guard: u16,
-    target: u16,
-) -> usize
-    requires globals_le_most_globals { shape.globals ≤ most_globals }
+fn put_stranger(w: &mut Writer<'_>, frame: Frame, l: Record, k: u16, guard: u16, target: u16)
+    requires globals_le_most_globals { frame.shape.globals ≤ most_globals }
     requires thread_lt_most_threads { l.thread < most_threads }
-    ensures { (case : Case) → HasShape case shape → HasSources case sources → Spelt (or_head (unlocks_as_stranger case (sources_of case) (as_line l k) guard target)) text.old start text.new result }
+    ensures { (case : model.Case) → HasFrame case frame → Puts (or_head (unlocks_as_stranger case (sources_of case) (as_line l k) guard target)) w.old w.new }
 {
     let own = holder(l);
-    let held = Atom::Constant(own);
-    let mut at = put(text, start, b"(or (not (or ");
-    at = put_not_run(text, at, shape, k);
-    at = put(text, at, b" ");
-    at = put_reads(text, at, shape, sources, held, l, k, guard, target);
-    put(text, at, b")) ")
+    w.put(b"(or (not (or ");
+    put_not_run(w, frame.shape, k);
+    w.put(b" ");
+    put_reads(w, frame, Atom::Constant(own), l, k, guard, target);
+    w.put(b")) ");
 }
 
 // The part of line k by its kind, or ..; a line of another kind has none.
-fn put_part(
-    text: &mut [u8],
-    start: usize,
-    shape: Shape,
-    sources: Sources,
-    l: Record,
-    k: u16,
-    guard: u16,
-    target: u16,
-) -> usize
-    requires globals_le_most_globals { shape.globals ≤ most_globals }
+#[tactic(auto, unfolding(crate::specs::Goal::part_head))]
+fn put_part(w: &mut Writer<'_>, frame: Frame, l: Record, k: u16, guard: u16, target: u16)
+    requires globals_le_most_globals { frame.shape.globals ≤ most_globals }
     requires thread_lt_most_threads { l.thread < most_threads }
-    ensures { (case : Case) → HasShape case shape → HasSources case sources → Spelt (part_head (kind_of l.kind) case (sources_of case) (as_line l k) guard target) text.old start text.new result }
+    ensures { (case : model.Case) → HasFrame case frame → Puts (part_head l.kind case (sources_of case) (as_line l k) guard target) w.old w.new }
 {
-    let kind = l.kind;
-    if !has_part(kind) {
-        return start;
-    }
-    match kind {
-        5 => put_zero(text, start, k),
-        _ => put_stranger(text, start, shape, sources, l, k, guard, target),
+    match l.kind {
+        Kind::Assert => put_zero(w, k),
+        Kind::Unlock => put_stranger(w, frame, l, k, guard, target),
+        _ => {}
     }
 }
 
 // What row j of the table puts: a 4 the part of its line, any other row nothing.
-fn put_head(
-    text: &mut [u8],
-    start: usize,
-    shape: Shape,
-    sources: Sources,
-    case: &[u8],
-    table: &[u16],
-    count: u16,
-    threads: &[u16],
-    j: u16,
-) -> usize
-    requires { RowThere case.now shape sources table.now count threads.now j }
-    ensures { Spelt (row_head (case_of case.now) (sources_of (case_of case.now)) (row_at table.now j)) text.old start text.new result }
+fn put_head(w: &mut Writer<'_>, tabled: &Tabled<'_>, j: u16)
+    requires { j < tabled.now.count }
+    ensures { Puts (row_head (case_of tabled.now.case.bytes.now) (sources_of (case_of tabled.now.case.bytes.now)) (row_at tabled.now.table.now j)) w.old w.new }
 {
-    let w = row_at(table, j);
-    let kind = w.kind;
-    match kind {
-        4 => {
-            let l = line_of(case, threads, w.one);
-            put_part(text, start, shape, sources, l, w.one, w.two, w.five)
-        }
-        _ => start,
+    let row = tabled.row(j);
+    if row.kind == 4 {
+        let l = tabled.line(row.one);
+        put_part(w, tabled.frame, l, row.one, row.two, row.five);
     }
 }
 
 // What all rows put.
-fn put_heads(
-    text: &mut [u8],
-    start: usize,
-    shape: Shape,
-    sources: Sources,
-    case: &[u8],
-    table: &[u16],
-    count: u16,
-    threads: &[u16],
-) -> usize
-    requires { CaseHanded case.now shape sources table.now count threads.now }
-    ensures { Spelt (goal_heads case.now) text.old start text.new result }
+fn put_heads(w: &mut Writer<'_>, tabled: &Tabled<'_>)
+    ensures { Puts (goal_heads tabled.now.case.bytes.now) w.old w.new }
 {
-    let mut at = start;
-    let mut j: u16 = 0;
-    while j < count {
-        at = put_head(text, at, shape, sources, case, table, count, threads, j);
-        j += 1;
+    for j in 0..tabled.count {
+        put_head(w, tabled, j);
     }
-    at
 }
 
-// A 7: some line violates. The table of the case has so many rows.
-pub fn put_goal(
-    text: &mut [u8],
-    start: usize,
-    shape: Shape,
-    sources: Sources,
-    case: &[u8],
-    table: &[u16],
-    count: u16,
-    threads: &[u16],
-) -> usize
-    requires { CaseHanded case.now shape sources table.now count threads.now }
-    ensures { Spelt (formula_text (some_thread_breaks (case_of case.now) (sources_of (case_of case.now)) (case_of case.now).threads)) text.old start text.new result }
+// A 7: some line violates.
+pub fn put_goal(w: &mut Writer<'_>, tabled: &Tabled<'_>)
+    ensures { Puts (formula_text (some_thread_breaks (case_of tabled.now.case.bytes.now) (sources_of (case_of tabled.now.case.bytes.now)) (case_of tabled.now.case.bytes.now).threads)) w.old w.new }
 {
-    let many = part_count(case);
-    let mut at = put_heads(text, start, shape, sources, case, table, count, threads);
-    at = put(text, at, b"false");
-    put_closing(text, at, many)
+    put_heads(w, tabled);
+    w.put(b"false");
+    w.put_closing(part_count(&tabled.case));
 }

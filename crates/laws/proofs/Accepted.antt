@@ -1,5 +1,6 @@
 -- A case that none of checks 1 to 9 refuses has everything that the record Accepted lists.
 -- Assumes nothing. Met again in every call that goes on after check 9, and in correspondence's Demand3.
+use Rattle.std.specs.Prelude.{Ok, Err}
 use mathlib.Core.Path.{◌≡◌}
 use Prim.Native.Nat.{ℕ, ◌-◌, ◌%◌, ◌≤◌, ◌<◌}
 use mathlib.Core.Bool.{Bool, true}
@@ -12,8 +13,8 @@ use Rattle.model.specs.Limits.{least_threads, most_threads, most_switches, most_
 use Rattle.model.specs.Lists.{all_from, unless}
 use Rattle.model.specs.CaseFile.{records, thread_count, switch_count, global_count, mutex_count, first_record, next_record, chains}
 use Rattle.model.specs.Accept.{size_ok, threads_ok, switches_ok, items_ok, absent_ok, links_ok, reached_ok, lengths_ok, times_reached, rule_ok, broken_record, verdict}
-use Rattle.model.specs.declared.Verdict.{Verdict}
-use Rattle.model.specs.declared.Verdict.TheVariants as verdicts
+use Rattle.model.specs.declared.Refusal.{Refusal}
+use Rattle.model.specs.Refusals.{Verdict}
 use Rattle.laws.specs.Sized.{Sized}
 use Rattle.laws.specs.Accepted.{Accepted}
 use Rattle.laws.proofs.Views.{and-true}
@@ -22,9 +23,8 @@ use Rattle.laws.proofs.Ranges.{all_from_gives, none_failing_gives}
 use Rattle.laws.proofs.Reached.{chains_go_on}
 
 -- The test and what follows it, where the answer is no refusal.
-passes : (test : Bool) (next : Verdict) (number place : ℕ) → unless test (verdicts.Refused number place) next ≡ verdicts.Accepted
-    → Passed (test ≡ true) (next ≡ verdicts.Accepted)
-passes test next number place e = past_unless (λ v. v ≡ verdicts.Accepted) test _ next (λ e'. let z : ◌≡◌ {A = ℕ} 0 1 = cc in omega arith) e
+passes : (test : Bool) (next : Verdict) (e : Refusal) → unless test (Err e) next ≡ Ok tt → Passed (test ≡ true) (next ≡ Ok tt)
+passes test next e = past_unless (λ v. v ≡ Ok tt) test _ next (λ e'. let z : ◌≡◌ {A = ℕ} 0 1 = cc in omega arith)
 
 module _ (bytes : List ℕ) where
   abbrev first_ok : ℕ → Bool
@@ -49,20 +49,20 @@ record Checked (bytes : List ℕ) : Type 0 where
   lengths : lengths_ok bytes ≡ true
   rules : broken_record bytes ≡ 0
 
-checked_of : (bytes : List ℕ) → verdict bytes ≡ verdicts.Accepted → Checked bytes
+checked_of : (bytes : List ℕ) → verdict bytes ≡ Ok tt → Checked bytes
 unfolding verdict
 checked_of bytes e =
-    let one = passes (size_ok bytes) _ 1 0 e in
-    let two = passes (threads_ok bytes) _ 2 0 one.later in
-    let three = passes (switches_ok bytes) _ 3 0 two.later in
-    let four = passes (items_ok bytes) _ 4 0 three.later in
-    let five = passes (absent_ok bytes) _ 5 0 four.later in
-    let six = passes (links_ok bytes) _ 6 0 five.later in
+    let one = passes (size_ok bytes) _ _ e in
+    let two = passes (threads_ok bytes) _ _ one.later in
+    let three = passes (switches_ok bytes) _ _ two.later in
+    let four = passes (items_ok bytes) _ _ three.later in
+    let five = passes (absent_ok bytes) _ _ four.later in
+    let six = passes (links_ok bytes) _ _ five.later in
     let links = and-true (all_from (first_ok bytes) 0 (thread_count bytes)) _ six.here in
     let later = and-true (all_from (next_ok bytes) 1 (records bytes)) _ links.rest in
-    let seven = passes (reached_ok bytes) _ 7 0 six.later in
-    let eight = passes (lengths_ok bytes) _ 8 0 seven.later in
-    let nine = passes (eqb (broken_record bytes) 0) _ 9 (broken_record bytes) eight.later in
+    let seven = passes (reached_ok bytes) _ _ six.later in
+    let eight = passes (lengths_ok bytes) _ _ seven.later in
+    let nine = passes (eqb (broken_record bytes) 0) _ _ eight.later in
     record {
       size = one.here;
       threads = two.here;
@@ -128,5 +128,5 @@ module _ (bytes : List ℕ) (checks : Checked bytes) where
     lines_go_on = chains_go_on bytes first_links next_links reached_just_once;
   }
 
-pub accepted_of : (bytes : List ℕ) → verdict bytes ≡ verdicts.Accepted → Accepted bytes
+pub accepted_of : (bytes : List ℕ) → verdict bytes ≡ Ok tt → Accepted bytes
 accepted_of bytes e = accepted bytes (checked_of bytes e)

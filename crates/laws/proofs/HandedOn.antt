@@ -1,5 +1,6 @@
 -- The lines of an accepted case are taken one by one, and the copies at each are those of the table.
 -- Assumes nothing. Met again in delivered's Delivered.
+use Rattle.std.specs.Prelude.{Ok}
 use mathlib.Core.Path.{◌≡◌, refl, sym, subst, ◌∙◌}
 use Prim.Native.Nat.{ℕ}
 use mathlib.Core.List.{List, [], ◌∷◌, ◌++◌, reverse}
@@ -38,7 +39,7 @@ module _ (bytes : List ℕ) (ok : Accepted bytes) where
 
   -- What is handed on is taken, whatever is held.
   taken_record : (k : ℕ) (held : List ℕ) → RecordNumber (records bytes) k
-      → taken G (mutex_count bytes) k (fields_of bytes k) held ≡ copies_at G held (line_of bytes 0 k)
+      → taken G (mutex_count bytes) k (fields_of bytes k) held ≡ Ok (copies_at G held (line_of bytes 0 k))
   unfolding taken numbers_from
   taken_record k held n =
       rw (

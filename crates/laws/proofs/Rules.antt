@@ -7,21 +7,23 @@ use mathlib.Core.List.{List}
 use borrow.Author.Tests.{leb-true}
 use lib.Dec.{leb}
 use Rattle.model.specs.Limits.{highest_kind, highest_guard}
-use Rattle.model.specs.CaseFile.{Kind, compute, store, load, input, assert, assume, lock, unlock, records, global_count, mutex_count, record_field, line_of}
+use Rattle.model.specs.CaseFile.{records, global_count, mutex_count, record_field, line_of}
+use Rattle.model.specs.declared.Kind.{Kind}
+use Rattle.model.specs.declared.Kind.TheVariants.{Compute, Store, Load, Input, Assert, Assume, Lock, Unlock}
 use Rattle.model.specs.Accept.{kind_rule}
 use Rattle.laws.specs.Accepted.{Accepted}
 use Rattle.laws.proofs.Views.{and-true}
 
 rule_any_thread : (bytes : List ℕ) (t k G M : ℕ) (kind : Kind) → kind_rule kind G M (line_of bytes 0 k) ≡ kind_rule kind G M (line_of bytes t k)
 unfolding kind_rule
-rule_any_thread bytes t k G M compute = refl
-rule_any_thread bytes t k G M store = refl
-rule_any_thread bytes t k G M load = refl
-rule_any_thread bytes t k G M input = refl
-rule_any_thread bytes t k G M assert = refl
-rule_any_thread bytes t k G M assume = refl
-rule_any_thread bytes t k G M lock = refl
-rule_any_thread bytes t k G M unlock = refl
+rule_any_thread bytes t k G M Compute = refl
+rule_any_thread bytes t k G M Store = refl
+rule_any_thread bytes t k G M Load = refl
+rule_any_thread bytes t k G M Input = refl
+rule_any_thread bytes t k G M Assert = refl
+rule_any_thread bytes t k G M Assume = refl
+rule_any_thread bytes t k G M Lock = refl
+rule_any_thread bytes t k G M Unlock = refl
 
 -- The parts of a rule: the guard, and the kind's own rule.
 pub record Obeys (bytes : List ℕ) (t k : ℕ) : Type 0 where

@@ -1,6 +1,7 @@
 -- How large an accepted case can be, and its table, an assignment, a schedule and the items. Whoever calls can lend slices of
 -- these sizes, and refusal 10 never meets them.
 -- Assumes nothing. Met again where encoder, checker and schedule count, in the listing's text, and in delivered's Delivered.
+use Rattle.std.specs.Prelude.{Ok, Err}
 use mathlib.Core.Path.{◌≡◌, refl}
 use mathlib.Core.Logic.{◌≢◌}
 use Prim.Native.Nat.{ℕ, zero, suc, ◌+◌, ◌-◌, ◌*◌, ◌%◌, ◌≤◌, ◌<◌}
@@ -13,7 +14,9 @@ use lib.Dec.{eqb}
 use lib.ListN.{get_or, length, length-append}
 use Rattle.model.specs.Lists.{unless}
 use Rattle.model.specs.Limits.{most_case_bytes, most_threads, most_lines, most_records, most_switches, most_items, most_variables, most_schedule_numbers, most_constraints, most_table_numbers}
-use Rattle.model.specs.CaseFile.{Kind, compute, store, load, input, assert, assume, lock, unlock, Line, Case, records, thread_count, switch_count, chains, case_of, lines_of, item_count, sum_of_lines, sum_of_threads}
+use Rattle.model.specs.CaseFile.{Line, Case, records, thread_count, switch_count, chains, case_of, lines_of, item_count, sum_of_lines, sum_of_threads}
+use Rattle.model.specs.declared.Kind.{Kind}
+use Rattle.model.specs.declared.Kind.TheVariants.{Compute, Store, Load, Input, Assert, Assume, Lock, Unlock}
 use Rattle.model.specs.Line.{visible, is_input}
 use Rattle.model.specs.Assignment.{variables}
 use Rattle.model.specs.Table.{Row, row, follow_row, stay_rows, line_order_rows, order_rows, demand_rows, value_rows, all_order_rows, all_value_rows, item_rows, block_rows, run_rows, goal_row, table, numbers_of}
@@ -21,11 +24,9 @@ use Rattle.model.specs.Machine.{Outcome, refused14, cut_off, violated, clean}
 use Rattle.model.specs.Schedule.{input_lines, all_input_lines, schedule_size, block_lengths, lengths_fit, run_of}
 use Rattle.model.specs.Accept.{size_ok, threads_ok, switches_ok, items_ok, absent_ok, links_ok, reached_ok, lengths_ok, broken_record, verdict}
 use Rattle.model.specs.Answers.{encoded, failed_in, decoded, answer_of_run, replayed, late_record, answer_of_fill, filled, verdict_numbers, encoded_numbers, decoded_numbers, replayed_numbers, filled_numbers}
-use Rattle.model.specs.declared.Verdict.{Verdict}
-use Rattle.model.specs.declared.Verdict.TheVariants as verdicts
-use Rattle.model.specs.declared.Decoded.TheVariants as decodeds
-use Rattle.model.specs.declared.Replayed.TheVariants as replayeds
-use Rattle.model.specs.declared.Filled.TheVariants as filleds
+use Rattle.model.specs.declared.Refusal.{Refusal}
+use Rattle.model.specs.declared.Refusal.TheVariants as refusals
+use Rattle.model.specs.Refusals.{Verdict, refusal_number}
 use Rattle.laws.specs.Accepted.{Accepted}
 use Rattle.laws.specs.RowCounts.{has_eight, order_row_count, is_first, value_row_count}
 use Rattle.laws.specs.Sizes.{Sizes, LargestSizes, NeverTooShort}
@@ -114,25 +115,25 @@ orders_at_most case t (ls ∷ threads) few =
 -- The 4s and 5s: so many a line, and at most two.
 pub line_value_length : (kind : Kind) (case : Case) (earlier : List Line) (l : Line) → suc (length (demand_rows kind case earlier l)) ≡ value_row_count kind
 unfolding demand_rows value_row_count
-line_value_length compute case earlier l = refl
-line_value_length store case earlier l = refl
-line_value_length load case earlier l = refl
-line_value_length input case earlier l = refl
-line_value_length assert case earlier l = refl
-line_value_length assume case earlier l = refl
-line_value_length lock case earlier l = refl
-line_value_length unlock case earlier l = refl
+line_value_length Compute case earlier l = refl
+line_value_length Store case earlier l = refl
+line_value_length Load case earlier l = refl
+line_value_length Input case earlier l = refl
+line_value_length Assert case earlier l = refl
+line_value_length Assume case earlier l = refl
+line_value_length Lock case earlier l = refl
+line_value_length Unlock case earlier l = refl
 
 pub value_count_at_most : (kind : Kind) → value_row_count kind ≤ 2
 unfolding value_row_count
-value_count_at_most compute = omega arith
-value_count_at_most store = omega arith
-value_count_at_most load = omega arith
-value_count_at_most input = omega arith
-value_count_at_most assert = omega arith
-value_count_at_most assume = omega arith
-value_count_at_most lock = omega arith
-value_count_at_most unlock = omega arith
+value_count_at_most Compute = omega arith
+value_count_at_most Store = omega arith
+value_count_at_most Load = omega arith
+value_count_at_most Input = omega arith
+value_count_at_most Assert = omega arith
+value_count_at_most Assume = omega arith
+value_count_at_most Lock = omega arith
+value_count_at_most Unlock = omega arith
 
 pub value_length : (case : Case) (earlier ls : List Line) → length (value_rows case earlier ls) ≡ sum_of_lines (λ l. value_row_count l.kind) ls
 unfolding value_rows
@@ -249,7 +250,7 @@ module _ (bytes : List ℕ) (ok : Accepted bytes) where
   table_numbers_lem = omega (arith, six_a_row (table (case_of bytes)), table_rows)
 
 -- All of them, for every list of bytes that no refusal from 1 to 9 meets.
-pub sizes : (bytes : List ℕ) → verdict bytes ≡ verdicts.Accepted → Sizes bytes
+pub sizes : (bytes : List ℕ) → verdict bytes ≡ Ok tt → Sizes bytes
 sizes bytes accepted =
     let ok = accepted_of bytes accepted in
     record {
@@ -273,30 +274,30 @@ largest_sizes = record {
 -- ---- Slices of these sizes are never refused with 10
 
 -- Checks 1 to 9 have the numbers 1 to 9.
-below_10_unless : (test : Bool) (number place : ℕ) (next : Verdict) → number < 10 → (verdict_numbers next).refusal < 10
-    → (verdict_numbers (unless test (verdicts.Refused number place) next)).refusal < 10
-below_10_unless true number place next h rest = rest
-below_10_unless false number place next h rest = h
+below_10_unless : (test : Bool) (e : Refusal) (next : Verdict) → refusal_number e < 10 → (verdict_numbers next).refusal < 10
+    → (verdict_numbers (unless test (Err e) next)).refusal < 10
+below_10_unless true e next h rest = rest
+below_10_unless false e next h rest = h
 
 verdict_below_10 : (bytes : List ℕ) → (verdict_numbers (verdict bytes)).refusal < 10
 unfolding verdict
 verdict_below_10 bytes =
-    below_10_unless (size_ok bytes) 1 0 _ (omega arith)
-    (below_10_unless (threads_ok bytes) 2 0 _ (omega arith)
-    (below_10_unless (switches_ok bytes) 3 0 _ (omega arith)
-    (below_10_unless (items_ok bytes) 4 0 _ (omega arith)
-    (below_10_unless (absent_ok bytes) 5 0 _ (omega arith)
-    (below_10_unless (links_ok bytes) 6 0 _ (omega arith)
-    (below_10_unless (reached_ok bytes) 7 0 _ (omega arith)
-    (below_10_unless (lengths_ok bytes) 8 0 _ (omega arith)
-    (below_10_unless (eqb (broken_record bytes) 0) 9 (broken_record bytes) verdicts.Accepted (omega arith) (omega arith)))))))))
+    below_10_unless (size_ok bytes) refusals.Size _ (omega arith)
+    (below_10_unless (threads_ok bytes) refusals.Threads _ (omega arith)
+    (below_10_unless (switches_ok bytes) refusals.Switches _ (omega arith)
+    (below_10_unless (items_ok bytes) refusals.Counts _ (omega arith)
+    (below_10_unless (absent_ok bytes) refusals.Absent _ (omega arith)
+    (below_10_unless (links_ok bytes) refusals.Links _ (omega arith)
+    (below_10_unless (reached_ok bytes) refusals.Unreached _ (omega arith)
+    (below_10_unless (lengths_ok bytes) refusals.Lines _ (omega arith)
+    (below_10_unless (eqb (broken_record bytes) 0) (refusals.Fields (broken_record bytes)) (Ok tt) (omega arith) (omega arith)))))))))
 
-refused_not_10 : (bytes : List ℕ) (number place : ℕ) → verdict bytes ≡ verdicts.Refused number place → number ≢ 10
-refused_not_10 bytes number place e ten = let few : number < 10 = rw e at (verdict_below_10 bytes) in omega arith
+refused_not_10 : (bytes : List ℕ) (e : Refusal) → verdict bytes ≡ Err e → refusal_number e ≢ 10
+refused_not_10 bytes e is ten = let few : refusal_number e < 10 = rw is at (verdict_below_10 bytes) in omega arith
 
 -- What comes after the room: 11 and 15 of the decoder, 12 and 13 of the replayer and the filler, and the run.
 decoded_not_10 : (sized none : Bool) (failed size : ℕ)
-    → (decoded_numbers (unless sized (decodeds.Refused 11 0) (unless none (decodeds.Refused 15 failed) (decodeds.Schedule size)))).refusal ≢ 10
+    → (decoded_numbers (unless sized (Err refusals.Assignment) (unless none (Err (refusals.Fails failed)) (Ok size)))).refusal ≢ 10
 decoded_not_10 true true failed size = λ ten. omega arith
 decoded_not_10 true false failed size = λ ten. omega arith
 decoded_not_10 false none failed size = λ ten. omega arith
@@ -308,7 +309,7 @@ run_not_10 (violated k s) = λ ten. omega arith
 run_not_10 (clean s) = λ ten. omega arith
 
 replayed_not_10 : (sized fit : Bool) (outcome : Outcome)
-    → (replayed_numbers (unless sized (replayeds.Refused 12 0) (unless fit (replayeds.Refused 13 0) (answer_of_run outcome)))).refusal ≢ 10
+    → (replayed_numbers (unless sized (Err refusals.Schedule) (unless fit (Err refusals.Lengths) (answer_of_run outcome)))).refusal ≢ 10
 replayed_not_10 true true outcome = run_not_10 outcome
 replayed_not_10 true false outcome = λ ten. omega arith
 replayed_not_10 false fit outcome = λ ten. omega arith
@@ -318,13 +319,13 @@ fill_not_10 case schedule (refused14 k) = λ ten. omega arith
 fill_not_10 case schedule (cut_off k items) = λ ten. omega arith
 fill_not_10 case schedule (violated k s) = go (eqb (late_record case schedule) 0)
   where
-    go : (none : Bool) → (filled_numbers (unless none (filleds.Refused 17 (late_record case schedule)) (filleds.Assignment (variables case)))).refusal ≢ 10
+    go : (none : Bool) → (filled_numbers (unless none (Err (refusals.Late (late_record case schedule))) (Ok (variables case)))).refusal ≢ 10
     go true = λ ten. omega arith
     go false = λ ten. omega arith
 fill_not_10 case schedule (clean s) = λ ten. omega arith
 
 filled_not_10 : (case : Case) (schedule : List ℕ) (sized fit : Bool) (outcome : Outcome)
-    → (filled_numbers (unless sized (filleds.Refused 12 0) (unless fit (filleds.Refused 13 0) (answer_of_fill case schedule outcome)))).refusal ≢ 10
+    → (filled_numbers (unless sized (Err refusals.Schedule) (unless fit (Err refusals.Lengths) (answer_of_fill case schedule outcome)))).refusal ≢ 10
 filled_not_10 case schedule true true outcome = fill_not_10 case schedule outcome
 filled_not_10 case schedule true false outcome = λ ten. omega arith
 filled_not_10 case schedule false fit outcome = λ ten. omega arith
@@ -339,25 +340,25 @@ never_too_short bytes = record {
 }
   where
     by_table : (room : ℕ) → most_table_numbers ≤ room → (v : Verdict) → verdict bytes ≡ v → (encoded_numbers (encoded bytes room)).refusal ≢ 10
-    by_table room h verdicts.Accepted e = rw (on_accepted _ _ _ e, le-leb (length (numbers_of (table (case_of bytes)))) room (omega (arith, table_numbers_lem bytes (accepted_of bytes e)))) (λ ten. omega arith)
-    by_table room h (verdicts.Refused number place) e = rw (on_refused _ _ _ number place e) (refused_not_10 bytes number place e)
+    by_table room h (Ok tt) e = rw (on_accepted _ _ _ e, le-leb (length (numbers_of (table (case_of bytes)))) room (omega (arith, table_numbers_lem bytes (accepted_of bytes e)))) (λ ten. omega arith)
+    by_table room h (Err r) e = rw (on_refused _ _ _ r e) (refused_not_10 bytes r e)
 
     by_schedule : (xs : List ℕ) (room : ℕ) → most_schedule_numbers ≤ room → (v : Verdict) → verdict bytes ≡ v → (decoded_numbers (decoded bytes xs room)).refusal ≢ 10
-    by_schedule xs room h verdicts.Accepted e =
+    by_schedule xs room h (Ok tt) e =
         rw (on_accepted _ _ _ e, le-leb (schedule_size (case_of bytes)) room (omega (arith, schedule_numbers bytes (accepted_of bytes e))))
         (decoded_not_10 (eqb (length xs) (variables (case_of bytes))) (eqb (failed_in bytes xs) 0) (failed_in bytes xs) (schedule_size (case_of bytes)))
-    by_schedule xs room h (verdicts.Refused number place) e = rw (on_refused _ _ _ number place e) (refused_not_10 bytes number place e)
+    by_schedule xs room h (Err r) e = rw (on_refused _ _ _ r e) (refused_not_10 bytes r e)
 
     by_items : (schedule : List ℕ) (room : ℕ) → most_items ≤ room → (v : Verdict) → verdict bytes ≡ v → (replayed_numbers (replayed bytes schedule room)).refusal ≢ 10
-    by_items schedule room h verdicts.Accepted e =
+    by_items schedule room h (Ok tt) e =
         rw (on_accepted _ _ _ e, le-leb (item_count (case_of bytes)) room (omega (arith, item_numbers_lem bytes (accepted_of bytes e))))
         (replayed_not_10 (eqb (length schedule) (schedule_size (case_of bytes))) (lengths_fit (case_of bytes) (block_lengths (case_of bytes) schedule))
         (run_of (case_of bytes) schedule))
-    by_items schedule room h (verdicts.Refused number place) e = rw (on_refused _ _ _ number place e) (refused_not_10 bytes number place e)
+    by_items schedule room h (Err r) e = rw (on_refused _ _ _ r e) (refused_not_10 bytes r e)
 
     by_assignment : (schedule : List ℕ) (room : ℕ) → most_variables ≤ room → (v : Verdict) → verdict bytes ≡ v → (filled_numbers (filled bytes schedule room)).refusal ≢ 10
-    by_assignment schedule room h verdicts.Accepted e =
+    by_assignment schedule room h (Ok tt) e =
         rw (on_accepted _ _ _ e, le-leb (variables (case_of bytes)) room (omega (arith, assignment_numbers bytes (accepted_of bytes e))))
         (filled_not_10 (case_of bytes) schedule (eqb (length schedule) (schedule_size (case_of bytes))) (lengths_fit (case_of bytes) (block_lengths (case_of bytes) schedule))
         (run_of (case_of bytes) schedule))
-    by_assignment schedule room h (verdicts.Refused number place) e = rw (on_refused _ _ _ number place e) (refused_not_10 bytes number place e)
+    by_assignment schedule room h (Err r) e = rw (on_refused _ _ _ r e) (refused_not_10 bytes r e)

@@ -6,7 +6,9 @@ use mathlib.Core.Bool.{true, false, not}
 use native.Mathlib.Omega.{arith}
 use borrow.Author.Tests.{eq-eqb, eqb-false, ne_eqb, not-true}
 use Rattle.model.specs.Word.{word_size}
-use Rattle.model.specs.CaseFile.{Kind, compute, store, load, input, assert, assume, lock, unlock, Case}
+use Rattle.model.specs.CaseFile.{Case}
+use Rattle.model.specs.declared.Kind.{Kind}
+use Rattle.model.specs.declared.Kind.TheVariants.{Compute, Store, Load, Input, Assert, Assume, Lock, Unlock}
 use Rattle.model.specs.Line.{unrun_value}
 use Rattle.model.specs.Assignment.{was_run}
 
@@ -25,11 +27,11 @@ module _ (case : Case) (x : ℕ) where
 
 pub unrun_small : (kind : Kind) → unrun_value kind < word_size
 unfolding unrun_value
-unrun_small compute = omega arith
-unrun_small store = omega arith
-unrun_small load = omega arith
-unrun_small input = omega arith
-unrun_small assert = omega arith
-unrun_small assume = omega arith
-unrun_small lock = omega arith
-unrun_small unlock = omega arith
+unrun_small Compute = omega arith
+unrun_small Store = omega arith
+unrun_small Load = omega arith
+unrun_small Input = omega arith
+unrun_small Assert = omega arith
+unrun_small Assume = omega arith
+unrun_small Lock = omega arith
+unrun_small Unlock = omega arith

@@ -5,7 +5,9 @@ use Prim.Native.Nat.{ℕ, zero, suc, ◌%◌}
 use mathlib.Core.Bool.{Bool, true, false, cond}
 use mathlib.Core.List.{List, [], ◌∷◌, ◌++◌, reverse}
 use lib.Dec.{eqb}
-use Rattle.model.specs.CaseFile.{Kind, compute, store, load, input, assert, assume, lock, unlock, Line, Case, lines_of, item_count}
+use Rattle.model.specs.CaseFile.{Line, Case, lines_of, item_count}
+use Rattle.model.specs.declared.Kind.{Kind}
+use Rattle.model.specs.declared.Kind.TheVariants.{Compute, Store, Load, Input, Assert, Assume, Lock, Unlock}
 use Rattle.model.specs.Assignment.{Assignment}
 use Rattle.model.specs.Table.{Row, value_row, demand_rows, value_rows, all_value_rows, item_rows, block_rows, without_eights}
 use Rattle.laws.specs.AllHold.{AllHold}
@@ -33,14 +35,14 @@ all_hold_without case α (w ∷ ws) h = go (eqb w.kind 8) (all_hold_without case
 -- There are no 8s among the 4s and 5s, and none among the 6s.
 demand_without : (kind : Kind) (case : Case) (earlier : List Line) (l : Line) → without_eights (demand_rows kind case earlier l) ≡ demand_rows kind case earlier l
 unfolding demand_rows without_eights
-demand_without compute case earlier l = refl
-demand_without store case earlier l = refl
-demand_without load case earlier l = refl
-demand_without input case earlier l = refl
-demand_without assert case earlier l = refl
-demand_without assume case earlier l = refl
-demand_without lock case earlier l = refl
-demand_without unlock case earlier l = refl
+demand_without Compute case earlier l = refl
+demand_without Store case earlier l = refl
+demand_without Load case earlier l = refl
+demand_without Input case earlier l = refl
+demand_without Assert case earlier l = refl
+demand_without Assume case earlier l = refl
+demand_without Lock case earlier l = refl
+demand_without Unlock case earlier l = refl
 
 values_without : (case : Case) (earlier ls : List Line) → without_eights (value_rows case earlier ls) ≡ value_rows case earlier ls
 unfolding value_rows without_eights

@@ -1,7 +1,9 @@
 -- How many rows of the table a line has, each count in this one place.
 -- Assumes nothing.
 use Rattle.std.specs.Prelude.{ℕ, Bool, true, false, cond, not, ◌||◌, List, [], ◌∷◌}
-use Rattle.model.specs.CaseFile.{Kind, compute, store, load, input, assert, assume, lock, unlock, Line}
+use Rattle.model.specs.CaseFile.{Line}
+use Rattle.model.specs.declared.Kind.{Kind}
+use Rattle.model.specs.declared.Kind.TheVariants.{Compute, Store, Load, Input, Assert, Assume, Lock, Unlock}
 use Rattle.model.specs.Line.{visible}
 
 -- Five: "An invisible line that is not its thread's first": whether a line, which is the first or not, has an 8.
@@ -19,11 +21,11 @@ is_first (before ∷ earlier) = false
 
 -- Its other rows: a 4, and a 5 for assume and lock.
 unfoldable pub value_row_count : Kind → ℕ
-value_row_count compute = 1
-value_row_count store = 1
-value_row_count load = 1
-value_row_count input = 1
-value_row_count assert = 1
-value_row_count assume = 2
-value_row_count lock = 2
-value_row_count unlock = 1
+value_row_count Compute = 1
+value_row_count Store = 1
+value_row_count Load = 1
+value_row_count Input = 1
+value_row_count Assert = 1
+value_row_count Assume = 2
+value_row_count Lock = 2
+value_row_count Unlock = 1

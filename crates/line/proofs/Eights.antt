@@ -1,7 +1,8 @@
 -- How many order rows a line has, by whether it has an 8; and its 8.
 -- Assumes nothing. Met again where its order rows are put and checked.
 use Rattle.std.proofs.Common.{◌≡◌, Bool, true, false, cond, not, List, [], ◌∷◌, sym, refl, ap, ◌∙◌}
-use Rattle.model.specs.CaseFile.{Kind, Line}
+use Rattle.model.specs.CaseFile.{Line}
+use Rattle.model.specs.declared.Kind.{Kind}
 use Rattle.model.specs.Line.{visible}
 use Rattle.model.specs.Table.{row, stay_rows}
 use Rattle.laws.specs.RowCounts.{has_eight, order_row_count}

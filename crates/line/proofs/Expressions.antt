@@ -1,7 +1,9 @@
 -- What a line's expression and value are, by kind.
 -- Assumes nothing.
 use Rattle.std.proofs.Common.{◌≡◌, ℕ, true, false, eqb, List, sym, refl, ap, ◌∙◌, arith}
-use Rattle.model.specs.CaseFile.{Kind, compute, store, load, input, assert, assume, lock, unlock, kind_of}
+use Rattle.model.specs.CaseFile.{kind_of}
+use Rattle.model.specs.declared.Kind.{Kind}
+use Rattle.model.specs.declared.Kind.TheVariants.{Compute, Store, Load, Input, Assert, Assume, Lock, Unlock}
 use Rattle.model.specs.Line.{local_name, name_of_a, name_of_b, name_of_target, has_expression, apply, operand_value, expression}
 use Rattle.model.specs.Machine.{look}
 use Rattle.laws.proofs.Views.{EqView, same, diff, eq_view}
@@ -12,14 +14,14 @@ use Rattle.line.specs.LineReads.{memory, reads_from}
 -- Operands of a kind with an expression are locals; op 0 has no operand b.
 name_a : (κ : Kind) (a : ℕ) → has_expression κ ≡ true → name_of_a κ a ≡ local_name a
 unfolding name_of_a
-name_a compute a e = refl
-name_a store a e = refl
-name_a load a e = absurd (let z : ◌≡◌ {A = ℕ} 0 1 = cc in omega arith)
-name_a input a e = absurd (let z : ◌≡◌ {A = ℕ} 0 1 = cc in omega arith)
-name_a assert a e = refl
-name_a assume a e = refl
-name_a lock a e = absurd (let z : ◌≡◌ {A = ℕ} 0 1 = cc in omega arith)
-name_a unlock a e = absurd (let z : ◌≡◌ {A = ℕ} 0 1 = cc in omega arith)
+name_a Compute a e = refl
+name_a Store a e = refl
+name_a Load a e = absurd (let z : ◌≡◌ {A = ℕ} 0 1 = cc in omega arith)
+name_a Input a e = absurd (let z : ◌≡◌ {A = ℕ} 0 1 = cc in omega arith)
+name_a Assert a e = refl
+name_a Assume a e = refl
+name_a Lock a e = absurd (let z : ◌≡◌ {A = ℕ} 0 1 = cc in omega arith)
+name_a Unlock a e = absurd (let z : ◌≡◌ {A = ℕ} 0 1 = cc in omega arith)
 
 name_b : (κ : Kind) (op b : ℕ) → has_expression κ ≡ true → eqb op 0 ≡ false → name_of_b κ op b ≡ local_name b
 unfolding name_of_b
@@ -37,7 +39,7 @@ apply_b κ op b c x value has = go (eq_view op 0)
     go (same e q) = apply_0 op x _ _ e
     go (diff e q) = ap (λ (name : ℕ). apply op x (operand_value b c (value name))) (sym (name_b κ op b has q))
 
-module _ (G count given : ℕ) (locals items : List ℕ) (l : Record) (k : ℕ) (has : has_expression (kind_of l.kind) ≡ true) where
+module _ (G count given : ℕ) (locals items : List ℕ) (l : Record) (k : ℕ) (has : has_expression l.kind ≡ true) where
   abbrev value : ℕ → ℕ
   value name = look (memory locals items count) name
 
@@ -47,9 +49,9 @@ module _ (G count given : ℕ) (locals items : List ℕ) (l : Record) (k : ℕ) 
   unfolding expression
   expression_is x y r is_x is_y is-r =
       is-r
-      ∙ ap (λ (z : ℕ). apply l.op z y) (is_x ∙ ap (λ (z : ℕ). operand_value l.a l.c (value z)) (sym (name_a (kind_of l.kind) l.a has)))
-      ∙ ap (apply l.op (operand_value l.a l.c (value (name_of_a (kind_of l.kind) l.a)))) is_y
-      ∙ apply_b (kind_of l.kind) l.op l.b l.c _ value has
+      ∙ ap (λ (z : ℕ). apply l.op z y) (is_x ∙ ap (λ (z : ℕ). operand_value l.a l.c (value z)) (sym (name_a l.kind l.a has)))
+      ∙ ap (apply l.op (operand_value l.a l.c (value (name_of_a l.kind l.a)))) is_y
+      ∙ apply_b l.kind l.op l.b l.c _ value has
 
 -- What a name of the line is, by its kind.
 module _ (locals items : List ℕ) (G count k : ℕ) (kind : Kind) (is : kind_of k ≡ kind) (v : ℕ) where

@@ -1,5 +1,4 @@
-pub mod KindNumbers
+pub mod Breaking
 pub mod Memories
 pub mod Expressions
 pub mod Eights
-pub mod CaseCounts

@@ -1,2 +1,3 @@
 pub mod CaseCounts
 pub mod LineReads
+pub mod SeenReads

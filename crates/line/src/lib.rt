@@ -4,43 +4,37 @@
 ghost use Rattle.std.specs.Prelude.{◌≡◌, ℕ, ◌<◌, ◌≤◌, true, List, take, if◌then◌else◌, nat_eq};
 ghost use Rattle.model.specs.Word.{bit};
 ghost use Rattle.model.specs.Limits.{most_threads, most_globals, most_items};
-ghost use Rattle.model.specs.CaseFile.{kind_of};
 ghost use Rattle.model.specs.Line.{local_name, item_name, guard_name, operand_a, has_expression, operand_b, target_name, guard_true, unrun_value, operand_value};
 ghost use Rattle.model.specs.Line as model;
 ghost use Rattle.model.specs.Machine.{look, put_local, put_item};
-ghost use Rattle.laws.specs.Accepted.{Accepted};
 ghost use Rattle.laws.specs.RowCounts.{has_eight, order_row_count, value_row_count};
 ghost use Rattle.case_file.specs.Records.{as_line};
-ghost use Rattle.line.specs.LineReads.{memory, reads_from, Expressed, Breaks};
-ghost use Rattle.line.specs.CaseCounts.{HasCounts, OfCase};
+ghost use Rattle.line.specs.LineReads.{memory, reads_from, Expressed};
 
-use case_file::Record;
-use model::{ITEMS, LOCALS, NAMES};
+use case_file::{Case, Record};
+use model::{ITEMS, Kind, LOCALS, NAMES};
 use std::num::{wrapping_add_u16, wrapping_sub_u16};
 
-// How many globals and how many items a case has.
+// How many globals and how many items a case has: no more than a case can have.
 #[derive(Clone, Copy)]
 pub struct Counts {
     pub globals: usize,
     pub items: usize,
+    pub ghost few_globals: { globals ≤ most_globals },
+    pub ghost few_items: { items ≤ most_items },
 }
 
-// The copies of a line's guard, operands and target.
-#[derive(Clone, Copy)]
-pub struct Copies {
-    pub guard: u16,
-    pub a: u16,
-    pub b: u16,
-    pub target: u16,
-}
+impl Counts {
+    ghost use Rattle.line.specs.CaseCounts.{HasCounts};
 
-pub fn counts_of(case: &[u8]) -> Counts
-    requires { Accepted case.now }
-    ensures { HasCounts case.now result }
-{
-    Counts {
-        globals: case_file::globals(case) as usize,
-        items: case_file::items(case),
+    // Those of an accepted case.
+    pub fn of(case: &Case<'_>) -> Counts
+        ensures { HasCounts case.now.bytes.now result }
+    {
+        Counts {
+            globals: case_file::globals(case.bytes) as usize,
+            items: case.items(),
+        }
     }
 }
 
@@ -66,34 +60,29 @@ pub fn guard_name(l: Record) -> usize
 }
 
 // The name that operand a reads.
+#[tactic(auto, unfolding(model::specs::Line::name_of_a))]
 pub fn operand_a(l: Record) -> usize
     ensures { (k : ℕ) → result ≡ operand_a (as_line l k) }
 {
-    let kind = l.kind;
-    match kind {
-        1 => local_name(l.a),
-        2 => local_name(l.a),
-        3 => LOCALS + l.a as usize,
-        5 => local_name(l.a),
-        6 => local_name(l.a),
-        _ => NAMES,
+    match l.kind {
+        Kind::Compute | Kind::Store | Kind::Assert | Kind::Assume => local_name(l.a),
+        Kind::Load => LOCALS + l.a as usize,
+        Kind::Input | Kind::Lock | Kind::Unlock => NAMES,
     }
 }
 
 // Whether a line of a kind has an expression.
-pub fn has_expression(kind: u16) -> bool
-    ensures { result ≡ has_expression (kind_of kind) }
+pub fn has_expression(kind: Kind) -> bool
+    ensures { result ≡ has_expression kind }
 {
-    match kind {
-        1 => true,
-        2 => true,
-        5 => true,
-        6 => true,
-        _ => false,
-    }
+    matches!(
+        kind,
+        Kind::Compute | Kind::Store | Kind::Assert | Kind::Assume
+    )
 }
 
 // The name that operand b reads; op 0 has no operand b.
+#[tactic(auto, unfolding(model::specs::Line::name_of_b))]
 pub fn operand_b(l: Record) -> usize
     ensures { (k : ℕ) → result ≡ operand_b (as_line l k) }
 {
@@ -108,68 +97,60 @@ pub fn operand_b(l: Record) -> usize
 }
 
 // The name of the target, in a case with so many globals.
+#[tactic(auto, unfolding(model::specs::Line::name_of_target))]
 pub fn target_name(globals: usize, l: Record) -> usize
     requires { globals ≤ most_globals }
     ensures { (k : ℕ) → result ≡ target_name globals (as_line l k) }
 {
-    let kind = l.kind;
     let target = l.target;
-    match kind {
-        1 => local_name(target),
-        2 => LOCALS + target as usize,
-        3 => local_name(target),
-        4 => local_name(target),
-        5 => NAMES,
-        6 => NAMES,
-        _ => LOCALS + (globals + target as usize),
+    match l.kind {
+        Kind::Compute | Kind::Load | Kind::Input => local_name(target),
+        Kind::Store => LOCALS + target as usize,
+        Kind::Assert | Kind::Assume => NAMES,
+        Kind::Lock | Kind::Unlock => LOCALS + (globals + target as usize),
     }
 }
 
 // Whether a line of a kind is visible: load, store, lock and unlock are.
-pub fn visible(kind: u16) -> bool
-    ensures { result ≡ model.visible (kind_of kind) }
+pub fn visible(kind: Kind) -> bool
+    ensures { result ≡ model.visible kind }
 {
-    match kind {
-        1 | 4 | 5 | 6 => false,
-        _ => true,
-    }
+    matches!(kind, Kind::Store | Kind::Load | Kind::Lock | Kind::Unlock)
 }
 
 // Whether a line, which is its thread's first or not, has an 8 in the table: an invisible line that is not the first has one.
-pub fn stays(first: bool, kind: u16) -> bool
-    ensures { result ≡ has_eight first (kind_of kind) }
+pub fn stays(first: bool, kind: Kind) -> bool
+    ensures { result ≡ has_eight first kind }
 {
-    if first {
-        return false;
-    }
-    !visible(kind)
+    !first && !visible(kind)
 }
 
 // How many order rows it has: a 3, its 8, and a 1 or a 2.
-pub fn order_rows(first: bool, kind: u16) -> usize
-    ensures { result ≡ order_row_count first (kind_of kind) }
+#[tactic(auto, unfolding(laws::specs::RowCounts::order_row_count))]
+pub fn order_rows(first: bool, kind: Kind) -> usize
+    ensures { result ≡ order_row_count first kind }
 {
     if stays(first, kind) { 3 } else { 2 }
 }
 
 // How many other rows a line of a kind has: a 4, and a 5 for assume and lock.
-pub fn value_rows(kind: u16) -> usize
-    ensures { result ≡ value_row_count (kind_of kind) }
+#[tactic(auto, unfolding(laws::specs::RowCounts::value_row_count))]
+pub fn value_rows(kind: Kind) -> usize
+    ensures { result ≡ value_row_count kind }
 {
     match kind {
-        6 => 2,
-        7 => 2,
+        Kind::Assume | Kind::Lock => 2,
         _ => 1,
     }
 }
 
 // The value of a line of a kind that was not run: 1 for assert and assume, else 0.
-pub fn unrun_value(kind: u16) -> u16
-    ensures { result ≡ unrun_value (kind_of kind) }
+#[tactic(auto, unfolding(model::specs::Line::unrun_value))]
+pub fn unrun_value(kind: Kind) -> u16
+    ensures { result ≡ unrun_value kind }
 {
     match kind {
-        5 => 1,
-        6 => 1,
+        Kind::Assert | Kind::Assume => 1,
         _ => 0,
     }
 }
@@ -182,15 +163,8 @@ pub fn local_at(locals: &[u16; LOCALS], x: u16) -> u16
     if at < LOCALS { locals[at] } else { 0 }
 }
 
-// The value of item g, in a case with so many items.
-pub fn item_at(items: &[u16; ITEMS], count: usize, g: usize) -> u16
-    requires { count ≤ most_items }
-    ensures { (locals : List ℕ) → result ≡ look (memory locals items.now count) (item_name g) }
-{
-    if g < count { items[g] } else { 0 }
-}
-
-// Whether the line is guarded in: of what it reads, only the guard's local matters.
+// Whether the line is guarded in: of what it reads, only the guard's local matters. Document 01 names this form: match on ranges of
+// guards.
 pub fn guarded(locals: &[u16; LOCALS], l: Record) -> bool
     ensures { (G count given : ℕ) (items : List ℕ) (k : ℕ) → count ≤ most_items → result ≡ guard_true (as_line l k) (reads_from G count given locals.now items (as_line l k)) }
 {
@@ -206,10 +180,10 @@ pub fn guarded(locals: &[u16; LOCALS], l: Record) -> bool
 pub fn bit_of(x: bool) -> u16
     ensures { result ≡ bit x }
 {
-    if x { 1 } else { 0 }
+    u16::from(x)
 }
 
-// The value of an op.
+// The value of an op. Document 01 names this form: match on op numbers.
 fn apply(op: u16, x: u16, y: u16) -> u16
     ensures { result ≡ model.apply op x y }
 {
@@ -254,28 +228,47 @@ pub fn holder(l: Record) -> u16
     l.thread + 1
 }
 
-// Whether the line, run with a true guard and with this value, violates.
-pub fn breaks(items: &[u16; ITEMS], counts: Counts, l: Record, value: u16) -> bool
-    requires { OfCase counts l }
-    ensures { Breaks counts items.now l value result }
-{
-    let kind = l.kind;
-    match kind {
-        1 => false,
-        2 => false,
-        3 => false,
-        4 => false,
-        5 => value == 0,
-        6 => false,
-        7 => false,
-        _ => {
-            let g = counts.globals + l.target as usize;
-            item_at(items, counts.items, g) != holder(l)
+// What a thread finds where it runs a line: its locals, the items, and how many of them the case has.
+#[derive(Clone, Copy)]
+pub struct Seen<'a> {
+    pub locals: &'a [u16; LOCALS],
+    pub items: &'a [u16; ITEMS],
+    pub counts: Counts,
+}
+
+impl Seen<'_> {
+    ghost use Rattle.line.specs.SeenReads.{memory_in, Breaks};
+
+    // The value of item g.
+    pub fn item(&self, g: usize) -> u16
+        ensures { result ≡ look (memory_in self.now) (item_name g) }
+    {
+        if g < self.counts.items {
+            self.items[g]
+        } else {
+            0
+        }
+    }
+
+    // Whether a line, run with a true guard and with this value, violates.
+    #[tactic(auto, unfolding(model::specs::Line::breaks))]
+    pub fn breaks(&self, l: Record, value: u16) -> bool
+        requires { l.thread < most_threads }
+        ensures { Breaks self.now l value result }
+    {
+        match l.kind {
+            Kind::Assert => value == 0,
+            Kind::Unlock => {
+                let g = self.counts.globals + l.target as usize;
+                self.item(g) != holder(l)
+            }
+            _ => false,
         }
     }
 }
 
-// The record of the first line that violates, after record k, which may be the first; 0 while there is none.
+// The record of the first line that violates, after record k, which may be the first; 0 for none, as model's
+// `Machine.noted` has it.
 pub fn noted(note: u16, k: u16, broken: bool) -> u16
     ensures { result ≡ (if nat_eq note 0 then (if broken then k else 0) else note) }
 {
@@ -294,16 +287,15 @@ pub fn put_local(locals: &mut [u16; LOCALS], name: usize, value: u16)
     }
 }
 
-// A name gets a value, if it is an item's, in a case with so many items.
-pub fn put_item(items: &mut [u16; ITEMS], count: usize, name: usize, value: u16)
-    requires { count ≤ most_items }
-    ensures { take count items.new ≡ put_item true name value (take count items.old) }
+// A name gets a value, if it is an item's, in a case with these counts.
+pub fn put_item(items: &mut [u16; ITEMS], counts: Counts, name: usize, value: u16)
+    ensures { take counts.items items.new ≡ put_item true name value (take counts.items items.old) }
 {
     if name < LOCALS {
         return;
     }
     let g = name - LOCALS;
-    if g < count {
+    if g < counts.items {
         items[g] = value;
     }
 }

@@ -1,5 +1,5 @@
 -- The lines of an accepted case are its records, each as a line of its thread.
--- Assumes nothing. Met again in Noted and RowLines, in `line_of`, and where the text of a line needs its thread.
+-- Assumes nothing. Met again in Noted and RowLines, in `Tabled::line`, and where the text of a line needs its thread.
 use mathlib.Core.Path.{◌≡◌, refl, sym, ap, ◌∙◌}
 use Prim.Native.Nat.{ℕ, ◌≤◌, ◌<◌}
 use mathlib.Core.List.{List, [], ◌∷◌}
@@ -18,7 +18,7 @@ use Rattle.laws.proofs.Lines.{numbers_once, thread_lines_by}
 use Rattle.laws.proofs.LineFound.{line_found}
 use Rattle.case_file.specs.Records.{record_of, as_line}
 use Rattle.case_file.specs.declared.Record.{Record}
-use Rattle.line_threads.specs.Threads.{LineThere}
+use Rattle.line_threads.specs.Threads.{HasThreads}
 
 module _ {bytes : List ℕ} (ok : Accepted bytes) where
   -- What holds of each record as a line of thread t, each line of thread t has.
@@ -71,14 +71,14 @@ module _ {bytes : List ℕ} (ok : Accepted bytes) where
   record_is_line : (k : ℕ) → 0 < k → k ≤ records bytes → as_line (record_of bytes (line_at (case_of bytes) k).thread k) k ≡ line_at (case_of bytes) k
   record_is_line k low high = let e = (in_thread k low high).is in ap (λ (l : Line). line_of bytes l.thread k) e ∙ sym e
 
-module _ {bytes threads : List ℕ} {k : ℕ} (h : LineThere bytes threads k) where
-  pub line_there : {t : ℕ} {l : Record} → t ≡ get_or threads k 0 → l ≡ record_of bytes t k → as_line l k ≡ line_at (case_of bytes) k
-  line_there et el =
-      rw (el, et, h.lines k h.number.some h.number.low)
-      (record_is_line h.accepted k h.number.some h.number.low)
+module _ {bytes : List ℕ} (ok : Accepted bytes) {k : ℕ} (is : RecordNumber (records bytes) k) where
+  pub line_there : (threads : List ℕ) → HasThreads (case_of bytes) threads → {t : ℕ} {l : Record} → t ≡ get_or threads k 0 → l ≡ record_of bytes t k → as_line l k ≡ line_at (case_of bytes) k
+  line_there threads lines et el =
+      rw (el, et, lines k is.some is.low)
+      (record_is_line ok k is.some is.low)
 
   -- There are at most so many threads.
   pub thread_low : (l : Record) → as_line l k ≡ line_at (case_of bytes) k → l.thread < most_threads
   thread_low l e =
-      let has = in_thread h.accepted k h.number.some h.number.low in
+      let has = in_thread ok k is.some is.low in
       omega (arith, ap (λ (m : Line). m.thread) (e ∙ has.is), has.few)

@@ -5,7 +5,9 @@ use mathlib.Core.Logic.{◌≢◌}
 use Prim.Native.Nat.{ℕ, zero, suc, ◌%◌, ◌<◌}
 use mathlib.Core.List.{List, [], ◌∷◌, ◌++◌, reverse}
 use native.Mathlib.Omega.{arith}
-use Rattle.model.specs.CaseFile.{Kind, compute, store, load, input, assert, assume, lock, unlock, Line, Case, case_of, lines_of, item_count}
+use Rattle.model.specs.CaseFile.{Line, Case, case_of, lines_of, item_count}
+use Rattle.model.specs.declared.Kind.{Kind}
+use Rattle.model.specs.declared.Kind.TheVariants.{Compute, Store, Load, Input, Assert, Assume, Lock, Unlock}
 use Rattle.model.specs.Table.{Row, follow_row, stay_rows, line_order_rows, order_rows, demand_rows, value_rows, all_order_rows, all_value_rows, item_rows, block_rows, run_rows, goal_row, table}
 use Rattle.laws.specs.Accepted.{Accepted}
 use Rattle.laws.specs.Order.{AllLines, AllThreads}
@@ -62,14 +64,14 @@ module _ (case : Case) where
 
   demand_numbered : (kind : Kind) (earlier : List Line) (l : Line) → IsRecord l → Numbered (demand_rows kind case earlier l)
   unfolding demand_rows
-  demand_numbered compute earlier l is = tt
-  demand_numbered store earlier l is = tt
-  demand_numbered load earlier l is = tt
-  demand_numbered input earlier l is = tt
-  demand_numbered assert earlier l is = tt
-  demand_numbered assume earlier l is = (of_line (λ e. omega (arith, e)) is, tt)
-  demand_numbered lock earlier l is = (of_line (λ e. omega (arith, e)) is, tt)
-  demand_numbered unlock earlier l is = tt
+  demand_numbered Compute earlier l is = tt
+  demand_numbered Store earlier l is = tt
+  demand_numbered Load earlier l is = tt
+  demand_numbered Input earlier l is = tt
+  demand_numbered Assert earlier l is = tt
+  demand_numbered Assume earlier l is = (of_line (λ e. omega (arith, e)) is, tt)
+  demand_numbered Lock earlier l is = (of_line (λ e. omega (arith, e)) is, tt)
+  demand_numbered Unlock earlier l is = tt
 
   value_numbered : (earlier ls : List Line) → AllLines IsRecord ls → Numbered (value_rows case earlier ls)
   unfolding value_rows

@@ -9,6 +9,7 @@ use Rattle.model.specs.CaseFile.{Case, case_of}
 use Rattle.model.specs.Table.{Row, table, numbers_of}
 use Rattle.laws.specs.Accepted.{Accepted}
 use Rattle.walk_text.specs.Previous.{HasTable}
+use Rattle.walk_text.proofs.NotedRows.{numbers_and_rest}
 use Rattle.line_threads.specs.Threads.{RowOf, RowsOf, row_at}
 use Rattle.line_threads.proofs.RowLines.{table_rows_of}
 
@@ -33,7 +34,8 @@ row_comes (w ∷ ws) rest (suc j) h =
 
 -- The rows that are left at row j are that row and those behind it.
 pub table_row : {case : Case} {xs : List ℕ} {count : ℕ} → HasTable case xs count → (j : ℕ) → j < count → drop j (table case) ≡ row_at xs j ∷ drop (suc j) (table case)
-table_row {case} h j below = rw h.numbers (row_comes (table case) h.rest j (omega (arith, h.rows)))
+table_row {case} h j below =
+    row_comes (table case) _ j (omega (arith, h.rows)) ∙ ap (λ (ns : List ℕ). row_at ns j ∷ drop (suc j) (table case)) (sym (numbers_and_rest h))
 
 -- What all rows have of the case, each has.
 row_of : (case : Case) (w : Row) (rest rows : List Row) (j : ℕ) → RowsOf case rows → drop j rows ≡ w ∷ rest → RowOf case w

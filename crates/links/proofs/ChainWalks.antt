@@ -1,5 +1,6 @@
 -- The walk that marks what it reaches, as its loops meet it: along a chain, and over the threads.
 -- Assumes nothing.
+use Rattle.std.specs.Prelude.{Result, Ok, Err, ⊤}
 use mathlib.Core.Path.{◌≡◌, refl, sym, ap, ◌∙◌}
 use mathlib.Core.Logic.{◌≢◌}
 use Prim.Native.Nat.{ℕ, suc, ◌+◌, ◌-◌, ◌≤◌, ◌<◌}
@@ -14,9 +15,11 @@ use Rattle.model.specs.Limits.{most_lines, most_records, record_places}
 use Rattle.model.specs.Lists.{all_from, unless}
 use Rattle.model.specs.CaseFile.{records, thread_count, first_record, next_record, chain, chains}
 use Rattle.model.specs.Accept.{lengths_ok}
+use Rattle.model.specs.declared.Refusal.{Refusal}
+use Rattle.model.specs.declared.Refusal.TheVariants.{Links, Unreached, Lines}
 use Rattle.laws.specs.Accepted.{thread_lines}
 use Rattle.laws.proofs.Views.{EqView, same, diff, eq_view}
-use Rattle.links.specs.Links.{LinksWithin, chains_refusal}
+use Rattle.links.specs.Links.{LinksWithin, chains_checked}
 use Rattle.links.specs.ReachCounts.{one_more_at, count_lines, count_threads, reached_of, sum_to, Marks, FollowReady, Unmarked, Twice, Walked, Followed}
 use Rattle.case_file.proofs.LoopTests.{all_at_end, all_next}
 use Rattle.laws.proofs.Chains.{threads_are}
@@ -43,15 +46,12 @@ module _ {bytes start : List ℕ} {t : ℕ} {marked : List ℕ} {k n : ℕ} (w :
   pub few_passed : n ≤ records bytes
   few_passed = omega (arith, w.sum, sum_at_most marked (records bytes) w.marks.single)
 
-  pub walk_ends : k ≡ 0 → Followed bytes t start marked n
+  pub walk_ends : k ≡ 0 → Followed bytes t start marked (Ok n)
   walk_ends h = record {
-    once = λ few. record {
-      counts = sym (count_at_end bytes t (suc (records bytes) - n) k marked h) ∙ w.counts;
-      lines = lines_told bytes t (suc (records bytes) - n) k n _ w.lines h;
-      marks = w.marks;
-      sum = w.sum;
-    };
-    twice = λ more. absurd (omega (arith, few_passed));
+    counts = sym (count_at_end bytes t (suc (records bytes) - n) k marked h) ∙ w.counts;
+    lines = lines_told bytes t (suc (records bytes) - n) k n _ w.lines h;
+    marks = w.marks;
+    sum = w.sum;
   }
 
   long : records bytes < length marked
@@ -61,10 +61,10 @@ module _ {bytes start : List ℕ} {t : ℕ} {marked : List ℕ} {k n : ℕ} (w :
   goes_on : k ≢ 0 → count_lines marked (chain bytes t (suc (records bytes) - n) k) ≡ count_lines (one_more_at marked k) (chain bytes t (suc (records bytes) - n - 1) (next_record bytes k))
   goes_on z = count_goes_on bytes t (suc (records bytes) - n) k marked (omega (arith, few_passed)) z
 
-  pub came_twice : {r : ℕ} → r ≡ records bytes + 1 → k ≢ 0 → get_or marked k 0 ≢ 0 → Followed bytes t start marked r
-  came_twice e z m = record {
-    once = λ few. absurd (omega arith);
-    twice = λ more. record {
+  pub came_twice : k ≢ 0 → get_or marked k 0 ≢ 0 → Followed bytes t start marked (Err Links)
+  came_twice z m = (
+    refl,
+    record {
       place = k;
       low = omega arith;
       high = w.within;
@@ -74,8 +74,8 @@ module _ {bytes start : List ℕ} {t : ℕ} {marked : List ℕ} {k n : ℕ} (w :
             count_grows (one_more_at marked k) (chain bytes t (suc (records bytes) - n - 1) (next_record bytes k)) k (omega (arith, long, w.within, length-set marked k (get_or marked k 0 + 1))),
             get_or-set_same marked k (get_or marked k 0 + 1) 0 (omega (arith, long, w.within)),
           ));
-    };
-  }
+    },
+  )
 
   module _ (z : k ≢ 0) (new : get_or marked k 0 ≡ 0) where
     mark : set marked k 1 ≡ one_more_at marked k
@@ -125,17 +125,17 @@ following_starts bytes marked start = record {
     all = omega arith
 
 module _ {bytes marked : List ℕ} {lines : ℕ} {few : Bool} {t : ℕ} (f : Following bytes marked lines few t) where
-  pub few_followed : lines ≤ records bytes
-  few_followed = omega (arith, f.sum, sum_at_most marked (records bytes) f.marks.single)
+  pub few_walked : {n : ℕ} {after : List ℕ} → Walked marked (thread_lines bytes t) (records bytes) after n → lines + n ≤ records bytes
+  few_walked {n} {after} walked = omega (arith, walked.sum, f.sum, sum_at_most after (records bytes) walked.marks.single)
 
   -- One thread more.
-  module _ {n : ℕ} {after : List ℕ} (h : t < thread_count bytes) (fo : Followed bytes t marked after n) where
+  module _ (h : t < thread_count bytes) where
     rest_of : count_threads (count_lines marked (thread_lines bytes t)) (chains bytes (t + 1) (thread_count bytes - (t + 1))) ≡ reached_of bytes
     unfolding count_threads
     rest_of = sym (ap (count_threads marked) (chains_more bytes t (thread_count bytes) h)) ∙ f.counts
 
-    pub follow_on : n ≤ records bytes → Following bytes after (lines + n) (few && leb n most_lines) (t + 1)
-    follow_on within = record {
+    pub follow_on : {n : ℕ} {after : List ℕ} → Walked marked (thread_lines bytes t) (records bytes) after n → Following bytes after (lines + n) (few && leb n most_lines) (t + 1)
+    follow_on walked = record {
       small = f.small;
       within = omega arith;
       marks = walked.marks;
@@ -144,29 +144,26 @@ module _ {bytes marked : List ℕ} {lines : ℕ} {few : Bool} {t : ℕ} (f : Fol
       lengths = rw (walked.lines ∙ sym (ap length (threads_are bytes t h))) (and_next few (few_lines bytes) t (thread_count bytes) h ∙ f.lengths);
     }
       where
-        walked : Walked marked (thread_lines bytes t) (records bytes) after n
-        walked = fo.once within
-
         and_next : (q : Bool) (test : ℕ → Bool) (i to : ℕ) → i < to → (q && test i && all_from test (i + 1) (to - (i + 1))) ≡ (q && all_from test i (to - i))
         and_next true test i to h = sym (all_next test i to h)
         and_next false test i to h = refl
 
-    pub fails_6 : records bytes < n → 6 ≡ chains_refusal bytes
-    fails_6 more =
-        rw (twice_reached bytes f.small two)
+    pub fails_6 : {e : Refusal} → (e ≡ Links) × Twice (count_lines marked (thread_lines bytes t)) (records bytes) → Err e ≡ chains_checked bytes
+    fails_6 (is, more) =
+        rw (is, twice_reached bytes f.small two)
       where
         two : Twice (reached_of bytes) (records bytes)
-        two = rw (← rest_of) (twice_goes_on _ _ (records bytes) (omega (arith, f.small, f.marks.size, length_of_count marked (thread_lines bytes t))) (fo.twice more))
+        two = rw (← rest_of) (twice_goes_on _ _ (records bytes) (omega (arith, f.small, f.marks.size, length_of_count marked (thread_lines bytes t))) more)
 
   module _ (end : thread_count bytes ≤ t) where
     all_counts_lem : marked ≡ reached_of bytes
     unfolding count_threads
     all_counts_lem = sym (ap (count_threads marked) (chains_end bytes t (thread_count bytes) end)) ∙ f.counts
 
-    pub fails_7 : lines < records bytes → 7 ≡ chains_refusal bytes
+    pub fails_7 : lines < records bytes → Err Unreached ≡ chains_checked bytes
     fails_7 less = rw (once_reached bytes f.small marked all_counts_lem f.marks, not_all_reached bytes f.small marked all_counts_lem f.marks (omega (arith, f.sum)))
 
-    pub passes_7 : records bytes ≤ lines → {r : ℕ} → r ≡ unless few 8 0 → r ≡ chains_refusal bytes
+    pub passes_7 : records bytes ≤ lines → {r : Result ⊤ Refusal} → r ≡ unless few (Err Lines) (Ok tt) → r ≡ chains_checked bytes
     passes_7 full e =
         let last : lengths_ok bytes ≡ few = sym f.lengths ∙ ap (λ (q : Bool). few && q) (all_at_end (few_lines bytes) t (thread_count bytes) end) ∙ and-true few in
         rw (once_reached bytes f.small marked all_counts_lem f.marks, all_reached bytes f.small marked all_counts_lem f.marks (omega (arith, f.sum)), last) e

@@ -1,18 +1,17 @@
 -- The first part of 6: its answer is the definition's, and what it says of 6 to 8.
 -- Assumes nothing.
-use mathlib.Core.Path.{◌≡◌, refl, sym, ap, ap₂, ◌∙◌}
+use mathlib.Core.Path.{◌≡◌, sym, ap₂, ◌∙◌}
 use Prim.Native.Nat.{ℕ, ◌-◌}
-use mathlib.Core.Bool.{Bool, true, false, ◌&&◌}
+use mathlib.Core.Bool.{Bool, true, ◌&&◌}
 use mathlib.Core.List.{List}
 use native.Mathlib.Omega.{arith}
 use borrow.Author.Tests.{leb-true}
 use lib.Dec.{leb}
 use Rattle.model.specs.Lists.{all_from}
 use Rattle.model.specs.CaseFile.{records, thread_count, first_record, next_record}
-use Rattle.model.specs.Accept.{reached_ok, lengths_ok}
 use Rattle.laws.proofs.Views.{and-true}
 use Rattle.laws.proofs.Ranges.{all_from_gives}
-use Rattle.links.specs.Links.{firsts_in, nexts_in, numbers_ok, once_ok, ThreadsWithin, LinksWithin, failing6to8, links_refusal, chains_refusal}
+use Rattle.links.specs.Links.{firsts_in, nexts_in, numbers_ok, ThreadsWithin, LinksWithin}
 
 pub numbers_are_ok :
     (bytes : List ℕ) (T most : ℕ) (firsts nexts : Bool) → T ≡ thread_count bytes → most ≡ records bytes → firsts ≡ all_from (λ t. leb (first_record bytes t) most) 0 (T - 0) →
@@ -20,23 +19,7 @@ pub numbers_are_ok :
 numbers_are_ok bytes T most firsts nexts e_t em ef en =
     ap₂ (λ (x y : Bool). x && y) (ef ∙ ap₂ (λ (m n : ℕ). all_from (λ t. leb (first_record bytes t) m) 0 n) em (omega arith)) en
 
-and_stop : (p q r : Bool) → (p && q) ≡ false → false ≡ (p && (q && r))
-and_stop true q r e = rw e
-and_stop false q r e = refl
-
-and_pass : (p q r : Bool) → (p && q) ≡ true → r ≡ (p && (q && r))
-and_pass p q r e = let h = and-true p q e in rw (h.first, h.rest)
-
 module _ (bytes : List ℕ) (r : Bool) (e : r ≡ numbers_ok bytes) where
-  abbrev with_6_lem : Bool → ℕ
-  with_6_lem six = failing6to8 six (reached_ok bytes) (lengths_ok bytes)
-
-  pub numbers_fail : r ≡ false → 6 ≡ links_refusal bytes
-  numbers_fail h = ap with_6_lem (and_stop (firsts_in bytes (records bytes)) (nexts_in bytes (records bytes)) (once_ok bytes) (sym e ∙ h))
-
-  pub numbers_pass : (n : ℕ) → r ≡ true → n ≡ chains_refusal bytes → n ≡ links_refusal bytes
-  numbers_pass n h en = en ∙ ap with_6_lem (and_pass (firsts_in bytes (records bytes)) (nexts_in bytes (records bytes)) (once_ok bytes) (sym e ∙ h))
-
   pub numbers_link : ThreadsWithin bytes → r ≡ true → LinksWithin bytes
   numbers_link threads h =
       let both = and-true (firsts_in bytes (records bytes)) (nexts_in bytes (records bytes)) (sym e ∙ h) in

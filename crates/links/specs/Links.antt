@@ -1,10 +1,12 @@
 -- What checks 6 to 8 answer, and what the first part of 6 gives to the walks along the chains.
 -- Assumes nothing.
-use Rattle.std.specs.Prelude.{ℕ, ◌≤◌, ◌<◌, Bool, ◌&&◌, List, leb}
+use Rattle.std.specs.Prelude.{ℕ, ◌≤◌, ◌<◌, Bool, ◌&&◌, List, leb, Result, Ok, Err, ⊤}
 use Rattle.model.specs.Limits.{most_threads}
 use Rattle.model.specs.Lists.{all_from, unless}
 use Rattle.model.specs.CaseFile.{records, thread_count, first_record, next_record}
 use Rattle.model.specs.Accept.{times_reached, links_ok, reached_ok, lengths_ok}
+use Rattle.model.specs.declared.Refusal.{Refusal}
+use Rattle.model.specs.declared.Refusal.TheVariants.{Links, Unreached, Lines}
 use Rattle.laws.specs.Sized.{Sized}
 
 -- Check 6 in its parts: no first number and no next number is over `most`; both with R; no record is reached twice.
@@ -31,13 +33,13 @@ pub record LinksWithin (bytes : List ℕ) : Type 0 where
   pub firsts : (t : ℕ) → t < thread_count bytes → first_record bytes t ≤ records bytes
   pub nexts : (k : ℕ) → 0 < k → k ≤ records bytes → next_record bytes k ≤ records bytes
 
--- The number of the first of 6, 7 and 8 that fails, 0 if none does.
-abbrev pub failing6to8 : Bool → Bool → Bool → ℕ
-failing6to8 six seven eight = unless six 6 (unless seven 7 (unless eight 8 0))
+-- Checks 6, 7 and 8 by what each finds: the first that fails refuses.
+abbrev pub checked_6_to_8 : Bool → Bool → Bool → Result ⊤ Refusal
+checked_6_to_8 six seven eight = unless six (Err Links) (unless seven (Err Unreached) (unless eight (Err Lines) (Ok tt)))
 
 -- Of a case; and of a case that passes the first part of 6.
-abbrev pub links_refusal : List ℕ → ℕ
-links_refusal bytes = failing6to8 (links_ok bytes) (reached_ok bytes) (lengths_ok bytes)
+abbrev pub links_checked : List ℕ → Result ⊤ Refusal
+links_checked bytes = checked_6_to_8 (links_ok bytes) (reached_ok bytes) (lengths_ok bytes)
 
-abbrev pub chains_refusal : List ℕ → ℕ
-chains_refusal bytes = failing6to8 (once_ok bytes) (reached_ok bytes) (lengths_ok bytes)
+abbrev pub chains_checked : List ℕ → Result ⊤ Refusal
+chains_checked bytes = checked_6_to_8 (once_ok bytes) (reached_ok bytes) (lengths_ok bytes)

@@ -1,8 +1,10 @@
 -- How often each record is reached, as the code counts it: 1 for each that the walk has come to.
 -- Assumes nothing.
-use Rattle.std.specs.Prelude.{◌≡◌, ℕ, zero, suc, ◌+◌, ◌≤◌, ◌<◌, List, [], ◌∷◌, length, get_or, set, replicate}
+use Rattle.std.specs.Prelude.{◌≡◌, ℕ, zero, suc, ◌+◌, ◌≤◌, ◌<◌, List, [], ◌∷◌, length, get_or, set, replicate, Result, Ok, Err}
 use Rattle.model.specs.Limits.{record_places}
 use Rattle.model.specs.CaseFile.{Line, records, thread_count, chains}
+use Rattle.model.specs.declared.Refusal.{Refusal}
+use Rattle.model.specs.declared.Refusal.TheVariants.{Links}
 use Rattle.laws.specs.Accepted.{thread_lines}
 use Rattle.links.specs.Links.{LinksWithin}
 
@@ -56,7 +58,7 @@ pub record Walked (before : List ℕ) (ls : List Line) (most : ℕ) (after : Lis
   pub marks : Marks after
   pub sum : sum_to after most ≡ sum_to before most + n
 
--- What following the chain of thread t answers: its number of lines, or one over the records if a record is reached twice.
-pub record Followed (bytes : List ℕ) (t : ℕ) (before after : List ℕ) (r : ℕ) : Type 0 where
-  pub once : r ≤ records bytes → Walked before (thread_lines bytes t) (records bytes) after r
-  pub twice : records bytes < r → Twice (count_lines before (thread_lines bytes t)) (records bytes)
+-- What following the chain of thread t answers: its number of lines, or 6 if a record is reached twice.
+abbrev pub Followed : List ℕ → ℕ → List ℕ → List ℕ → Result ℕ Refusal → Type 0
+Followed bytes t before after (Ok n) = Walked before (thread_lines bytes t) (records bytes) after n
+Followed bytes t before after (Err e) = (e ≡ Links) × Twice (count_lines before (thread_lines bytes t)) (records bytes)

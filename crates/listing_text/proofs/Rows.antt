@@ -5,7 +5,7 @@ use Prim.Native.Nat.{ℕ, suc, ◌+◌, ◌-◌, ◌*◌, ◌≤◌, ◌<◌}
 use mathlib.Core.List.{List, [], ◌∷◌, ◌++◌, append_assoc}
 use native.Mathlib.Omega.{arith}
 use native.Mathlib.Numerals.{add-one}
-use lib.ListN.{length, drop, get_or, length-append, drop_of_length-le}
+use lib.ListN.{length, take, drop, get_or, length-append, drop_of_length-le}
 use lib.Seq.{drop-cons}
 use Rattle.model.specs.Listing.{blank, line_feed, decimal, numbers_line}
 use Rattle.laws.specs.Written.{Put}
@@ -99,3 +99,24 @@ module _ {xs : List ℕ} {start count : ℕ} {d : List ℕ} {at i : ℕ} {out : 
 
   pub rowing_end : count ≤ i → Put (six_lines xs 0 count) d start out at
   rowing_end h = writing_end v.writes (no_more_rows xs i count h)
+
+-- A row's six numbers, as the table has them.
+pub six_taken : (xs : List ℕ) (from : ℕ) → from + 6 ≤ length xs → take 6 (drop from xs) ≡ six_at xs from
+six_taken xs from h =
+    let two : from + 2 ≡ suc (suc from) = omega arith in
+    let three : from + 3 ≡ suc (suc (suc from)) = omega arith in
+    let four : from + 4 ≡ suc (suc (suc (suc from))) = omega arith in
+    let five : from + 5 ≡ suc (suc (suc (suc (suc from)))) = omega arith in
+    rw (
+      drop-cons xs from 0 (omega arith),
+      drop-cons xs (suc from) 0 (omega arith),
+      drop-cons xs (suc (suc from)) 0 (omega arith),
+      drop-cons xs (suc (suc (suc from))) 0 (omega arith),
+      drop-cons xs (suc (suc (suc (suc from)))) 0 (omega arith),
+      drop-cons xs (suc (suc (suc (suc (suc from))))) 0 (omega arith),
+      add-one from,
+      two,
+      three,
+      four,
+      five,
+    )

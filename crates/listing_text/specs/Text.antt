@@ -1,12 +1,13 @@
 -- The listing's text as the code writes it: from the encoder's answer and the numbers of the table. That this is the text of
 -- `model` is proved in proofs/Bridge.antt.
 -- Assumes nothing.
-use Rattle.std.specs.Prelude.{◌≡◌, ℕ, zero, suc, ◌+◌, ◌*◌, ◌≤◌, List, [], ◌∷◌, ◌++◌, length, get_or}
+use Rattle.std.specs.Prelude.{◌≡◌, ℕ, zero, suc, ◌+◌, ◌*◌, ◌≤◌, List, [], ◌∷◌, ◌++◌, length, get_or, Result, Ok, Err}
 use Rattle.model.specs.Limits.{most_table_numbers, most_listing_bytes}
 use Rattle.model.specs.Lists.{written_over}
 use Rattle.model.specs.Listing.{decimal, numbers_line, listing_text}
-use Rattle.model.specs.declared.Encoded.{Encoded}
-use Rattle.model.specs.declared.Encoded.TheVariants.{Table, Refused}
+use Rattle.model.specs.declared.Refusal.{Refusal}
+use Rattle.model.specs.Refusals.{refusal_number, refusal_place}
+use Rattle.model.specs.declared.TableSize.{TableSize}
 
 -- A number and the byte that ends it.
 unfoldable pub ended : ℕ → ℕ → List ℕ
@@ -22,16 +23,16 @@ six_lines xs from zero = []
 six_lines xs from (suc many) = numbers_line (six_at xs from) ++ six_lines xs (from + 6) many
 
 -- How many rows the encoder says that it has written, and the text of its answer.
-abbrev pub row_count : Encoded → ℕ
-row_count (Table constraints variables) = constraints
-row_count (Refused number place) = 0
+abbrev pub row_count : Result TableSize Refusal → ℕ
+row_count (Ok size) = size.constraints
+row_count (Err e) = 0
 
-unfoldable pub text_of : Encoded → List ℕ → List ℕ
-text_of (Table constraints variables) xs = numbers_line (constraints ∷ (variables ∷ [])) ++ six_lines xs 0 constraints
-text_of (Refused number place) xs = numbers_line (number ∷ (place ∷ []))
+unfoldable pub text_of : Result TableSize Refusal → List ℕ → List ℕ
+text_of (Ok size) xs = numbers_line (size.constraints ∷ (size.variables ∷ [])) ++ six_lines xs 0 size.constraints
+text_of (Err e) xs = numbers_line (refusal_number e ∷ (refusal_place e ∷ []))
 
 -- The rows of the answer are in the table, which is no larger than any table.
-pub record TableAnswered (answer : Encoded) (xs : List ℕ) : Type 0 where
+pub record TableAnswered (answer : Result TableSize Refusal) (xs : List ℕ) : Type 0 where
   pub inside : 6 * row_count answer ≤ length xs
   pub few : length xs ≤ most_table_numbers
 

@@ -9,7 +9,8 @@ ghost use Rattle.laws.specs.Written.{numbers_at, Put};
 ghost use Rattle.listing_text.specs.Text.{ended, six_at, six_lines, text_of, TableAnswered, TextRoom};
 
 use encoder::MOST_NUMBERS;
-use model::{Encoded, Listed};
+use model::{Refusal, TableSize};
+use rows::ROW;
 
 // No text is longer: six bytes for each number of the largest table and for the two counts.
 pub const MOST_BYTES: usize = 6 * (2 + MOST_NUMBERS);
@@ -17,25 +18,20 @@ pub const MOST_BYTES: usize = 6 * (2 + MOST_NUMBERS);
 // The listing's text, from the slice's start: a case's table, or the number and place of its refusal. Refusal 10 where the
 // slice is shorter. The table always fits its array (`table_numbers_lem` of laws), so the encoder refuses only what the case is
 // refused for.
-pub fn listing_text(case: &[u8], text: &mut [u8]) -> Listed
+pub fn listing_text(case: &[u8], text: &mut [u8]) -> Result<usize, Refusal>
     ensures value { result ≡ listed case.now (length text.old) }
     ensures text_after { text.new ≡ listed_into case.now text.old }
 {
     let mut table = [0u16; MOST_NUMBERS];
     let answer = encoder::encode(case, &mut table);
-    let room = text.len();
-    if fits(room, answer, &table) {
-        let bytes = write_text(text, answer, &table);
-        return Listed::Text { bytes };
+    if fits(text.len(), answer, &table) {
+        return Ok(write_text(text, answer, &table));
     }
-    Listed::Refused {
-        number: 10,
-        place: 0,
-    }
+    Err(Refusal::Short)
 }
 
 // Whether the text of what the encoder answered has at most so many bytes. It is not measured where every text has.
-fn fits(room: usize, answer: Encoded, table: &[u16]) -> bool
+fn fits(room: usize, answer: Result<TableSize, Refusal>, table: &[u16]) -> bool
     requires { TableAnswered answer table.now }
     ensures { result ≡ leb (length (text_of answer table.now)) room }
 {
@@ -47,19 +43,16 @@ fn fits(room: usize, answer: Encoded, table: &[u16]) -> bool
 }
 
 // The text of what the encoder answered, from the start as far as the slice goes; how many bytes the text has.
-fn write_text(text: &mut [u8], answer: Encoded, table: &[u16]) -> usize
+fn write_text(text: &mut [u8], answer: Result<TableSize, Refusal>, table: &[u16]) -> usize
     requires { TableAnswered answer table.now }
     ensures { Put (text_of answer table.now) text.old 0 text.new result }
 {
     match answer {
-        Encoded::Table {
-            constraints,
-            variables,
-        } => {
-            let at = put_two(text, constraints, variables);
-            put_rows(text, at, table, constraints as usize)
+        Ok(size) => {
+            let at = put_two(text, size.constraints, size.variables);
+            put_rows(text, at, table, size.constraints as usize)
         }
-        Encoded::Refused { number, place } => put_two(text, number, place),
+        Err(refusal) => put_two(text, refusal.number(), refusal.place()),
     }
 }
 
@@ -69,28 +62,19 @@ fn put_rows(text: &mut [u8], start: usize, table: &[u16], count: usize) -> usize
     ensures { Put (six_lines table.now 0 count) text.old start text.new result }
 {
     let mut at = start;
-    let mut i = 0;
-    while i < count {
-        at = put_row(text, at, table, 6 * i);
-        i += 1;
+    for i in 0..count {
+        at = put_row(text, at, table, ROW * i);
     }
     at
 }
 
 // The constraint whose numbers stand in the table from `from` on, on a line of its own; the place after it.
+#[tactic(auto, using(crate::proofs::Rows::six_taken))]
 fn put_row(text: &mut [u8], at: usize, table: &[u16], from: usize) -> usize
     requires { TextRoom (from + 6) table.now (at + 36) }
     ensures { Put (numbers_line (six_at table.now from)) text.old at text.new result }
 {
-    let row = [
-        table[from],
-        table[from + 1],
-        table[from + 2],
-        table[from + 3],
-        table[from + 4],
-        table[from + 5],
-    ];
-    put_line(text, at, &row)
+    put_line(text, at, &table[from..from + ROW])
 }
 
 // A first line: two numbers.
@@ -108,10 +92,8 @@ fn put_line(text: &mut [u8], start: usize, numbers: &[u16]) -> usize
 {
     let last = numbers.len() - 1;
     let mut at = start;
-    let mut j = 0;
-    while j < last {
+    for j in 0..last {
         at = put_number(text, at, numbers[j], b' ');
-        j += 1;
     }
     put_number(text, at, numbers[last], b'\n')
 }
@@ -154,7 +136,7 @@ fn put_digits(text: &mut [u8], at: usize, n: u16) -> usize
     place + 1
 }
 
-// The code of a digit.
+// The code of a digit in base ten. `digit_of` of spell, which has base sixteen, stands above this crate and is no part of it.
 fn digit_of(x: u16) -> u8
     requires { x < 10 }
     ensures { result ≡ digit x }
@@ -162,7 +144,7 @@ fn digit_of(x: u16) -> u8
     48 + x as u8
 }
 
-// A byte at a place; nothing where the slice has no such place.
+// A byte at a place; nothing where the slice has no such place. A test and no `get_mut`, whose promise does not say how the slice ends.
 fn put_byte(text: &mut [u8], at: usize, byte: u8)
     ensures { text.new ≡ numbers_at text.old at (byte ∷ []) }
 {

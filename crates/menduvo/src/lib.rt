@@ -12,10 +12,7 @@ ghost use Rattle.model.specs.Listing.{listed, listed_into, listed_numbers};
 ghost use Rattle.model.specs.Taking.{taken, taken_into, taken_numbers};
 ghost use Rattle.script.specs.Text.{measured, spelled, spelled_into, spelled_numbers};
 
-use answer_numbers::{
-    checked_numbers, decoded_numbers, encoded_numbers, filled_numbers, listed_numbers,
-    replayed_numbers, spelled_numbers, taken_numbers, verdict_numbers,
-};
+use answer_numbers::{listed_numbers, numbers_of, spelled_numbers, taken_numbers};
 use builder::FIELDS;
 use model::{CopyNumbers, NAMES, Numbers};
 use script::TextNumbers;
@@ -24,7 +21,7 @@ use script::TextNumbers;
 pub fn menduvo_accept(case: &[u8]) -> Numbers
     ensures { result ≡ verdict_numbers (verdict case.now) }
 {
-    verdict_numbers(accept::accept(case))
+    numbers_of(accept::accept(case))
 }
 
 // The table of constraints of the case, six numbers a row, from the start of the slice.
@@ -32,14 +29,14 @@ pub fn menduvo_encode(case: &[u8], table: &mut [u16]) -> Numbers
     ensures value { result ≡ encoded_numbers (encoded case.now (length table.old)) }
     ensures table_after { table.new ≡ encoded_into case.now table.old }
 {
-    encoded_numbers(encoder::encode(case, table))
+    numbers_of(encoder::encode(case, table))
 }
 
 // Whether the assignment meets the constraints; else the first that fails, from 1.
 pub fn menduvo_check(case: &[u8], assignment: &[u16]) -> Numbers
     ensures { result ≡ checked_numbers (checked case.now assignment.now) }
 {
-    checked_numbers(checker::check(case, assignment))
+    numbers_of(checker::check(case, assignment))
 }
 
 // The schedule of an assignment that meets the constraints, from the start of the slice.
@@ -47,7 +44,7 @@ pub fn menduvo_decode(case: &[u8], assignment: &[u16], schedule: &mut [u16]) -> 
     ensures value { result ≡ decoded_numbers (decoded case.now assignment.now (length schedule.old)) }
     ensures schedule_after { schedule.new ≡ decoded_into case.now assignment.now schedule.old }
 {
-    decoded_numbers(decoder::decode(case, assignment, schedule))
+    numbers_of(decoder::decode(case, assignment, schedule))
 }
 
 // What the run of the schedule comes to; the items' values at its end, from the start of the slice.
@@ -55,15 +52,16 @@ pub fn menduvo_replay(case: &[u8], schedule: &[u16], items: &mut [u16]) -> Numbe
     ensures value { result ≡ replayed_numbers (replayed case.now schedule.now (length items.old)) }
     ensures after { items.new ≡ replayed_into case.now schedule.now items.old }
 {
-    replayed_numbers(replayer::replay(case, schedule, items))
+    numbers_of(replayer::replay(case, schedule, items))
 }
 
 // The assignment of a schedule whose run violates and keeps the rule of switches, from the start of the slice.
+#[tactic(auto, using(answer_numbers::proofs::Told::filled_as_decoded))]
 pub fn menduvo_fill(case: &[u8], schedule: &[u16], assignment: &mut [u16]) -> Numbers
     ensures value { result ≡ filled_numbers (filled case.now schedule.now (length assignment.old)) }
     ensures assignment_after { assignment.new ≡ filled_into case.now schedule.now assignment.old }
 {
-    filled_numbers(filler::fill(case, schedule, assignment))
+    numbers_of(filler::fill(case, schedule, assignment))
 }
 
 // The listing of the case as text, from the start of the slice: its constraints, or the number and place of its refusal.

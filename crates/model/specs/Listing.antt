@@ -1,15 +1,16 @@
 -- Document 01, "Case A": the text that the listing program prints, byte by byte, and the call that writes it.
 -- Assumes nothing.
-use Rattle.std.specs.Prelude.{ℕ, zero, suc, ◌+◌, ◌/◌, ◌%◌, cond, List, [], ◌∷◌, ◌++◌, ltb, leb, length}
-use Rattle.model.specs.Lists.{unless, written_over}
+use Rattle.std.specs.Prelude.{ℕ, zero, suc, ◌+◌, ◌/◌, ◌%◌, cond, List, [], ◌∷◌, ◌++◌, ltb, leb, length, Result, Ok, Err}
+use Rattle.model.specs.Lists.{unless}
 use Rattle.model.specs.CaseFile.{case_of}
 use Rattle.model.specs.Accept.{verdict}
 use Rattle.model.specs.Assignment.{variables}
 use Rattle.model.specs.Table.{Row, table}
-use Rattle.model.specs.Answers.{on_case, refused_numbers, answer_numbers}
+use Rattle.model.specs.declared.Refusal.{Refusal}
+use Rattle.model.specs.declared.Refusal.TheVariants.{Short}
+use Rattle.model.specs.Refusals.{refusal_number, refusal_place}
+use Rattle.model.specs.Answers.{on_case, after_answer, refused_numbers, answer_numbers}
 use Rattle.model.specs.declared.Numbers.{Numbers}
-use Rattle.model.specs.declared.Listed.{Listed}
-use Rattle.model.specs.declared.Listed.TheVariants.{Text, Refused}
 
 -- The ASCII codes of a digit, of a blank and of a line feed.
 abbrev pub digit : ℕ → ℕ
@@ -48,23 +49,18 @@ row_lines (w ∷ ws) = row_line w ++ row_lines ws
 -- it prints the number and place on one line."
 unfoldable pub listing_text : List ℕ → List ℕ
 listing_text bytes =
-    on_case (verdict bytes) (λ number place. numbers_line (number ∷ (place ∷ [])))
+    on_case (verdict bytes) (λ e. numbers_line (refusal_number e ∷ (refusal_place e ∷ [])))
     (numbers_line (length (table (case_of bytes)) ∷ (variables (case_of bytes) ∷ [])) ++ row_lines (table (case_of bytes)))
 
 -- The call. A refused case is no refusal of this call: its line is the text. "10. An output slice is shorter than what would
 -- be written."
-unfoldable pub listed : List ℕ → ℕ → Listed
-listed bytes room = unless (leb (length (listing_text bytes)) room) (Refused 10 0) (Text (length (listing_text bytes)))
-
--- "Each .. alters no buffer"; "An output slice is written from its start; numbers beyond the result keep their values."
-abbrev pub after_listed : Listed → List ℕ → List ℕ → List ℕ
-after_listed (Text bytes) result slice = written_over result slice
-after_listed (Refused number place) result slice = slice
+unfoldable pub listed : List ℕ → ℕ → Result ℕ Refusal
+listed bytes room = unless (leb (length (listing_text bytes)) room) (Err Short) (Ok (length (listing_text bytes)))
 
 unfoldable pub listed_into : List ℕ → List ℕ → List ℕ
-listed_into bytes slice = after_listed (listed bytes (length slice)) (listing_text bytes) slice
+listed_into bytes slice = after_answer (listed bytes (length slice)) (listing_text bytes) slice
 
 -- The document's number and values for each case of the answer.
-abbrev pub listed_numbers : Listed → Numbers
-listed_numbers (Text bytes) = answer_numbers 1 bytes 0
-listed_numbers (Refused number place) = refused_numbers number place
+abbrev pub listed_numbers : Result ℕ Refusal → Numbers
+listed_numbers (Ok bytes) = answer_numbers 1 bytes 0
+listed_numbers (Err e) = refused_numbers (refusal_number e) (refusal_place e)

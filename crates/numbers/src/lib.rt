@@ -8,17 +8,14 @@ ghost use Rattle.model.specs.Lists.{written_over};
 pub fn at(xs: &[u16], j: usize) -> u16
     ensures { result ≡ get_or xs.now j 0 }
 {
-    if j < xs.len() { xs[j] } else { 0 }
+    xs.get(j).copied().unwrap_or(0)
 }
 
 // The values go to the start of a slice that has room for them.
+#[tactic(auto, unfolding(model::specs::Lists::written_over))]
 pub fn write_over(values: &[u16], slice: &mut [u16])
     requires { length values.now ≤ length slice.old }
     ensures { slice.new ≡ written_over values.now slice.old }
 {
-    let mut j = 0;
-    while j < values.len() {
-        slice[j] = values[j];
-        j += 1;
-    }
+    slice[..values.len()].copy_from_slice(values);
 }

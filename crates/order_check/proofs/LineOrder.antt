@@ -7,15 +7,17 @@ use mathlib.Core.List.{List, [], ◌∷◌, ◌++◌}
 use native.Mathlib.Omega.{arith}
 use borrow.Author.Tests.{le-leb, lt-leb}
 use lib.Dec.{eqb, leb}
-use Rattle.model.specs.CaseFile.{Kind, kind_of, record_field, thread_count, line_of, case_of}
+use Rattle.std.specs.Prelude.{Ok, Err}
+use Rattle.model.specs.CaseFile.{kind_of, record_field, thread_count, line_of, case_of}
+use Rattle.model.specs.declared.Kind.{Kind}
 use Rattle.model.specs.Assignment.{was_run, assignment_of}
 use Rattle.model.specs.Table.{row, follow_row, stay_rows, line_order_rows}
-use Rattle.model.specs.Holds.{holds, first_failing}
+use Rattle.model.specs.Holds.{holds}
 use Rattle.laws.specs.RowCounts.{has_eight, order_row_count}
 use Rattle.laws.proofs.Views.{EqView, same, diff, eq_view}
 use Rattle.assignment.specs.Numbers.{record_block}
 use Rattle.line.proofs.Eights.{rows_by_eight, stay_after}
-use Rattle.search.specs.Search.{failing_in}
+use Rattle.search.specs.Search.{searched}
 use Rattle.order_check.specs.Rows.{neighbour, link_rows, own_block, stayed_in, most_block}
 use Rattle.case_file.specs.declared.Link.{Link}
 
@@ -25,14 +27,6 @@ order_count_at_least first kind = rw (← (rows_by_eight first kind refl refl)) 
     go : (q : Bool) → 2 ≤ cond q 3 2
     go true = omega arith
     go false = omega arith
-
--- a line that was not run meets its 8
-pub unrun_stayed : (bytes xs : List ℕ) (link : Link) (block : ℕ) → was_run (case_of bytes) block ≡ false → true ≡ stayed_in bytes xs link block
-unrun_stayed bytes xs link block unrun = rw unrun (go (has_eight (eqb link.before 0) (kind_of link.kind)))
-  where
-    go : (q : Bool) → true ≡ cond q true true
-    go true = refl
-    go false = refl
 
 module _ (bytes xs : List ℕ) (t : ℕ) (link : Link) (block : ℕ) (eb : block ≡ record_block xs link.line) where
   follow_holds : holds (case_of bytes) (assignment_of (case_of bytes) xs) (follow_row (case_of bytes) (line_of bytes t link.line) (neighbour bytes t link.next))
@@ -56,9 +50,9 @@ module _ (bytes xs : List ℕ) (t : ℕ) (link : Link) (block : ℕ) (eb : block
   stay_holds = rw eb
 
   -- its 8, where it has one
-  stay_rows_lem : link.kind ≡ record_field bytes link.line 1
+  stay_rows_lem : link.kind ≡ kind_of (record_field bytes link.line 1)
       → stay_rows (neighbour bytes t link.before) (line_of bytes t link.line)
-      ≡ cond (has_eight (eqb link.before 0) (kind_of link.kind)) (row 8 link.line link.before 0 0 0 ∷ []) []
+      ≡ cond (has_eight (eqb link.before 0) link.kind) (row 8 link.line link.before 0 0 0 ∷ []) []
   unfolding stay_rows
   stay_rows_lem ek = rw ek (go (eq_view link.before 0))
     where
@@ -68,21 +62,24 @@ module _ (bytes xs : List ℕ) (t : ℕ) (link : Link) (block : ℕ) (eb : block
       go (same e q) = rw q
       go (diff e q) = rw q (sym (stay_after (line_of bytes t link.before) [] (line_of bytes t link.line)))
 
+  abbrev rows : ℕ
+  rows = order_row_count (eqb link.before 0) link.kind
+
   module _ (at : ℕ) where
-    pub thread_fails : own_block bytes t block ≡ false → at ≡ failing_in bytes xs at (link_rows bytes t link)
-    unfolding first_failing line_order_rows
+    pub thread_fails : own_block bytes t block ≡ false → Err (record { constraint = at }) ≡ searched bytes xs at (link_rows bytes t link)
+    unfolding searched line_order_rows
     thread_fails other = rw (thread_holds, other)
 
-    module _ (ek : link.kind ≡ record_field bytes link.line 1) (mine : own_block bytes t block ≡ true) where
+    module _ (ek : link.kind ≡ kind_of (record_field bytes link.line 1)) (mine : own_block bytes t block ≡ true) where
       -- after a 3 that holds
-      after_three : failing_in bytes xs at (link_rows bytes t link)
+      after_three : searched bytes xs at (link_rows bytes t link)
           ≡ cond (stayed_in bytes xs link block)
-          (cond (leb block (most_block bytes xs link.next)) 0 (at + (order_row_count (eqb link.before 0) (kind_of link.kind) - 1)))
-          (at + 1)
-      unfolding first_failing line_order_rows
+          (cond (leb block (most_block bytes xs link.next)) (Ok (at + rows)) (Err (record { constraint = at + rows - 1 })))
+          (Err (record { constraint = at + 1 }))
+      unfolding searched line_order_rows
       after_three =
-          rw (thread_holds, mine, stay_rows_lem ek, ← (rows_by_eight (eqb link.before 0) (kind_of link.kind) refl refl))
-          (go (has_eight (eqb link.before 0) (kind_of link.kind)))
+          rw (thread_holds, mine, stay_rows_lem ek, ← (rows_by_eight (eqb link.before 0) link.kind refl refl))
+          (go (has_eight (eqb link.before 0) link.kind))
         where
           one : suc at ≡ at + 1
           one = omega arith
@@ -90,22 +87,24 @@ module _ (bytes xs : List ℕ) (t : ℕ) (link : Link) (block : ℕ) (eb : block
           two : suc (suc at) ≡ at + 2
           two = omega arith
 
+          three : suc (suc (suc at)) ≡ at + 3
+          three = omega arith
+
           go : (q : Bool)
-              → failing_in bytes xs (suc at) (cond q (row 8 link.line link.before 0 0 0 ∷ []) []
+              → searched bytes xs (suc at) (cond q (row 8 link.line link.before 0 0 0 ∷ []) []
               ++ (follow_row (case_of bytes) (line_of bytes t link.line) (neighbour bytes t link.next) ∷ []))
               ≡ cond (cond q (not (was_run (case_of bytes) block) || eqb block (record_block xs link.before)) true)
-              (cond (leb block (most_block bytes xs link.next)) 0 (at + (cond q 3 2 - 1)))
-              (at + 1)
-          go true = rw (stay_holds, follow_holds, two, one)
-          go false = rw (follow_holds, one)
+              (cond (leb block (most_block bytes xs link.next)) (Ok (at + cond q 3 2)) (Err (record { constraint = at + cond q 3 2 - 1 })))
+              (Err (record { constraint = at + 1 }))
+          go true = let last : at + 3 - 1 ≡ at + 2 = omega arith in rw (stay_holds, follow_holds, three, two, one, last)
+          go false = let last : at + 2 - 1 ≡ at + 1 = omega arith in rw (follow_holds, two, one, last)
 
-      pub stay_fails : stayed_in bytes xs link block ≡ false → at + 1 ≡ failing_in bytes xs at (link_rows bytes t link)
+      pub stay_fails : stayed_in bytes xs link block ≡ false → Err (record { constraint = at + 1 }) ≡ searched bytes xs at (link_rows bytes t link)
       stay_fails left = rw (after_three, left)
 
-      module _ (stayed : stayed_in bytes xs link block ≡ true) (upto : ℕ) (em : upto ≡ most_block bytes xs link.next) where
-        pub order_holds : block ≤ upto → 0 ≡ failing_in bytes xs at (link_rows bytes t link)
-        order_holds h = rw (after_three, stayed, ← em, le-leb block upto h)
+      module _ (stayed : stayed_in bytes xs link block ≡ true) (upto : ℕ) (em : upto ≡ most_block bytes xs link.next) {n : ℕ} (en : n ≡ rows) where
+        pub order_holds : block ≤ upto → Ok (at + n) ≡ searched bytes xs at (link_rows bytes t link)
+        order_holds h = rw (after_three, stayed, ← em, le-leb block upto h, en)
 
-        pub follow_fails : upto < block → {rows : ℕ} → rows ≡ order_row_count (eqb link.before 0) (kind_of link.kind)
-            → at + (rows - 1) ≡ failing_in bytes xs at (link_rows bytes t link)
-        follow_fails h e = rw (after_three, stayed, ← em, lt-leb block upto h, e)
+        pub follow_fails : upto < block → Err (record { constraint = at + n - 1 }) ≡ searched bytes xs at (link_rows bytes t link)
+        follow_fails h = rw (after_three, stayed, ← em, lt-leb block upto h, en)

@@ -6,7 +6,7 @@ use Rattle.model.specs.CaseFile.{kind_of, Line, record_field, thread_count, swit
 use Rattle.model.specs.Assignment.{was_run}
 use Rattle.model.specs.Table.{Row, line_order_rows, order_rows, all_order_rows}
 use Rattle.laws.specs.RowCounts.{has_eight}
-use Rattle.laws.specs.Accepted.{Accepted, thread_lines}
+use Rattle.laws.specs.Accepted.{thread_lines}
 use Rattle.assignment.specs.Numbers.{record_block}
 use Rattle.search.specs.Search.{Room}
 use Rattle.case_file.specs.declared.Link.{Link}
@@ -33,20 +33,18 @@ own_block bytes t block = not (was_run (case_of bytes) block) || eqb (block % th
 -- What its 8 asks of its block number, where it has one.
 abbrev pub stayed_in : List ℕ → List ℕ → Link → ℕ → Bool
 stayed_in bytes xs link block =
-    cond (has_eight (eqb link.before 0) (kind_of link.kind)) (not (was_run (case_of bytes) block) || eqb block (record_block xs link.before)) true
+    cond (has_eight (eqb link.before 0) link.kind) (not (was_run (case_of bytes) block) || eqb block (record_block xs link.before)) true
 
 -- What a line's block number is at most: by its 1 that of the next line, or by its 2 n + 1, the number of a line that was not run.
 abbrev pub most_block : List ℕ → List ℕ → ℕ → ℕ
 most_block bytes xs next = cond (eqb next 0) (suc (switch_count bytes)) (record_block xs next)
 
--- An accepted case, a number that a constraint can have, and the kind of the line.
+-- A number that a constraint can have, and the kind of the line.
 pub record AtConstraint (bytes : List ℕ) (at : ℕ) (link : Link) : Type 0 where
-  pub accepted : Accepted bytes
   pub number : at < most_constraints
-  pub kind : link.kind ≡ record_field bytes link.line 1
+  pub kind : link.kind ≡ kind_of (record_field bytes link.line 1)
 
--- A thread of an accepted case, and numbers for its order constraints.
+-- A thread of the case, and numbers for its order constraints.
 pub record ThreadReady (bytes : List ℕ) (t start : ℕ) : Type 0 where
-  pub accepted : Accepted bytes
   pub thread : t < thread_count bytes
   pub numbers : Room start (thread_orders bytes t)

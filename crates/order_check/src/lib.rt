@@ -3,30 +3,27 @@
 #![tactic(auto)]
 
 ghost use Rattle.std.specs.Prelude.{◌≡◌};
-ghost use Rattle.laws.specs.Accepted.{Accepted};
-ghost use Rattle.search.specs.Search.{failing_in, Searched};
+ghost use Rattle.search.specs.Search.{searched};
 ghost use Rattle.order_check.specs.Rows.{link_rows, thread_orders, all_orders, own_block, stayed_in, most_block, AtConstraint, ThreadReady};
 
 use assignment::{block_of, was_run};
-use case_file::{Link, first_of, kind_of, next_of, switches, threads};
+use case_file::{Case, Link, first_of, link_at, switches, threads};
 use line::{order_rows, stays};
-use search::Found;
+use search::Failed;
 
 // Whether thread t may have a line with this block number: where the line was run, the block is the thread's.
-fn own_block(case: &[u8], t: u16, block: u16) -> bool
-    requires { Accepted case.now }
-    ensures { result ≡ own_block case.now t block }
+fn own_block(case: &Case<'_>, t: u16, block: u16) -> bool
+    ensures { result ≡ own_block case.now.bytes.now t block }
 {
     if was_run(case, block) {
-        return block % threads(case) == t;
+        return block % threads(case.bytes) == t;
     }
     true
 }
 
 // Whether a line with this block number meets its 8, or has none: where it was run, the line before it has the same number.
-fn stayed(case: &[u8], assignment: &[u16], link: Link, block: u16) -> bool
-    requires { Accepted case.now }
-    ensures { result ≡ stayed_in case.now assignment.now link block }
+fn stayed(case: &Case<'_>, assignment: &[u16], link: Link, block: u16) -> bool
+    ensures { result ≡ stayed_in case.now.bytes.now assignment.now link block }
 {
     if !was_run(case, block) {
         return true;
@@ -38,80 +35,66 @@ fn stayed(case: &[u8], assignment: &[u16], link: Link, block: u16) -> bool
 }
 
 // What a line's block number is at most: that of the next line, or n + 1.
-fn most_block(case: &[u8], assignment: &[u16], next: u16) -> u16
-    requires { Accepted case.now }
-    ensures { result ≡ most_block case.now assignment.now next }
+fn most_block(case: &Case<'_>, assignment: &[u16], next: u16) -> u16
+    ensures { result ≡ most_block case.now.bytes.now assignment.now next }
 {
     if next == 0 {
-        return switches(case) + 1;
+        return switches(case.bytes) + 1;
     }
     block_of(assignment, next)
 }
 
-// The first of a line's order constraints that fails, its 3 having number `at`; 0 if all hold.
-fn line_order(case: &[u8], assignment: &[u16], t: u16, at: u16, link: Link) -> u16
-    requires { AtConstraint case.now at link }
-    ensures { result ≡ failing_in case.now assignment.now at (link_rows case.now t link) }
+// The order constraints of a line, its 3 having number `at`: the number of the next constraint, or the first that fails.
+fn line_order(
+    case: &Case<'_>,
+    assignment: &[u16],
+    t: u16,
+    at: u16,
+    link: Link,
+) -> Result<u16, Failed>
+    requires { AtConstraint case.now.bytes.now at link }
+    ensures { result ≡ searched case.now.bytes.now assignment.now at (link_rows case.now.bytes.now t link) }
 {
-    let second = at + 1;
     let block = block_of(assignment, link.line);
     if !own_block(case, t, block) {
-        return at;
+        return Err(Failed { constraint: at });
     }
     if !stayed(case, assignment, link, block) {
-        return second;
+        return Err(Failed { constraint: at + 1 });
     }
+    let next = at + order_rows(link.before == 0, link.kind) as u16;
     if block <= most_block(case, assignment, link.next) {
-        return 0;
+        return Ok(next);
     }
-    at + (order_rows(link.before == 0, link.kind) - 1) as u16
+    Err(Failed {
+        constraint: next - 1,
+    })
 }
 
 // The order constraints of thread t, from number `start` on.
-fn thread_order(case: &[u8], assignment: &[u16], t: u16, start: u16) -> Found
-    requires { ThreadReady case.now t start }
-    ensures { Searched case.now assignment.now start (thread_orders case.now t) result.failed result.next }
+fn thread_order(case: &Case<'_>, assignment: &[u16], t: u16, start: u16) -> Result<u16, Failed>
+    requires { ThreadReady case.now.bytes.now t start }
+    ensures { result ≡ searched case.now.bytes.now assignment.now start (thread_orders case.now.bytes.now t) }
 {
     let mut at = start;
     let mut before: u16 = 0;
-    let mut k = first_of(case, t as usize) as u16;
+    let mut k = first_of(case.bytes, t as usize) as u16;
     while k != 0 {
-        let next = next_of(case, k as usize) as u16;
-        let kind = kind_of(case, k as usize);
-        let link = Link {
-            before,
-            line: k,
-            kind,
-            next,
-        };
-        let failed = line_order(case, assignment, t, at, link);
-        if failed != 0 {
-            return Found { failed, next: at };
-        }
-        at += order_rows(before == 0, kind) as u16;
+        let link = link_at(case.bytes, before, k);
+        at = line_order(case, assignment, t, at, link)?;
         before = k;
-        k = next;
+        k = link.next;
     }
-    Found {
-        failed: 0,
-        next: at,
-    }
+    Ok(at)
 }
 
 // The order constraints of all threads, from number 1 on.
-pub fn order_failing(case: &[u8], assignment: &[u16]) -> Found
-    requires { Accepted case.now }
-    ensures { Searched case.now assignment.now 1 (all_orders case.now) result.failed result.next }
+pub fn order_failing(case: &Case<'_>, assignment: &[u16]) -> Result<u16, Failed>
+    ensures { result ≡ searched case.now.bytes.now assignment.now 1 (all_orders case.now.bytes.now) }
 {
-    let count = threads(case);
-    let mut found = Found { failed: 0, next: 1 };
-    let mut t: u16 = 0;
-    while t < count {
-        found = thread_order(case, assignment, t, found.next);
-        if found.failed != 0 {
-            return found;
-        }
-        t += 1;
+    let mut next: u16 = 1;
+    for t in 0..threads(case.bytes) {
+        next = thread_order(case, assignment, t, next)?;
     }
-    found
+    Ok(next)
 }

@@ -5,8 +5,8 @@ use Rattle.model.specs.CaseFile.{Case}
 use Rattle.smt.specs.Term.{Term, constant}
 use Rattle.smt.specs.Spelling.{ascii, formula_text}
 use Rattle.script.specs.Assertions.{equal, block_of, same, value_before}
-use Rattle.spell.specs.Spelt.{Spelt}
-use Rattle.reads_text.specs.declared.Heads.{Heads}
+use Rattle.spell.specs.Spelt.{Puts}
+use Rattle.spell.specs.declared.Writer.{Writer}
 
 unfoldable pub block_head : Case → List ℕ → Term → ℕ → ℕ → ℕ → List ℕ
 block_head case sources x k g i =
@@ -17,6 +17,6 @@ block_heads case sources x k g [] = []
 block_heads case sources x k g (i ∷ blocks) = block_head case sources x k g i ++ block_heads case sources x k g blocks
 
 -- The heads of these blocks are written, and counted.
-pub record Headed (case : Case) (sources : List ℕ) (x : Term) (k g : ℕ) (blocks before : List ℕ) (start : ℕ) (after : List ℕ) (r : Heads) : Type 0 where
-  pub spelt : Spelt (block_heads case sources x k g blocks) before start after r.at
-  pub counted : r.many ≡ length blocks
+pub record Headed (case : Case) (sources : List ℕ) (x : Term) (k g : ℕ) (blocks : List ℕ) (before after : Writer) (many : ℕ) : Type 0 where
+  pub spelt : Puts (block_heads case sources x k g blocks) before after
+  pub counted : many ≡ length blocks

@@ -3,13 +3,12 @@
 
 ghost use Rattle.std.specs.Prelude.{◌≡◌, length, take};
 ghost use Rattle.model.specs.Lists.{written_over};
-ghost use Rattle.model.specs.Accept.{verdict};
 ghost use Rattle.model.specs.Answers.{replayed, replayed_into};
-ghost use Rattle.model.specs.declared.Verdict.TheVariants as verdicts;
 ghost use Rattle.replayer.specs.Promises.{Ran, Answered};
 ghost use Rattle.replayer.specs.Ready.{ItemsFit, BlocksReady};
 
-use model::{ITEMS, RECORD_PLACES, Replayed, Verdict};
+use case_file::Case;
+use model::{ITEMS, RECORD_PLACES, Refusal, Replayed};
 use numbers::write_over;
 use schedule_check::refusal_of;
 
@@ -22,61 +21,47 @@ fn write_items(values: [u16; ITEMS], count: usize, items: &mut [u16])
 }
 
 // The run of an accepted case in blocks with these lengths, its trace not kept; the items' values at its end go to the start of the slice.
-fn replay_blocks(case: &[u8], lengths: &[u16], given: &[u16], items: &mut [u16]) -> Replayed
-    requires { BlocksReady case.now given.now items.old }
-    ensures { Ran case.now lengths.now given.now items.old result items.new }
+fn replay_blocks(
+    case: &Case<'_>,
+    lengths: &[u16],
+    given: &[u16],
+    items: &mut [u16],
+) -> Result<Replayed, Refusal>
+    requires { BlocksReady case.now.bytes.now given.now items.old }
+    ensures { Ran case.now.bytes.now lengths.now given.now items.old result items.new }
 {
-    let count = case_file::items(case);
+    let count = case.items();
     let mut untraced = [0u16; 0];
-    let e = run::run_case(case, lengths, given, &mut untraced);
-    let reply = e.reply;
-    let values = e.items;
-    match reply {
-        Replayed::Refused {
-            number: _,
-            place: _,
-        } => {
-            return reply;
-        }
-        Replayed::CutOff(_) => {}
-        Replayed::Violated(_) => {}
-        Replayed::Clean => {}
-    }
-    write_items(values, count, items);
-    reply
+    let ended = run::run_case(case, lengths, given, &mut untraced);
+    let reply = ended.reply?;
+    write_items(ended.items, count, items);
+    Ok(reply)
 }
 
-fn replay_accepted(case: &[u8], schedule: &[u16], items: &mut [u16]) -> Replayed
-    requires { verdict case.now ≡ verdicts.Accepted }
-    ensures { Answered case.now schedule.now items.old items.new result }
+fn replay_accepted(
+    case: &Case<'_>,
+    schedule: &[u16],
+    items: &mut [u16],
+) -> Result<Replayed, Refusal>
+    ensures { Answered case.now.bytes.now schedule.now items.old items.new result }
 {
-    let blocks = case_file::switches(case) as usize + 1;
-    let written = case_file::items(case);
+    let blocks = case_file::switches(case.bytes) as usize + 1;
+    let written = case.items();
     if items.len() < written {
-        return Replayed::Refused {
-            number: 10,
-            place: 0,
-        };
+        return Err(Refusal::Short);
     }
     let mut given = [0u16; RECORD_PLACES];
-    let refusal = refusal_of(case, schedule, &mut given);
-    if refusal != 0 {
-        return Replayed::Refused {
-            number: refusal,
-            place: 0,
-        };
-    }
+    refusal_of(case, schedule, &mut given)?;
     let lengths = &schedule[..blocks];
     replay_blocks(case, lengths, &given, items)
 }
 
 // The reply to a schedule of a case; the items' values at the end of the run, or at the cut-off, go to the start of the slice.
-pub fn replay(case: &[u8], schedule: &[u16], items: &mut [u16]) -> Replayed
+#[tactic(auto, using(laws::proofs::Accepted::accepted_of), unfolding(model::specs::Answers::on_case, model::specs::Answers::replayed, model::specs::Answers::replayed_into))]
+pub fn replay(case: &[u8], schedule: &[u16], items: &mut [u16]) -> Result<Replayed, Refusal>
     ensures value { result ≡ replayed case.now schedule.now (length items.old) }
     ensures after { items.new ≡ replayed_into case.now schedule.now items.old }
 {
-    match accept::accept(case) {
-        Verdict::Refused { number, place } => Replayed::Refused { number, place },
-        Verdict::Accepted => replay_accepted(case, schedule, items),
-    }
+    accept::accept(case)?;
+    replay_accepted(&Case { bytes: case }, schedule, items)
 }

@@ -1,7 +1,7 @@
 -- What the numbers of one row are, and which rows a line has.
 -- Assumes nothing.
 use mathlib.Core.Path.{◌≡◌, refl, sym, ap, ◌∙◌}
-use mathlib.Core.Logic.{◌≢◌, ◌⊎◌, inl, inr}
+use mathlib.Core.Logic.{◌≢◌}
 use Prim.Native.Nat.{ℕ, ◌+◌, ◌*◌, ◌≤◌}
 use mathlib.Core.Bool.{Bool, true, false, cond}
 use mathlib.Core.List.{List, [], ◌∷◌}
@@ -10,11 +10,12 @@ use native.Mathlib.Numerals.{add-one, add-two, add-three, add-four, add_five}
 use borrow.Author.Tests.{ne_eqb}
 use lib.Dec.{eqb}
 use lib.ListN.{length, set}
-use Rattle.model.specs.CaseFile.{Kind, kind_of, Line, line_of, Case, case_of}
+use Rattle.model.specs.CaseFile.{Line, line_of, Case, case_of}
+use Rattle.model.specs.declared.Kind.{Kind}
+use Rattle.model.specs.declared.Kind.TheVariants.{Assume, Lock}
 use Rattle.model.specs.Table.{Row, row, follow_row, stay_rows, line_order_rows, value_row, demand_rows, numbers_of}
 use Rattle.laws.specs.RowCounts.{has_eight, order_row_count, value_row_count}
 use Rattle.laws.specs.Written.{numbers_at, Put}
-use Rattle.laws.proofs.Views.{EqView, same, diff, eq_view}
 use Rattle.laws.proofs.Writing.{numbers_none, put_then}
 use Rattle.laws.proofs.RowNumbers.{numbers_of_append, rows_then}
 use Rattle.laws.proofs.Sizes.{six_a_row, line_value_length}
@@ -67,49 +68,32 @@ module _ (link : Link) (case : Case) (earlier : List Line) (l : Line) where
       (put_then (put_one ea (ev ∙ rw (s.line, e_t))) (put_then put (put_one ee ew)))
 
 -- an 8, by whether the line has one, and how many numbers it is
-pub eight_by : (link : Link) {r q : Bool} → r ≡ has_eight (eqb link.before 0) (kind_of link.kind) → r ≡ q
+pub eight_by : (link : Link) {r q : Bool} → r ≡ has_eight (eqb link.before 0) link.kind → r ≡ q
     → eight_of link ≡ cond q (row 8 link.line link.before 0 0 0 ∷ []) []
 eight_by link is h = ap (λ (x : Bool). cond x (row 8 link.line link.before 0 0 0 ∷ []) []) (sym is ∙ h)
 
-pub eight_size : (link : Link) → 12 + length (numbers_of (eight_of link)) ≡ 6 * order_row_count (eqb link.before 0) (kind_of link.kind)
+pub eight_size : (link : Link) → 12 + length (numbers_of (eight_of link)) ≡ 6 * order_row_count (eqb link.before 0) link.kind
 unfolding numbers_of
-eight_size link = go (has_eight (eqb link.before 0) (kind_of link.kind)) ∙ ap (λ (x : ℕ). 6 * x) (rows_by_eight _ _ refl refl)
+eight_size link = go (has_eight (eqb link.before 0) link.kind) ∙ ap (λ (x : ℕ). 6 * x) (rows_by_eight _ _ refl refl)
   where
     go : (q : Bool) → 12 + length (numbers_of (cond q (row 8 link.line link.before 0 0 0 ∷ []) [])) ≡ 6 * cond q 3 2
     go true = refl
     go false = refl
 
 -- the 5s
-no_demand : (x : ℕ) (case : Case) (earlier : List Line) (l : Line) → x ≢ 6 → x ≢ 7 → demand_rows (kind_of x) case earlier l ≡ []
-unfolding demand_rows kind_of
-no_demand x case earlier l a b = go (eq_view x 1) (eq_view x 2) (eq_view x 3) (eq_view x 4) (eq_view x 5)
-  where
-    go : EqView x 1 → EqView x 2 → EqView x 3 → EqView x 4 → EqView x 5 → demand_rows (kind_of x) case earlier l ≡ []
-    go (same _ p1) _ _ _ _ = rw p1
-    go (diff _ p1) (same _ p2) _ _ _ = rw (p1, p2)
-    go (diff _ p1) (diff _ p2) (same _ p3) _ _ = rw (p1, p2, p3)
-    go (diff _ p1) (diff _ p2) (diff _ p3) (same _ p4) _ = rw (p1, p2, p3, p4)
-    go (diff _ p1) (diff _ p2) (diff _ p3) (diff _ p4) (same _ p5) = rw (p1, p2, p3, p4, p5)
-    go (diff _ p1) (diff _ p2) (diff _ p3) (diff _ p4) (diff _ p5) = rw (p1, p2, p3, p4, p5, ne_eqb x 6 a, ne_eqb x 7 b)
-
-module _ (x : ℕ) (case : Case) (earlier : List Line) (l : Line) (d a : List ℕ) (at : ℕ) where
-  pub none_put : x ≢ 6 → x ≢ 7 → d ≡ numbers_at d at (numbers_of (demand_rows (kind_of x) case earlier l))
+module _ (case : Case) (earlier : List Line) (l : Line) (d a : List ℕ) (at : ℕ) where
+  pub none_put : d ≡ numbers_at d at (numbers_of [])
   unfolding numbers_of
-  none_put h6 h7 = rw (no_demand x case earlier l h6 h7) (sym (numbers_none d at))
+  none_put = sym (numbers_none d at)
 
   module _ (w v : Row) (e : w ≡ value_row case earlier l) (ea : a ≡ numbers_at d at (numbers_of (v ∷ []))) where
-    pub assume_put : x ≡ 6 → v ≡ row 5 w.one 0 0 0 0 → a ≡ numbers_at d at (numbers_of (demand_rows (kind_of x) case earlier l))
-    unfolding demand_rows kind_of
-    assume_put h ev = rw h (one_row d a at ea (ev ∙ rw e))
+    pub assume_put : v ≡ row 5 w.one 0 0 0 0 → a ≡ numbers_at d at (numbers_of (demand_rows Assume case earlier l))
+    unfolding demand_rows
+    assume_put ev = one_row d a at ea (ev ∙ rw e)
 
-    pub lock_put : x ≡ 7 → v ≡ row 5 w.one w.two w.five 0 0 → a ≡ numbers_at d at (numbers_of (demand_rows (kind_of x) case earlier l))
-    unfolding demand_rows kind_of
-    lock_put h ev = rw h (one_row d a at ea (ev ∙ rw e))
-
-pub two_rows : (x : ℕ) → (x ≡ 6) ⊎ (x ≡ 7) → value_row_count (kind_of x) ≡ 2
-unfolding value_row_count kind_of
-two_rows x (inl e) = rw e
-two_rows x (inr e) = rw e
+    pub lock_put : v ≡ row 5 w.one w.two w.five 0 0 → a ≡ numbers_at d at (numbers_of (demand_rows Lock case earlier l))
+    unfolding demand_rows
+    lock_put ev = one_row d a at ea (ev ∙ rw e)
 
 pub some_row : (kind : Kind) → 1 ≤ value_row_count kind
 some_row kind = omega (arith, line_value_length kind (case_of []) [] (line_of [] 0 0))

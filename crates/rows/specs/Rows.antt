@@ -2,13 +2,14 @@
 -- so their contracts are for every case, and every place in a thread, that fits what they are handed.
 -- Assumes nothing.
 use Rattle.std.specs.Prelude.{◌≡◌, ◌≢◌, ℕ, cond, List, [], ◌∷◌, eqb}
-use Rattle.model.specs.CaseFile.{Kind, kind_of, Line, Case}
+use Rattle.model.specs.CaseFile.{Line, Case, kind_of}
+use Rattle.model.specs.declared.Kind.{Kind}
 use Rattle.model.specs.Table.{Row, row, follow_row, line_order_rows, value_row, demand_rows, numbers_of}
 use Rattle.laws.specs.RowCounts.{has_eight}
 use Rattle.laws.specs.Written.{numbers_at, Put}
 use Rattle.rows.specs.declared.Constraint.{Constraint}
 use Rattle.case_file.specs.declared.Link.{Link}
-use Rattle.line.specs.declared.Copies.{Copies}
+use Rattle.model.specs.declared.Copies.{Copies}
 
 -- A constraint as the code holds it.
 abbrev pub as_row : Constraint → Row
@@ -27,12 +28,12 @@ Nearest k (l ∷ ls) = IsLine k l
 pub record Stands (link : Link) (earlier : List Line) (l : Line) (ls : List Line) : Type 0 where
   pub before : Nearest link.before earlier
   pub line : link.line ≡ l.number
-  pub kind : kind_of link.kind ≡ l.kind
+  pub kind : link.kind ≡ l.kind
   pub next : Nearest link.next ls
 
 -- Its 8, where it has one.
 abbrev pub eight_of : Link → List Row
-eight_of link = cond (has_eight (eqb link.before 0) (kind_of link.kind)) (row 8 link.line link.before 0 0 0 ∷ []) []
+eight_of link = cond (has_eight (eqb link.before 0) link.kind) (row 8 link.line link.before 0 0 0 ∷ []) []
 
 -- Its last order row, where n is the last block.
 abbrev pub Follows : Link → ℕ → Row → Type 0

@@ -3,16 +3,16 @@
 #![tactic(auto)]
 
 ghost use Rattle.std.specs.Prelude.{◌≡◌, ◌+◌, ◌*◌, ◌≤◌, [], ◌∷◌, eqb, length};
-ghost use Rattle.model.specs.CaseFile.{kind_of};
 ghost use Rattle.model.specs.Table.{row, goal_row, numbers_of};
 ghost use Rattle.laws.specs.RowCounts.{order_row_count, value_row_count};
 ghost use Rattle.laws.specs.Written.{numbers_at, Put};
 ghost use Rattle.rows.specs.Rows.{as_row, Follows, eight_of, PutsOrder, four_of, PutsDemand, PutsValues};
 
 use case_file::Link;
-use line::{Copies, stays};
+use line::stays;
+use model::{Copies, Kind};
 
-// A row of the table, and how many numbers it has.
+// A row of the table, and how many numbers it has. Its kind is a number: the numbers of model's `Table.row`, which C gets (`menduvo_encode`).
 #[derive(Clone, Copy)]
 pub struct Constraint {
     pub kind: u16,
@@ -25,7 +25,21 @@ pub struct Constraint {
 
 pub const ROW: usize = 6;
 
-// A row's six numbers, from a place on.
+// The row with these numbers.
+fn row(kind: u16, one: u16, two: u16, three: u16, four: u16, five: u16) -> Constraint
+    ensures { as_row result ≡ row kind one two three four five }
+{
+    Constraint {
+        kind,
+        one,
+        two,
+        three,
+        four,
+        five,
+    }
+}
+
+// A row's six numbers, from a place on. They are stored one by one: copying them at once, from an array, makes the encoder half as fast.
 pub fn put_row(table: &mut [u16], at: usize, w: Constraint)
     requires { at + 6 ≤ length table.old }
     ensures { table.new ≡ numbers_at table.old at (numbers_of (as_row w ∷ [])) }
@@ -42,28 +56,14 @@ pub fn put_row(table: &mut [u16], at: usize, w: Constraint)
 fn thread_row(k: u16, threads: u16, t: u16) -> Constraint
     ensures { as_row result ≡ row 3 k threads t 0 0 }
 {
-    Constraint {
-        kind: 3,
-        one: k,
-        two: threads,
-        three: t,
-        four: 0,
-        five: 0,
-    }
+    row(3, k, threads, t, 0, 0)
 }
 
 // The 8 of a line, with the line before it.
 fn stay_row(link: Link) -> Constraint
     ensures { as_row result ≡ row 8 link.line link.before 0 0 0 }
 {
-    Constraint {
-        kind: 8,
-        one: link.line,
-        two: link.before,
-        three: 0,
-        four: 0,
-        five: 0,
-    }
+    row(8, link.line, link.before, 0, 0, 0)
 }
 
 // The last order row of a line: a 1 with the next line, or a 2 with the last block.
@@ -71,22 +71,9 @@ fn follow_row(link: Link, last: u16) -> Constraint
     ensures { Follows link last (as_row result) }
 {
     if link.next == 0 {
-        return Constraint {
-            kind: 2,
-            one: link.line,
-            two: last,
-            three: 0,
-            four: 0,
-            five: 0,
-        };
-    }
-    Constraint {
-        kind: 1,
-        one: link.line,
-        two: link.next,
-        three: 0,
-        four: 0,
-        five: 0,
+        row(2, link.line, last, 0, 0, 0)
+    } else {
+        row(1, link.line, link.next, 0, 0, 0)
     }
 }
 
@@ -105,7 +92,7 @@ fn put_stay(table: &mut [u16], at: usize, link: Link) -> usize
 
 // The order rows of a line of thread t; the place after them.
 pub fn put_order(table: &mut [u16], at: usize, link: Link, threads: u16, last: u16, t: u16) -> usize
-    requires { at + 6 * order_row_count (eqb link.before 0) (kind_of link.kind) ≤ length table.old }
+    requires { at + 6 * order_row_count (eqb link.before 0) link.kind ≤ length table.old }
     ensures { PutsOrder link threads last t table.old at table.new result }
 {
     let three = thread_row(link.line, threads, t);
@@ -120,41 +107,28 @@ pub fn put_order(table: &mut [u16], at: usize, link: Link, threads: u16, last: u
 fn value_row(k: u16, copies: Copies) -> Constraint
     ensures { as_row result ≡ four_of k copies }
 {
-    Constraint {
-        kind: 4,
-        one: k,
-        two: copies.guard,
-        three: copies.a,
-        four: copies.b,
-        five: copies.target,
-    }
+    row(4, k, copies.guard, copies.a, copies.b, copies.target)
 }
 
 // A 5.
 fn demand_row(k: u16, guard: u16, target: u16) -> Constraint
     ensures { as_row result ≡ row 5 k guard target 0 0 }
 {
-    Constraint {
-        kind: 5,
-        one: k,
-        two: guard,
-        three: target,
-        four: 0,
-        five: 0,
-    }
+    row(5, k, guard, target, 0, 0)
 }
 
 // The 5 of a line, where its kind has one: a lock's has the guard copy and the target copy of the line's 4.
-fn put_demand(table: &mut [u16], at: usize, kind: u16, w: Constraint)
-    requires { at + 6 * value_row_count (kind_of kind) ≤ length table.old + 6 }
-    ensures { PutsDemand (kind_of kind) (as_row w) table.old at table.new }
+#[tactic(auto, using(crate::proofs::Made::none_put, crate::proofs::Made::assume_put, crate::proofs::Made::lock_put), unfolding(model::specs::Table::demand_rows, laws::specs::RowCounts::value_row_count))]
+fn put_demand(table: &mut [u16], at: usize, kind: Kind, w: Constraint)
+    requires { at + 6 * value_row_count kind ≤ length table.old + 6 }
+    ensures { PutsDemand kind (as_row w) table.old at table.new }
 {
     match kind {
-        6 => {
+        Kind::Assume => {
             let demand = demand_row(w.one, 0, 0);
             put_row(table, at, demand);
         }
-        7 => {
+        Kind::Lock => {
             let demand = demand_row(w.one, w.two, w.five);
             put_row(table, at, demand);
         }
@@ -163,9 +137,9 @@ fn put_demand(table: &mut [u16], at: usize, kind: u16, w: Constraint)
 }
 
 // The 4 of line k, which has this kind and these copies, and its 5 where it has one.
-pub fn put_values(table: &mut [u16], at: usize, k: u16, kind: u16, copies: Copies)
-    requires { at + 6 * value_row_count (kind_of kind) ≤ length table.old }
-    ensures { PutsValues (kind_of kind) (four_of k copies) table.old at table.new }
+pub fn put_values(table: &mut [u16], at: usize, k: u16, kind: Kind, copies: Copies)
+    requires { at + 6 * value_row_count kind ≤ length table.old }
+    ensures { PutsValues kind (four_of k copies) table.old at table.new }
 {
     let w = value_row(k, copies);
     put_row(table, at, w);
@@ -176,26 +150,12 @@ pub fn put_values(table: &mut [u16], at: usize, k: u16, kind: u16, copies: Copie
 pub fn item_row(item: u16, block: u16, copy: u16) -> Constraint
     ensures { as_row result ≡ row 6 item block copy 0 0 }
 {
-    Constraint {
-        kind: 6,
-        one: item,
-        two: block,
-        three: copy,
-        four: 0,
-        five: 0,
-    }
+    row(6, item, block, copy, 0, 0)
 }
 
 // The 7.
 pub fn goal_row() -> Constraint
     ensures { as_row result ≡ goal_row }
 {
-    Constraint {
-        kind: 7,
-        one: 0,
-        two: 0,
-        three: 0,
-        four: 0,
-        five: 0,
-    }
+    row(7, 0, 0, 0, 0, 0)
 }

@@ -1,1 +1,1 @@
-pub mod FieldRules
+pub mod LowestFailing

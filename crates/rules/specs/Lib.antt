@@ -1,1 +1,1 @@
-pub mod KindRule
+pub mod RuleReady

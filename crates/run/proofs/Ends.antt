@@ -1,5 +1,6 @@
 -- What a run has come to, and the reply that says it.
 -- Assumes nothing.
+use Rattle.std.specs.Prelude.{Ok, Err}
 use mathlib.Core.Path.{◌≡◌, refl, ap, ◌∙◌, subst}
 use Prim.Native.Nat.{ℕ, ◌≤◌}
 use mathlib.Core.Bool.{Bool, true, false, cond}
@@ -11,7 +12,8 @@ use Rattle.model.specs.Limits.{most_blocks}
 use Rattle.model.specs.CaseFile.{Line, case_of}
 use Rattle.model.specs.Machine.{State, Outcome, refused14, cut_off, violated, clean, first_stray_left, ending, run_blocks}
 use Rattle.model.specs.Fill.{put_blocks, put_all_unrun}
-use Rattle.model.specs.declared.Replayed.TheVariants.{Violated, Clean, CutOff, Refused}
+use Rattle.model.specs.declared.Refusal.TheVariants.{Stray}
+use Rattle.model.specs.declared.Replayed.TheVariants.{Violated, Clean, CutOff}
 use Rattle.laws.proofs.Views.{EqView, same, diff, eq_view}
 use Rattle.turn.specs.declared.Stand.{Stand}
 use Rattle.turn.specs.declared.Stand.TheVariants.{Running, Strayed, Stopped}
@@ -36,20 +38,20 @@ module _ (bytes : List ℕ) (threads : List Thread) (shared : Shared) where
   resumes : (stand : Stand) → shared.stand ≡ stand → outcome_of bytes threads shared ≡ resumed stand (items_of bytes shared.items) finished
   resumes stand is = ap (λ (x : Stand). resumed x (items_of bytes shared.items) finished) is
 
-  pub ends_stray : (k : ℕ) → shared.stand ≡ Strayed k → Ends (record { reply = Refused 14 k; items = shared.items })
+  pub ends_stray : (k : ℕ) → shared.stand ≡ Strayed k → Ends (record { reply = Err (Stray k); items = shared.items })
   ends_stray k is = let o : outcome_of bytes threads shared ≡ refused14 k = resumes (Strayed k) is in rw o (record { reply = refl; left = tt })
 
-  pub ends_cut : (k : ℕ) → shared.stand ≡ Stopped k → Ends (record { reply = CutOff k; items = shared.items })
+  pub ends_cut : (k : ℕ) → shared.stand ≡ Stopped k → Ends (record { reply = Ok (CutOff k); items = shared.items })
   ends_cut k is =
       let o : outcome_of bytes threads shared ≡ cut_off k (items_of bytes shared.items) = resumes (Stopped k) is in
       rw o (record { reply = refl; left = refl })
 
-  pub ends_clean : shared.stand ≡ Running → shared.note ≡ 0 → Ends (record { reply = Clean; items = shared.items })
+  pub ends_clean : shared.stand ≡ Running → shared.note ≡ 0 → Ends (record { reply = Ok Clean; items = shared.items })
   ends_clean is zero =
       let o : outcome_of bytes threads shared ≡ clean state = resumes Running is ∙ rw (eq-eqb shared.note 0 zero) in
       rw o (record { reply = refl; left = refl })
 
-  pub ends_violated : shared.stand ≡ Running → (shared.note ≡ 0 → ⊥) → Ends (record { reply = Violated shared.note; items = shared.items })
+  pub ends_violated : shared.stand ≡ Running → (shared.note ≡ 0 → ⊥) → Ends (record { reply = Ok (Violated shared.note); items = shared.items })
   ends_violated is some =
       let o : outcome_of bytes threads shared ≡ violated shared.note state = resumes Running is ∙ rw (ne_eqb shared.note 0 some) in
       rw o (record { reply = refl; left = refl })

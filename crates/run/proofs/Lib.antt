@@ -1,3 +1,4 @@
+pub mod Found
 pub mod ItemsPut
 pub mod Runs
 pub mod Starts

@@ -1,98 +1,99 @@
 -- The look through the lines that are left: what is left to look at decides.
 -- Assumes nothing.
-use mathlib.Core.Path.{◌≡◌, refl, sym, ap, ap₂, ◌∙◌}
+use Rattle.std.specs.Prelude.{Option, None, Some}
+use Rattle.std.proofs.lemmas.Option.{none-some}
+use mathlib.Core.Path.{◌≡◌, refl, sym, ap, ◌∙◌}
 use mathlib.Core.Logic.{◌≢◌}
-use Prim.Native.Nat.{ℕ, suc, ◌-◌, ◌≤◌, ◌<◌}
+use Prim.Native.Nat.{ℕ, suc, ◌+◌, ◌-◌, ◌≤◌, ◌<◌}
 use mathlib.Core.Bool.{Bool, true, false, cond}
 use mathlib.Core.List.{List}
 use native.Mathlib.Omega.{arith}
 use lib.ListN.{get_or}
-use borrow.Author.Tests.{eq-eqb, ne_eqb}
-use Rattle.model.specs.Word.{nonzero}
+use Rattle.model.specs.Lists.{unless_0}
 use Rattle.model.specs.CaseFile.{Line, records, thread_count, next_record, record_field, kind_of}
+use Rattle.model.specs.declared.Kind.{Kind}
 use Rattle.model.specs.Line.{unrun_stray}
 use Rattle.model.specs.Machine.{stray_left, first_stray_left}
-use Rattle.laws.specs.Accepted.{lines_from}
+use Rattle.laws.specs.Accepted.{Accepted, lines_from}
 use Rattle.laws.proofs.Following.{lines_end, lines_more, next_low}
-use Rattle.line.proofs.KindNumbers.{kind_4, input_other}
 use Rattle.turn.specs.declared.Stand.{Stand}
 use Rattle.turn.specs.declared.Stand.TheVariants.{Running, Strayed, Stopped}
 use Rattle.turn.specs.TurnState.{given_by}
 use Rattle.run.specs.declared.Thread.{Thread}
 use Rattle.run.specs.declared.Shared.{Shared}
+use Rattle.run.specs.Found.{Finds}
+use Rattle.run.proofs.Found.{finds_none, finds_some, none_by, some_by}
 use Rattle.run.specs.RunState.{thread_at, list_from, rest_at, rests_of}
-use Rattle.run.specs.Promises.{RestReady, RunReady, stand_after, looked_at}
-
-module _ (kind given : ℕ) where
-  pub stray_input_lem : kind ≡ 4 → nonzero given ≡ unrun_stray (kind_of kind) given
-  unfolding unrun_stray
-  stray_input_lem e = rw (kind_4 kind e)
-
-  pub stray_other : Unit {0} × kind ≢ 4 → false ≡ unrun_stray (kind_of kind) given
-  unfolding unrun_stray
-  stray_other other = rw (input_other kind other)
+use Rattle.run.specs.Promises.{stand_after, looked_at}
 
 -- Within a chain, at record `at`: nothing has strayed since record k.
-pub record Looking (bytes givens : List ℕ) (k others at : ℕ) : Type 0 where
+pub record Looking (bytes givens : List ℕ) (k at : ℕ) : Type 0 where
   pub low : at ≤ records bytes
-  pub does : (t : ℕ) → stray_left (given_by givens) (lines_from bytes t at) others ≡ stray_left (given_by givens) (lines_from bytes t k) others
+  pub does : (t others : ℕ) → stray_left (given_by givens) (lines_from bytes t at) others ≡ stray_left (given_by givens) (lines_from bytes t k) others
 
-module _ {bytes givens : List ℕ} {k : ℕ} (ready : RestReady bytes givens k) (others : ℕ) where
-  pub looking_start : Looking bytes givens k others k
-  looking_start = record { low = ready.within; does = λ t. refl }
+module _ {bytes givens : List ℕ} {k : ℕ} (ok : Accepted bytes) where
+  pub looking_start : k ≤ records bytes → Looking bytes givens k k
+  looking_start within = record { low = within; does = λ t others. refl }
 
-  module _ {at : ℕ} (v : Looking bytes givens k others at) where
-    pub looking_end : at ≡ 0 → (t : ℕ) → others ≡ stray_left (given_by givens) (lines_from bytes t k) others
+  module _ {at : ℕ} (v : Looking bytes givens k at) where
+    pub looking_end : at ≡ 0 → (t : ℕ) → Finds (stray_left (given_by givens) (lines_from bytes t k)) None
     unfolding stray_left
-    looking_end e t = sym (ap (λ (ls : List Line). stray_left (given_by givens) ls others) (lines_end bytes t at e)) ∙ v.does t
+    looking_end e t = record {
+      answers = λ others. sym (v.does t others) ∙ ap (λ (ls : List Line). stray_left (given_by givens) ls others) (lines_end bytes t at e);
+      is_record = none-some 0;
+    }
 
-    module _ (some : at ≢ 0) {kind : ℕ} (is_kind : kind ≡ record_field bytes at 1) {stray : Bool} (is_stray : stray ≡ unrun_stray (kind_of kind) (get_or givens at 0)) where
-      splits : (t : ℕ) → cond stray at (stray_left (given_by givens) (lines_from bytes t (next_record bytes at)) others)
+    module _ (some : at ≢ 0) {kind : Kind} (is_kind : kind ≡ kind_of (record_field bytes at 1)) {stray : Bool} (is_stray : stray ≡ unrun_stray kind (get_or givens at 0)) where
+      splits : (t others : ℕ) → cond stray at (stray_left (given_by givens) (lines_from bytes t (next_record bytes at)) others)
           ≡ stray_left (given_by givens) (lines_from bytes t k) others
       unfolding stray_left
-      splits t =
+      splits t others =
           ap (λ (x : Bool). cond x at (stray_left (given_by givens) (lines_from bytes t (next_record bytes at)) others))
-          (is_stray ∙ ap (λ (x : ℕ). unrun_stray (kind_of x) (get_or givens at 0)) is_kind)
-          ∙ sym (ap (λ (ls : List Line). stray_left (given_by givens) ls others) (lines_more bytes ready.accepted t at some v.low)) ∙ v.does t
+          (is_stray ∙ ap (λ (x : Kind). unrun_stray x (get_or givens at 0)) is_kind)
+          ∙ sym (ap (λ (ls : List Line). stray_left (given_by givens) ls others) (lines_more bytes ok t at some v.low)) ∙ v.does t others
 
-      pub looking_found : stray ≡ true → (t : ℕ) → at ≡ stray_left (given_by givens) (lines_from bytes t k) others
-      looking_found e t = rw e at (splits t)
+      pub looking_found : stray ≡ true → (t : ℕ) → Finds (stray_left (given_by givens) (lines_from bytes t k)) (Some at)
+      looking_found e t = record { answers = λ others. sym (rw e at (splits t others)); is_record = λ is. some cc }
 
-      pub looking_more : stray ≡ false → {next : ℕ} → next ≡ next_record bytes at → Looking bytes givens k others next
+      pub looking_more : stray ≡ false → {next : ℕ} → next ≡ next_record bytes at → Looking bytes givens k next
       looking_more e is_next = rw is_next (record {
-        low = next_low bytes ready.accepted 0 at some v.low;
-        does = λ t. rw e at (splits t);
+        low = next_low bytes ok 0 at some v.low;
+        does = λ t others. rw e at (splits t others);
       })
 
--- Threads t and on have been looked at, the last one first.
-pub record LookingBack (bytes givens : List ℕ) (threads : List Thread) (t found : ℕ) : Type 0 where
-  pub low : t ≤ thread_count bytes
-  pub does : found ≡ first_stray_left (given_by givens) (list_from (rest_at bytes threads) t (thread_count bytes - t))
+-- Nothing has strayed in the threads before thread t.
+pub record LookingOn (bytes givens : List ℕ) (threads : List Thread) (t : ℕ) : Type 0 where
+  pub does : first_stray_left (given_by givens) (list_from (rest_at bytes threads) t (thread_count bytes - t)) ≡ first_stray_left (given_by givens) (rests_of bytes threads)
 
-module _ {bytes givens : List ℕ} {threads : List Thread} (ready : RunReady bytes givens threads) where
-  pub back_start : {t : ℕ} → t ≡ thread_count bytes → LookingBack bytes givens threads t 0
-  unfolding first_stray_left list_from
-  back_start {t} all = let none : thread_count bytes - t ≡ 0 = omega arith in record { low = omega arith; does = rw none }
+module _ {bytes givens : List ℕ} {threads : List Thread} where
+  pub on_start : LookingOn bytes givens threads 0
+  on_start =
+      let all : thread_count bytes - 0 ≡ thread_count bytes = omega arith in
+      record { does = ap (λ (x : ℕ). first_stray_left (given_by givens) (list_from (rest_at bytes threads) 0 x)) all }
 
-  module _ {t found : ℕ} (v : LookingBack bytes givens threads t found) where
-    pub back_end : t ≤ 0 → found ≡ first_stray_left (given_by givens) (rests_of bytes threads)
-    back_end over =
-        v.does ∙ ap₂ (λ (x y : ℕ). first_stray_left (given_by givens) (list_from (rest_at bytes threads) x y))
-        (let e : t ≡ 0 = omega arith in e) (let e : thread_count bytes - t ≡ thread_count bytes = omega arith in e)
-
-    pub back_ready : 0 < t → RestReady bytes givens (thread_at threads (t - 1)).next
-    back_ready more = record { accepted = ready.accepted; all_given = ready.all_given; within = ready.within (t - 1) (omega arith) }
-
-    pub back_more : 0 < t → {r : ℕ} → ((u : ℕ) → r ≡ stray_left (given_by givens) (lines_from bytes u (thread_at threads (t - 1)).next) found)
-        → LookingBack bytes givens threads (t - 1) r
+  module _ {t : ℕ} (v : LookingOn bytes givens threads t) where
+    pub on_end : thread_count bytes ≤ t → None ≡ unless_0 (first_stray_left (given_by givens) (rests_of bytes threads))
     unfolding first_stray_left list_from
-    back_more more {r} is =
-        let many : thread_count bytes - (t - 1) ≡ suc (thread_count bytes - t) = omega arith in
-        let next : suc (t - 1) ≡ t = omega arith in
-        record {
-          low = omega arith;
-          does = rw (many, next) (is (t - 1) ∙ ap (stray_left (given_by givens) (rest_at bytes threads (t - 1))) v.does);
-        }
+    on_end over =
+        let none : thread_count bytes - t ≡ 0 = omega arith in
+        ap unless_0 (rw none at v.does)
+
+    module _ (more : t < thread_count bytes) {thread : Thread} (is_thread : thread ≡ thread_at threads t) {r : Option ℕ}
+        (finds : (u : ℕ) → Finds (stray_left (given_by givens) (lines_from bytes u thread.next)) r)
+      where
+        comes : stray_left (given_by givens) (lines_from bytes t thread.next) (first_stray_left (given_by givens) (list_from (rest_at bytes threads) (t + 1) (thread_count bytes - (t + 1))))
+            ≡ first_stray_left (given_by givens) (rests_of bytes threads)
+        unfolding first_stray_left list_from
+        comes =
+            let many : thread_count bytes - t ≡ suc (thread_count bytes - (t + 1)) = omega arith in
+            let next : suc t ≡ t + 1 = omega arith in
+            rw is_thread (rw (many, next) at v.does)
+
+        pub on_more : r ≡ None → LookingOn bytes givens threads (t + 1)
+        on_more is = record { does = finds_none (finds t) comes is }
+
+        pub on_found : {k : ℕ} → r ≡ Some k → Some k ≡ unless_0 (first_stray_left (given_by givens) (rests_of bytes threads))
+        on_found is = finds_some (finds t) comes is
 
 -- How the run then stands.
 module _ (stray : ℕ) (shared : Shared) where
@@ -100,12 +101,11 @@ module _ (stray : ℕ) (shared : Shared) where
       → record { items = shared.items; stand = after; note = shared.note } ≡ looked_at stray shared
   looked_by stand after is e = λ i. record { items = shared.items; stand = (e ∙ ap (stand_after stray) (sym is)) i; note = shared.note }
 
-  module _ (found : ℕ) (is_found : found ≡ stray) where
-    pub none_left : found ≡ 0 → Running ≡ stand_after stray Running
-    none_left none = rw (eq-eqb stray 0 (sym is_found ∙ none))
+  pub none_left : None ≡ unless_0 stray → Running ≡ stand_after stray Running
+  none_left is = rw (none_by stray is)
 
-    pub some_left : found ≢ 0 → Strayed found ≡ stand_after stray Running
-    some_left some = rw (ne_eqb stray 0 (λ e. some (is_found ∙ e))) (ap Strayed is_found)
+  pub some_left : {k : ℕ} → Some k ≡ unless_0 stray → Strayed k ≡ stand_after stray Running
+  some_left is = let s = some_by stray is in rw (s.0) (ap Strayed s.1)
 
 -- A run that has ended does not go on.
 pub never_strayed : {P : Type 0} {stand : Stand} {k : ℕ} → stand ≡ Strayed k → stand ≡ Running → P

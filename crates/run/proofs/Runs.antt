@@ -13,7 +13,7 @@ use Rattle.model.specs.CaseFile.{Line, records, thread_count, case_of}
 use Rattle.model.specs.Machine.{Memory, State, BlockEnd, passed, run_block, rest_in, memory_in, after_block, Outcome, after_steps, run_blocks}
 use Rattle.model.specs.Runs.{block_steps, memory_after, end_memory, next_state}
 use Rattle.model.specs.Fill.{put_steps, put_items, put_blocks}
-use Rattle.laws.specs.Accepted.{lines_from}
+use Rattle.laws.specs.Accepted.{Accepted, lines_from}
 use Rattle.laws.proofs.Views.{EqView, same, diff, eq_view}
 use Rattle.laws.proofs.Passing.{passed_memory}
 use Rattle.turn.specs.declared.Stand.{Stand}
@@ -165,7 +165,6 @@ module _ (bytes givens lengths : List ℕ) (i : ℕ) (threads : List Thread) (sh
 
     ready_after : RunReady bytes givens threads → RunReady bytes givens after
     ready_after ready = record {
-      accepted = ready.accepted;
       all_given = ready.all_given;
       within = λ u h. go u h (eq_view u t);
       has_all = ap length b.others ∙ length-set threads t (thread_at after t) ∙ ready.has_all;
@@ -191,11 +190,11 @@ module _ (bytes givens lengths : List ℕ) (threads₀ : List Thread) (shared₀
   module _ (i : ℕ) (threads : List Thread) (shared : Shared) (trace : List ℕ)
       (p : Playing bytes givens lengths threads₀ shared₀ trace₀ i threads shared trace)
     where
-      pub playing_on : (after : List Thread) (last : Shared) (trace' : List ℕ) → i < length lengths
+      pub playing_on : Accepted bytes → (after : List Thread) (last : Shared) (trace' : List ℕ) → i < length lengths
           → BlockAt bytes givens lengths i threads shared trace after last trace'
           → Playing bytes givens lengths threads₀ shared₀ trace₀ (i + 1) after last trace'
-      playing_on after last trace' more b =
-          let some : 0 < thread_count bytes = omega (arith, p.ready.accepted.some_threads) in
+      playing_on ok after last trace' more b =
+          let some : 0 < thread_count bytes = omega (arith, ok.some_threads) in
           record {
             does = rw (add-one i)
                 (sym (block_next bytes givens lengths i threads shared trace after last trace' some b (drop (suc i) lengths))
@@ -222,10 +221,9 @@ module _ (bytes givens lengths : List ℕ) (threads₀ : List Thread) (shared₀
 -- Block i by its thread's turn.
 module _ (bytes lengths givens : List ℕ) (thread : Thread) (shared : Shared) (i : ℕ) (turn : Turn) (is_turn : turn ≡ turn_of thread shared)
     (t : ℕ) (is_t : t ≡ i % thread_count bytes) where
-  pub ready_turn : BlockReady bytes lengths givens thread i → Ready bytes givens t turn
-  ready_turn ready = rw is_turn (record {
-    accepted = ready.accepted;
-    thread = rw is_t (mod-lt i (omega (arith, ready.accepted.some_threads)));
+  pub ready_turn : Accepted bytes → BlockReady bytes lengths givens thread i → Ready bytes givens t turn
+  ready_turn ok ready = rw is_turn (record {
+    thread = rw is_t (mod-lt i (omega (arith, ok.some_threads)));
     all_given = ready.all_given;
     within = ready.within;
   })

@@ -74,7 +74,6 @@ module _ (bytes : List ℕ) where
 
     pub ready_start : (givens : List ℕ) → records bytes < length givens → RunReady bytes givens (first_threads bytes)
     ready_start givens all_given = record {
-      accepted = ok;
       all_given = all_given;
       within = λ t h. omega (arith, ap (λ (x : Thread). x.next) (thread_start t h), ok.firsts t h);
       has_all = refl;

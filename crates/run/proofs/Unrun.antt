@@ -7,14 +7,14 @@ use mathlib.Core.List.{List, [], ◌∷◌}
 use native.Mathlib.Omega.{arith}
 use lib.ListN.{set, length, length-set}
 use Rattle.model.specs.CaseFile.{Line, Case, records, thread_count, switch_count, next_record, record_field, kind_of, case_of}
+use Rattle.model.specs.declared.Kind.{Kind}
 use Rattle.model.specs.Line.{unrun_value}
 use Rattle.model.specs.Assignment.{block_place, value_place}
 use Rattle.model.specs.Fill.{put_record, put_unrun, put_all_unrun}
-use Rattle.laws.specs.Accepted.{lines_from}
+use Rattle.laws.specs.Accepted.{Accepted, lines_from}
 use Rattle.laws.proofs.Following.{lines_end, lines_more, next_low}
 use Rattle.run.specs.declared.Thread.{Thread}
 use Rattle.run.specs.RunState.{thread_at, list_from, rest_at, rests_of}
-use Rattle.run.specs.Promises.{ChainReady}
 
 pub length_put_record : (k block value : ℕ) (xs : List ℕ) → length (put_record k block value xs) ≡ length xs
 length_put_record k block value xs = length-set (set xs (block_place k) block) (value_place k) value ∙ length-set xs (block_place k) block
@@ -25,27 +25,27 @@ pub record Leaving (bytes : List ℕ) (k : ℕ) (xs₀ : List ℕ) (at : ℕ) (x
   pub size : length xs ≡ length xs₀
   pub does : (t : ℕ) → put_unrun (case_of bytes) (lines_from bytes t at) xs ≡ put_unrun (case_of bytes) (lines_from bytes t k) xs₀
 
-module _ {bytes : List ℕ} {k : ℕ} (ready : ChainReady bytes k) (xs₀ : List ℕ) where
-  pub leaving_start : Leaving bytes k xs₀ k xs₀
-  leaving_start = record { low = ready.within; size = refl; does = λ t. refl }
+module _ {bytes : List ℕ} (ok : Accepted bytes) {k : ℕ} (xs₀ : List ℕ) where
+  pub leaving_start : k ≤ records bytes → Leaving bytes k xs₀ k xs₀
+  leaving_start within = record { low = within; size = refl; does = λ t. refl }
 
   module _ {at : ℕ} {xs : List ℕ} (v : Leaving bytes k xs₀ at xs) where
     pub leaving_end : at ≡ 0 → (t : ℕ) → xs ≡ put_unrun (case_of bytes) (lines_from bytes t k) xs₀
     leaving_end e t = sym (ap (λ (ls : List Line). put_unrun (case_of bytes) ls xs) (lines_end bytes t at e)) ∙ v.does t
 
-    pub leaving_more : at ≢ 0 → {kind switches next : ℕ} {xs' : List ℕ} → switches ≡ switch_count bytes → kind ≡ record_field bytes at 1
-        → next ≡ next_record bytes at → {value : ℕ} → value ≡ unrun_value (kind_of kind) → xs' ≡ put_record at (switches + 1) value xs
+    pub leaving_more : at ≢ 0 → {kind : Kind} {switches next : ℕ} {xs' : List ℕ} → switches ≡ switch_count bytes → kind ≡ kind_of (record_field bytes at 1)
+        → next ≡ next_record bytes at → {value : ℕ} → value ≡ unrun_value kind → xs' ≡ put_record at (switches + 1) value xs
         → Leaving bytes k xs₀ next xs'
     leaving_more some {kind} {switches} {next} {xs'} is_switches is_kind is_next {value} is-value is-put =
         let block : switches + 1 ≡ suc (switch_count bytes) = omega arith in
         let put : xs' ≡ put_record at (suc (switch_count bytes)) (unrun_value (kind_of (record_field bytes at 1))) xs =
         is-put ∙ ap (λ (b : ℕ). put_record at b value xs) block
-        ∙ ap (λ (v : ℕ). put_record at (suc (switch_count bytes)) v xs) (is-value ∙ ap (λ (x : ℕ). unrun_value (kind_of x)) is_kind) in
+        ∙ ap (λ (v : ℕ). put_record at (suc (switch_count bytes)) v xs) (is-value ∙ ap unrun_value is_kind) in
         rw is_next (record {
-          low = next_low bytes ready.accepted 0 at some v.low;
+          low = next_low bytes ok 0 at some v.low;
           size = ap length is-put ∙ length_put_record at (switches + 1) value xs ∙ v.size;
           does = λ t. ap (put_unrun (case_of bytes) (lines_from bytes t (next_record bytes at))) put
-              ∙ sym (ap (λ (ls : List Line). put_unrun (case_of bytes) ls xs) (lines_more bytes ready.accepted t at some v.low)) ∙ v.does t;
+              ∙ sym (ap (λ (ls : List Line). put_unrun (case_of bytes) ls xs) (lines_more bytes ok t at some v.low)) ∙ v.does t;
         })
 
 -- At thread t.
@@ -67,14 +67,16 @@ module _ {bytes : List ℕ} {threads : List Thread} (xs₀ : List ℕ) where
         sym (ap (λ (x : ℕ). put_all_unrun (case_of bytes) (list_from (rest_at bytes threads) t x) xs) none) ∙ v.does
 
     pub all_more : t < thread_count bytes → {xs' : List ℕ} → length xs' ≡ length xs
-        → ((u : ℕ) → xs' ≡ put_unrun (case_of bytes) (lines_from bytes u (thread_at threads t).next) xs) → LeavingAll bytes threads xs₀ (t + 1) xs'
+        → {thread : Thread} → thread ≡ thread_at threads t → ((u : ℕ) → xs' ≡ put_unrun (case_of bytes) (lines_from bytes u thread.next) xs)
+        → LeavingAll bytes threads xs₀ (t + 1) xs'
     unfolding list_from
-    all_more more {xs'} same_size put =
+    all_more more {xs'} same_size is_thread put =
+        let put' = put t ∙ ap (λ (x : Thread). put_unrun (case_of bytes) (lines_from bytes t x.next) xs) is_thread in
         let less : thread_count bytes - t ≡ suc (thread_count bytes - suc t) = omega arith in
         let next : t + 1 ≡ suc t = omega arith in
         record {
           size = same_size ∙ v.size;
-          does = rw next (ap (put_all_unrun (case_of bytes) (list_from (rest_at bytes threads) (suc t) (thread_count bytes - suc t))) (put t)
+          does = rw next (ap (put_all_unrun (case_of bytes) (list_from (rest_at bytes threads) (suc t) (thread_count bytes - suc t))) put'
               ∙ sym (ap (λ (x : ℕ). put_all_unrun (case_of bytes) (list_from (rest_at bytes threads) t x) xs) less) ∙ v.does);
         }
 

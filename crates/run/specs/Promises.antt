@@ -1,12 +1,12 @@
 -- What the blocks of a run ask and promise, in terms of the machine.
 -- Assumes nothing.
-use Rattle.std.specs.Prelude.{◌≡◌, ℕ, ◌%◌, ◌≤◌, ◌<◌, cond, List, [], eqb, get_or, length, set}
+use Rattle.std.specs.Prelude.{◌≡◌, ℕ, ◌%◌, ◌≤◌, ◌<◌, cond, Option, List, [], eqb, get_or, length, set}
+use Rattle.model.specs.Lists.{unless_0}
 use Rattle.model.specs.Limits.{most_threads, most_blocks, most_items, most_variables}
 use Rattle.model.specs.CaseFile.{Line, records, thread_count, case_of}
 use Rattle.model.specs.Machine.{State, start, Outcome, refused14, cut_off, violated, clean, first_stray_left, run_blocks, run}
 use Rattle.model.specs.Fill.{put_items, put_blocks, put_all_unrun}
 use Rattle.model.specs.Answers.{answer_of_run}
-use Rattle.laws.specs.Accepted.{Accepted}
 use Rattle.turn.specs.declared.Stand.{Stand}
 use Rattle.turn.specs.declared.Stand.TheVariants.{Running, Strayed, Stopped}
 use Rattle.turn.specs.declared.Turn.{Turn}
@@ -18,20 +18,13 @@ use Rattle.run.specs.declared.Moved.{Moved}
 use Rattle.run.specs.declared.Ended.{Ended}
 use Rattle.run.specs.RunState.{thread_at, turn_of, turn_at, rests_of, state_of}
 
--- The case is accepted, and each of its records is given a value.
-pub record AllGiven (bytes givens : List ℕ) : Type 0 where
-  pub accepted : Accepted bytes
-  pub all_given : records bytes < length givens
-
--- The same, and a thread is at record k, or at its end where k is 0.
+-- Each record of the case is given a value, and a thread is at record k, or at its end where k is 0.
 pub record RestReady (bytes givens : List ℕ) (k : ℕ) : Type 0 where
-  pub accepted : Accepted bytes
   pub all_given : records bytes < length givens
   pub within : k ≤ records bytes
 
--- The same, and every thread is at a record or at its end.
+-- Each record is given a value, and every thread is at a record or at its end.
 pub record RunReady (bytes givens : List ℕ) (threads : List Thread) : Type 0 where
-  pub accepted : Accepted bytes
   pub all_given : records bytes < length givens
   pub within : (t : ℕ) → t < thread_count bytes → (thread_at threads t).next ≤ records bytes
   pub has_all : length threads ≡ most_threads
@@ -43,15 +36,9 @@ pub record RunAtBlock (bytes lengths givens : List ℕ) (threads : List Thread) 
 
 -- The same for a block's thread.
 pub record BlockReady (bytes lengths givens : List ℕ) (thread : Thread) (i : ℕ) : Type 0 where
-  pub accepted : Accepted bytes
   pub all_given : records bytes < length givens
   pub within : thread.next ≤ records bytes
   pub is_block : i < length lengths
-
--- An accepted case, and a record of it, or the end of a chain where k is 0.
-pub record ChainReady (bytes : List ℕ) (k : ℕ) : Type 0 where
-  pub accepted : Accepted bytes
-  pub within : k ≤ records bytes
 
 -- So many items, and where their places start.
 pub record ItemsReady (count from : ℕ) : Type 0 where
@@ -106,8 +93,8 @@ abbrev pub looked_at : ℕ → Shared → Shared
 looked_at stray shared = record { items = shared.items; stand = stand_after stray shared.stand; note = shared.note }
 
 -- The lines that the threads have left have been looked at: the first record that strays among them, and their numbers in the trace.
-pub record LeftSeen (bytes givens : List ℕ) (threads : List Thread) (trace : List ℕ) (r : ℕ) (trace' : List ℕ) : Type 0 where
-  pub found : r ≡ first_stray_left (given_by givens) (rests_of bytes threads)
+pub record LeftSeen (bytes givens : List ℕ) (threads : List Thread) (trace : List ℕ) (r : Option ℕ) (trace' : List ℕ) : Type 0 where
+  pub found : r ≡ unless_0 (first_stray_left (given_by givens) (rests_of bytes threads))
   pub put : trace' ≡ put_all_unrun (case_of bytes) (rests_of bytes threads) trace
 
 -- The same after the last step of a run, if it still goes on.

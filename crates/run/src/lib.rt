@@ -1,21 +1,23 @@
-// The run of an accepted case: its threads stand in a lent slice, and each block moves one of them.
+// The run of an accepted case: its threads stand in a lent slice, and each block moves one of them. Document 01 names this form: "a
+// lent slice of at most four thread structs, changed by a few thin functions over covered ones".
 #![tactic(auto)]
 
 ghost use Rattle.std.specs.Prelude.{◌≡◌, ℕ, ◌%◌, ◌≤◌, ◌<◌, List, set, length, take};
 ghost use Rattle.std.proofs.lemmas.List.Edits.{sets};
 ghost use Rattle.model.specs.Limits.{most_threads, most_blocks, header_bytes};
-ghost use Rattle.model.specs.CaseFile.{thread_count, kind_of, case_of};
-ghost use Rattle.model.specs.Line.{unrun_stray};
+ghost use Rattle.model.specs.CaseFile.{records, thread_count, case_of};
 ghost use Rattle.model.specs.Machine as machine;
 ghost use Rattle.model.specs.Fill.{put_items, put_unrun};
-ghost use Rattle.laws.specs.Accepted.{Accepted, lines_from};
+ghost use Rattle.laws.specs.Accepted.{lines_from};
 ghost use Rattle.case_file.specs.Present.{InHeader};
 ghost use Rattle.turn.specs.TurnState.{items_of, given_by};
 ghost use Rattle.run.specs.declared.Thread.{Thread};
 ghost use Rattle.run.specs.RunState.{turn_of, first_thread, first_threads, first_shared};
-ghost use Rattle.run.specs.Promises.{AllGiven, BlockReady, RestReady, RunReady, RunAtBlock, ItemsReady, ChainReady, BlockAt, MovedBy, Played, LeftSeen, LeftLooked, outcome_of, Replies, Traced};
+ghost use Rattle.run.specs.Found.{Finds};
+ghost use Rattle.run.specs.Promises.{BlockReady, RestReady, RunReady, RunAtBlock, ItemsReady, BlockAt, MovedBy, Played, LeftSeen, LeftLooked, outcome_of, Replies, Traced};
 
-use model::{BLOCKS, ITEMS, LOCALS, Replayed, THREADS};
+use case_file::Case;
+use model::{BLOCKS, ITEMS, LOCALS, Refusal, Replayed, THREADS};
 use turn::{Stand, Turn};
 
 // A thread's next record, 0 at its end, and its locals.
@@ -25,7 +27,8 @@ pub struct Thread {
     pub locals: [u16; LOCALS],
 }
 
-// What the threads share: the items, how the run stands, and the record of the first line that violates, 0 while there is none.
+// What the threads share: the items, how the run stands, and the record of the first line that violates. That is 0 while there is
+// none, as in turn's Turn.
 #[derive(Clone, Copy)]
 pub struct Shared {
     pub items: [u16; ITEMS],
@@ -50,17 +53,17 @@ pub struct AllMoved {
 // The reply, and the items at the run's end.
 #[derive(Clone, Copy)]
 pub struct Ended {
-    pub reply: Replayed,
+    pub reply: Result<Replayed, Refusal>,
     pub items: [u16; ITEMS],
 }
 
 // The run of a case in blocks with these lengths, from its start. What its lines and its blocks come to goes to their places in the trace,
 // where it has them; so do the numbers of the lines that it leaves.
-pub fn run_case(case: &[u8], lengths: &[u16], given: &[u16], trace: &mut [u16]) -> Ended
-    requires { AllGiven case.now given.now }
-    ensures { Traced case.now given.now lengths.now trace.old result trace.new }
+pub fn run_case(case: &Case<'_>, lengths: &[u16], given: &[u16], trace: &mut [u16]) -> Ended
+    requires { records case.now.bytes.now < length given.now }
+    ensures { Traced case.now.bytes.now given.now lengths.now trace.old result trace.new }
 {
-    let first = first_threads(case);
+    let first = first_threads(case.bytes);
     let shared = first_shared(case);
     let all = lend(first, case, lengths, given, shared, trace);
     let threads = all.threads;
@@ -68,16 +71,18 @@ pub fn run_case(case: &[u8], lengths: &[u16], given: &[u16], trace: &mut [u16]) 
     end_of(last)
 }
 
-// The threads where a run starts; an absent thread is at its end.
+// The threads where a run starts; an absent thread is at its end. Four calls and no `map` over their numbers: that it may call
+// `first_thread` at each of them did not prove.
 fn first_threads(case: &[u8]) -> [Thread; THREADS]
     requires { header_bytes ≤ length case.now }
     ensures { result ≡ first_threads case.now }
 {
-    let a = first_thread(case, 0);
-    let b = first_thread(case, 1);
-    let c = first_thread(case, 2);
-    let d = first_thread(case, 3);
-    [a, b, c, d]
+    [
+        first_thread(case, 0),
+        first_thread(case, 1),
+        first_thread(case, 2),
+        first_thread(case, 3),
+    ]
 }
 
 // Thread t at its first record.
@@ -85,35 +90,34 @@ fn first_thread(case: &[u8], t: usize) -> Thread
     requires { InHeader case.now t most_threads }
     ensures { result ≡ first_thread case.now t }
 {
-    let locals = [0u16; LOCALS];
-    let next = case_file::first_of(case, t);
-    Thread { next, locals }
+    Thread {
+        next: case_file::first_of(case, t),
+        locals: [0; LOCALS],
+    }
 }
 
 // What the threads share where a run starts.
-fn first_shared(case: &[u8]) -> Shared
-    requires { Accepted case.now }
-    ensures { result ≡ first_shared case.now }
+fn first_shared(case: &Case<'_>) -> Shared
+    ensures { result ≡ first_shared case.now.bytes.now }
 {
-    let items = case_file::first_items(case);
     Shared {
-        items,
+        items: case_file::first_items(case.bytes),
         stand: Stand::Running,
         note: 0,
     }
 }
 
-// The threads are lent to all blocks. Its parameters are plain, so that callers need no walk.
+// The threads are lent to all blocks, and handed back by value with what they then share.
 fn lend(
     threads: [Thread; THREADS],
-    case: &[u8],
+    case: &Case<'_>,
     lengths: &[u16],
     given: &[u16],
     shared: Shared,
     trace: &mut [u16],
 ) -> AllMoved
-    requires { RunReady case.now given.now threads }
-    ensures { Played case.now given.now lengths.now threads shared trace.old result.threads result.shared trace.new }
+    requires { RunReady case.now.bytes.now given.now threads }
+    ensures { Played case.now.bytes.now given.now lengths.now threads shared trace.old result.threads result.shared trace.new }
 {
     let mut ts = threads;
     let last = blocks_at(&mut ts, case, lengths, given, shared, trace);
@@ -126,20 +130,18 @@ fn lend(
 // All blocks with these lengths.
 fn blocks_at(
     threads: &mut [Thread],
-    case: &[u8],
+    case: &Case<'_>,
     lengths: &[u16],
     given: &[u16],
     shared: Shared,
     trace: &mut [u16],
 ) -> Shared
-    requires { RunReady case.now given.now threads.old }
-    ensures { Played case.now given.now lengths.now threads.old shared trace.old threads.new result trace.new }
+    requires { RunReady case.now.bytes.now given.now threads.old }
+    ensures { Played case.now.bytes.now given.now lengths.now threads.old shared trace.old threads.new result trace.new }
 {
     let mut last = shared;
-    let mut i = 0;
-    while i < lengths.len() {
+    for i in 0..lengths.len() {
         last = block_at(threads, case, lengths, given, i, last, trace);
-        i += 1;
     }
     last
 }
@@ -147,15 +149,15 @@ fn blocks_at(
 // Block i, of the thread that it belongs to.
 fn block_at(
     threads: &mut [Thread],
-    case: &[u8],
+    case: &Case<'_>,
     lengths: &[u16],
     given: &[u16],
     i: usize,
     shared: Shared,
     trace: &mut [u16],
 ) -> Shared
-    requires { RunAtBlock case.now lengths.now given.now threads.old i }
-    ensures { BlockAt case.now given.now lengths.now i threads.old shared trace.old threads.new result trace.new }
+    requires { RunAtBlock case.now.bytes.now lengths.now given.now threads.old i }
+    ensures { BlockAt case.now.bytes.now given.now lengths.now i threads.old shared trace.old threads.new result trace.new }
 {
     let t = thread_of(case, i);
     let moved = block_of(threads[t], shared, case, lengths, given, i, trace);
@@ -164,21 +166,21 @@ fn block_at(
 }
 
 // The thread that block i belongs to.
-fn thread_of(case: &[u8], i: usize) -> usize
-    requires { Accepted case.now }
-    ensures { result ≡ i % thread_count case.now }
+fn thread_of(case: &Case<'_>, i: usize) -> usize
+    ensures { result ≡ i % thread_count case.now.bytes.now }
 {
-    i % case_file::threads(case) as usize
+    i % case_file::threads(case.bytes) as usize
 }
 
-// Block i as a number of the trace; past the last block that a case can have, 0.
+// Block i as a number of the trace; past the last block that a case can have, 0: turn's `BlockRecorded` speaks of the blocks below that
+// limit only.
 fn number_of(i: usize) -> u16
     ensures { i < most_blocks → result ≡ i }
 {
     if i < BLOCKS { i as u16 } else { 0 }
 }
 
-// A number goes to its place, if the trace has it.
+// A number goes to its place, if the trace has it. A test and no `get_mut`, whose promise does not say how the slice ends.
 fn put_at(trace: &mut [u16], at: usize, value: u16)
     ensures { trace.new ≡ set trace.old at value }
 {
@@ -192,57 +194,52 @@ fn put_values(values: [u16; ITEMS], count: usize, start: usize, trace: &mut [u16
     requires { ItemsReady count start }
     ensures { trace.new ≡ sets trace.old start (take count values) }
 {
-    let mut g = 0;
-    while g < count {
-        put_at(trace, start + g, values[g]);
-        g += 1;
+    for (g, value) in values[..count].iter().enumerate() {
+        put_at(trace, start + g, *value);
     }
 }
 
 // The items where block i ends go to its places; the last block has none.
-fn put_items(case: &[u8], i: usize, shared: Shared, trace: &mut [u16])
-    requires { Accepted case.now }
-    ensures { trace.new ≡ put_items (case_of case.now) i (items_of case.now shared.items) trace.old }
+fn put_items(case: &Case<'_>, i: usize, shared: Shared, trace: &mut [u16])
+    ensures { trace.new ≡ put_items (case_of case.now.bytes.now) i (items_of case.now.bytes.now shared.items) trace.old }
 {
-    let n = case_file::switches(case) as usize;
+    let n = case_file::switches(case.bytes) as usize;
     if n <= i {
         return;
     }
-    let count = case_file::items(case);
-    let start = 2 * case_file::records(case) + i * count;
+    let count = case.items();
+    let start = 2 * case_file::records(case.bytes) + i * count;
     if trace.len() <= start {
         return;
     }
-    let values = shared.items;
-    put_values(values, count, start, trace);
+    put_values(shared.items, count, start, trace);
 }
 
 // Block i of a run, by the thread that it belongs to.
 fn block_of(
     thread: Thread,
     shared: Shared,
-    case: &[u8],
+    case: &Case<'_>,
     lengths: &[u16],
     given: &[u16],
     i: usize,
     trace: &mut [u16],
 ) -> Moved
-    requires { BlockReady case.now lengths.now given.now thread i }
-    ensures { MovedBy case.now given.now lengths.now i thread shared trace.old result trace.new }
+    requires { BlockReady case.now.bytes.now lengths.now given.now thread i }
+    ensures { MovedBy case.now.bytes.now given.now lengths.now i thread shared trace.old result trace.new }
 {
     let t = thread_of(case, i) as u16;
-    let turn = turn_of(thread, shared);
+    let turn = thread.turn(shared);
     let after = turn.block(t, case, given, lengths[i], number_of(i), trace);
     let locals = after.locals;
     let items = after.items;
-    let stand = after.stand;
     let moved = Thread {
         next: after.next,
         locals,
     };
     let last = Shared {
         items,
-        stand,
+        stand: after.stand,
         note: after.note,
     };
     put_items(case, i, last, trace);
@@ -252,120 +249,97 @@ fn block_of(
     }
 }
 
-// The thread's turn.
-fn turn_of(thread: Thread, shared: Shared) -> Turn
-    ensures { result ≡ turn_of thread shared }
-{
-    let locals = thread.locals;
-    let items = shared.items;
-    let stand = shared.stand;
-    Turn {
-        next: thread.next,
-        locals,
-        items,
-        stand,
-        note: shared.note,
+impl Thread {
+    // The thread's turn.
+    fn turn(self, shared: Shared) -> Turn
+        ensures { result ≡ turn_of self shared }
+    {
+        let locals = self.locals;
+        let items = shared.items;
+        Turn {
+            next: self.next,
+            locals,
+            items,
+            stand: shared.stand,
+            note: shared.note,
+        }
     }
 }
 
-// Whether an unrun line of this kind strays, by the value that it is given.
-fn unrun_stray(kind: u16, given: u16) -> bool
-    ensures { result ≡ unrun_stray (kind_of kind) given }
-{
-    match kind {
-        4 => given != 0,
-        _ => false,
-    }
-}
-
-// The first record that strays among the unrun lines from k on, or else among those of the threads that follow.
-fn stray_left(case: &[u8], given: &[u16], k: usize, others: u16) -> u16
-    requires { RestReady case.now given.now k }
-    ensures { (t : ℕ) → result ≡ machine.stray_left (given_by given.now) (lines_from case.now t k) others }
+// The first record that strays among the unrun lines from k on.
+fn stray_left(case: &Case<'_>, given: &[u16], k: usize) -> Option<u16>
+    requires { RestReady case.now.bytes.now given.now k }
+    ensures { (t : ℕ) → Finds (machine.stray_left (given_by given.now) (lines_from case.now.bytes.now t k)) result }
 {
     let mut at = k;
     while at != 0 {
-        if unrun_stray(case_file::kind_of(case, at), given[at]) {
-            return at as u16;
+        if turn::strays(case_file::kind_of(case.bytes, at), given[at]) {
+            return Some(at as u16);
         }
-        at = case_file::next_of(case, at);
+        at = case_file::next_of(case.bytes, at);
     }
-    others
+    None
 }
 
 // The lines from record k on were not run: each has block number n + 1, and the value of such a line. A trace of no numbers stays one.
-fn put_unrun(case: &[u8], k: usize, trace: &mut [u16])
-    requires { ChainReady case.now k }
-    ensures { (t : ℕ) → trace.new ≡ put_unrun (case_of case.now) (lines_from case.now t k) trace.old }
+fn put_unrun(case: &Case<'_>, k: usize, trace: &mut [u16])
+    requires { k ≤ records case.now.bytes.now }
+    ensures { (t : ℕ) → trace.new ≡ put_unrun (case_of case.now.bytes.now) (lines_from case.now.bytes.now t k) trace.old }
 {
-    if trace.len() == 0 {
+    if trace.is_empty() {
         return;
     }
-    let block = case_file::switches(case) + 1;
+    let block = case_file::switches(case.bytes) + 1;
     let mut at = k;
     while at != 0 {
-        let value = line::unrun_value(case_file::kind_of(case, at));
+        let value = line::unrun_value(case_file::kind_of(case.bytes, at));
         turn::put_record(trace, at, block, value);
-        at = case_file::next_of(case, at);
+        at = case_file::next_of(case.bytes, at);
     }
 }
 
-// The first that strays among the lines that all threads have left; 0 if there is none. The threads are looked at from the last
-// to the first, so that the earliest decides. These lines were not run, and have their numbers in the trace.
+// The first that strays among the lines that all threads have left. These lines were not run, and have their numbers in the trace.
 fn first_stray_left(
     threads: [Thread; THREADS],
-    case: &[u8],
+    case: &Case<'_>,
     given: &[u16],
     trace: &mut [u16],
-) -> u16
-    requires { RunReady case.now given.now threads }
-    ensures { LeftSeen case.now given.now threads trace.old result trace.new }
+) -> Option<u16>
+    requires { RunReady case.now.bytes.now given.now threads }
+    ensures { LeftSeen case.now.bytes.now given.now threads trace.old result trace.new }
 {
-    let count = case_file::threads(case) as usize;
-    let mut u = 0;
-    while u < count {
-        put_unrun(case, threads[u].next, trace);
-        u += 1;
+    let count = case_file::threads(case.bytes) as usize;
+    for thread in &threads[..count] {
+        put_unrun(case, thread.next, trace);
     }
-    let mut t = count;
-    let mut found = 0;
-    while 0 < t {
-        t -= 1;
-        found = stray_left(case, given, threads[t].next, found);
+    for thread in &threads[..count] {
+        if let Some(k) = stray_left(case, given, thread.next) {
+            return Some(k);
+        }
     }
-    found
+    None
 }
 
 // What the threads share after the last step: the run strays where an unrun input does, unless it has ended before.
 fn look_left(
     threads: [Thread; THREADS],
     shared: Shared,
-    case: &[u8],
+    case: &Case<'_>,
     given: &[u16],
     trace: &mut [u16],
 ) -> Shared
-    requires { RunReady case.now given.now threads }
-    ensures { LeftLooked case.now given.now threads shared trace.old result trace.new }
+    requires { RunReady case.now.bytes.now given.now threads }
+    ensures { LeftLooked case.now.bytes.now given.now threads shared trace.old result trace.new }
 {
-    let stand = shared.stand;
-    match stand {
-        Stand::Running => {}
-        Stand::Strayed(_) => {
-            return shared;
-        }
-        Stand::Stopped(_) => {
-            return shared;
-        }
-    }
-    let found = first_stray_left(threads, case, given, trace);
-    if found == 0 {
+    let Stand::Running = shared.stand else {
         return shared;
-    }
-    let items = shared.items;
-    Shared {
-        items,
-        stand: Stand::Strayed(found),
-        note: shared.note,
+    };
+    match first_stray_left(threads, case, given, trace) {
+        Some(k) => Shared {
+            stand: Stand::Strayed(k),
+            ..shared
+        },
+        None => shared,
     }
 }
 
@@ -373,27 +347,12 @@ fn look_left(
 fn end_of(shared: Shared) -> Ended
     ensures { (bytes : List ℕ) (threads : List Thread) → Replies bytes (outcome_of bytes threads shared) result }
 {
+    let reply = match shared.stand {
+        Stand::Strayed(k) => Err(Refusal::Stray(k)),
+        Stand::Stopped(k) => Ok(Replayed::CutOff(k)),
+        Stand::Running if shared.note == 0 => Ok(Replayed::Clean),
+        Stand::Running => Ok(Replayed::Violated(shared.note)),
+    };
     let items = shared.items;
-    let stand = shared.stand;
-    match stand {
-        Stand::Running => {}
-        Stand::Strayed(k) => {
-            let reply = Replayed::Refused {
-                number: 14,
-                place: k,
-            };
-            return Ended { reply, items };
-        }
-        Stand::Stopped(k) => {
-            let reply = Replayed::CutOff(k);
-            return Ended { reply, items };
-        }
-    }
-    let note = shared.note;
-    if note == 0 {
-        let reply = Replayed::Clean;
-        return Ended { reply, items };
-    }
-    let reply = Replayed::Violated(note);
     Ended { reply, items }
 }

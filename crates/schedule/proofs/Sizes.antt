@@ -9,6 +9,7 @@ use lib.ListN.{length, length-append}
 use Rattle.model.specs.Word.{bit}
 use Rattle.model.specs.Limits.{most_schedule_numbers}
 use Rattle.model.specs.CaseFile.{Line, records, record_field, switch_count, kind_of, case_of, sum_of_lines, sum_of_threads}
+use Rattle.model.specs.declared.Kind.{Kind}
 use Rattle.model.specs.Line.{is_input}
 use Rattle.model.specs.Schedule.{input_lines, all_input_lines, schedule_size}
 use Rattle.laws.specs.Accepted.{Accepted}
@@ -49,7 +50,7 @@ pub record Sizing (bytes : List ℕ) (k n : ℕ) : Type 0 where
 pub sizing_start : {bytes : List ℕ} {last : ℕ} → Accepted bytes → last ≡ switch_count bytes → Sizing bytes 1 (last + 1)
 sizing_start {bytes} ok e = record { some = omega arith; left = omega (arith, inputs_start bytes ok) }
 
-pub sizing_more : {bytes : List ℕ} {k n kind m : ℕ} → Sizing bytes k n → k ≤ records bytes → kind ≡ record_field bytes k 1 → m ≡ bit (is_input (kind_of kind))
+pub sizing_more : {bytes : List ℕ} {k n : ℕ} {kind : Kind} {m : ℕ} → Sizing bytes k n → k ≤ records bytes → kind ≡ kind_of (record_field bytes k 1) → m ≡ bit (is_input kind)
     → Sizing bytes (k + 1) (n + m)
 sizing_more {bytes} {k} v high ek em = record { some = omega arith; left = rw (em, ek) (omega (arith, v.left, records_more bytes (input_at bytes) k high)) }
 

@@ -15,14 +15,13 @@ use Rattle.model.specs.Assignment.{assignment_of, was_run}
 use Rattle.model.specs.Copies.{reads_after}
 use Rattle.model.specs.Schedule.{decoded_values, all_decoded_values}
 use Rattle.laws.specs.Accepted.{Accepted, lines_from, thread_lines}
-use Rattle.laws.specs.Written.{Put, RoomFor}
+use Rattle.laws.specs.Written.{Put}
 use Rattle.laws.proofs.Following.{lines_end, lines_more, next_low, lines_less, chains_more, chains_end}
 use Rattle.laws.proofs.Lines.{few_lines_from}
 use Rattle.laws.proofs.Views.{EqView, same, diff, eq_view}
-use Rattle.laws.proofs.Writing.{put_nothing, put_single, Writing, writing_start, writing_room, writing_more, writing_end}
+use Rattle.laws.proofs.Writing.{put_single, Writing, writing_start, writing_room, writing_more, writing_end}
 use Rattle.case_file.specs.declared.Record.{Record}
 use Rattle.case_file.specs.Records.{record_of, as_line}
-use Rattle.line.proofs.KindNumbers.{kind_4, input_other}
 use Rattle.assignment.specs.Numbers.{record_block, record_value}
 use Rattle.schedule.specs.Schedules.{values_of, thread_inputs, CountsOf, ThreadToWrite, ThreadWritten, AllWritten, FewCounted, with_line, run_value, input_number, own_numbers}
 use Rattle.schedule.proofs.Locals.{LocalsAre, locals_start, locals_step, guard_same}
@@ -38,7 +37,6 @@ threads_from bytes xs t = all_decoded_values (case_of bytes) (assignment_of (cas
 -- Before record k of thread t: the slice and the place so far, the locals and the counts; the slice, the place and the counts at the
 -- start.
 pub record Walk (bytes xs : List ℕ) (t : ℕ) (before : List ℕ) (start : ℕ) (counts₀ : List (List ℕ)) (out : List ℕ) (at : ℕ) (locals : List ℕ) (counts : List (List ℕ)) (k : ℕ) : Type 0 where
-  pub ok : Accepted bytes
   pub thread : t < thread_count bytes
   pub within : k ≤ records bytes
   pub earlier : List Line
@@ -46,30 +44,20 @@ pub record Walk (bytes xs : List ℕ) (t : ℕ) (before : List ℕ) (start : ℕ
   pub writing : Writing (thread_inputs bytes xs t) before start out at (values_from bytes xs t earlier k)
   pub counting : CountingLines counts₀ counts t (record_block xs) (lines_from bytes t k) (thread_lines bytes t)
 
-pub walk_start : {bytes xs : List ℕ} {t : ℕ} {before : List ℕ} {start : ℕ} {counts : List (List ℕ)} {k : ℕ} → ThreadToWrite bytes xs t start before counts
-    → k ≡ first_record bytes t → Walk bytes xs t before start counts before start (replicate local_count 0) counts k
-walk_start {bytes} {xs} {t} ready e = record {
-  ok = ready.fits.accepted;
-  thread = ready.fits.thread;
-  within = rw e (ready.fits.accepted.firsts t ready.fits.thread);
+pub walk_start : {bytes xs : List ℕ} {t : ℕ} {before : List ℕ} {start : ℕ} {counts : List (List ℕ)} {k : ℕ} → Accepted bytes
+    → ThreadToWrite bytes xs t start before counts → k ≡ first_record bytes t → Walk bytes xs t before start counts before start (replicate local_count 0) counts k
+walk_start {bytes} {xs} {t} ok ready e = record {
+  thread = ready.thread;
+  within = rw e (ok.firsts t ready.thread);
   earlier = [];
   held = locals_start (case_of bytes) xs;
   writing = writing_start (ap (values_from bytes xs t []) e);
   counting = rw e (counting_lines_start ready.rows ready.fresh (record_block xs) (thread_lines bytes t));
 }
 
--- The number of an input, and none for another line, as the code writes them.
-pub own_one : (l : Record) (locals : List ℕ) (value : ℕ) → l.kind ≡ 4 → own_numbers l locals value ≡ input_number l locals value ∷ []
-unfolding own_numbers
-own_one l locals value e = rw (kind_4 l.kind e)
-
-pub put_one : (l : Record) (locals : List ℕ) (value : ℕ) (out : List ℕ) (at r : ℕ) → l.kind ≡ 4 → r ≡ input_number l locals value
-    → Put (own_numbers l locals value) out at (set out at r) (at + 1)
-put_one l locals value out at r e er = rw (own_one l locals value e, ← er) put_single
-
-pub put_none : (l : Record) (locals : List ℕ) (value : ℕ) (out : List ℕ) (at : ℕ) → Unit {0} × l.kind ≢ 4 → Put (own_numbers l locals value) out at out at
-unfolding own_numbers
-put_none l locals value out at n = rw (input_other l.kind n) put_nothing
+-- One number, as the code writes it.
+pub put_one : (v : ℕ) (out : List ℕ) (at r : ℕ) → r ≡ v → Put (v ∷ []) out at (set out at r) (at + 1)
+put_one v out at r e = rw (← e) put_single
 
 -- A line's value where it was run and its guard is true, whichever is asked first.
 guarded_value : (run on : Bool) (value : ℕ) → cond (run && on) value 0 ≡ cond on (cond run value 0) 0
@@ -103,15 +91,15 @@ own_and_rest bytes xs ok t k low high locals earlier are l el given eg =
         ∙ ap (λ (on : Bool). cond on value 0) (sym (guard_same (case_of bytes) xs (omega (arith, ok.few_globals, ok.few_mutexes)) locals earlier are (line_of bytes t k))))
     go false = refl
 
-module _ {bytes xs : List ℕ} {t : ℕ} {before : List ℕ} {start : ℕ} {counts₀ : List (List ℕ)} {out : List ℕ} {at : ℕ} {locals : List ℕ} {counts : List (List ℕ)} {k : ℕ}
+module _ {bytes xs : List ℕ} (ok : Accepted bytes) {t : ℕ} {before : List ℕ} {start : ℕ} {counts₀ : List (List ℕ)} {out : List ℕ} {at : ℕ} {locals : List ℕ} {counts : List (List ℕ)} {k : ℕ}
     (v : Walk bytes xs t before start counts₀ out at locals counts k) where
   few : t < most_threads
-  few = omega (arith, v.thread, v.ok.few_threads)
+  few = omega (arith, v.thread, ok.few_threads)
 
   pub walk_few : (block : ℕ) → FewCounted counts t block
   walk_few block = record {
     thread = few;
-    few = omega (arith, counting_lines_few v.counting block, few_lines_from bytes v.ok t (first_record bytes t) (v.ok.firsts t v.thread));
+    few = omega (arith, counting_lines_few v.counting block, few_lines_from bytes ok t (first_record bytes t) (ok.firsts t v.thread));
   }
 
   pub walk_end : k ≡ 0 → ThreadWritten bytes xs t start before out counts₀ counts at
@@ -125,11 +113,11 @@ module _ {bytes xs : List ℕ} {t : ℕ} {before : List ℕ} {start : ℕ} {coun
 
   module _ (low : k ≢ 0) where
     pub walk_less : {next : ℕ} → next ≡ next_record bytes k → length (lines_from bytes t next) < length (lines_from bytes t k)
-    walk_less {next} e = lines_less bytes v.ok t k low v.within next e
+    walk_less {next} e = lines_less bytes ok t k low v.within next e
 
     module _ {l : Record} {block value given : ℕ} (el : l ≡ record_of bytes t k) (eb : block ≡ record_block xs k) (ev : value ≡ record_value xs k) (er : given ≡ run_value bytes block value) where
       go_on : values_from bytes xs t v.earlier k ≡ own_numbers l locals given ++ values_from bytes xs t (line_of bytes t k ∷ v.earlier) (next_record bytes k)
-      go_on = own_and_rest bytes xs v.ok t k low v.within locals v.earlier v.held l el given (er ∙ ap₂ (run_value bytes) eb ev)
+      go_on = own_and_rest bytes xs ok t k low v.within locals v.earlier v.held l el given (er ∙ ap₂ (run_value bytes) eb ev)
 
       pub walk_room : start + length (thread_inputs bytes xs t) ≤ length before → at + length (own_numbers l locals given) ≤ length out
       walk_room room = writing_room v.writing (own_numbers l locals given) (values_from bytes xs t (line_of bytes t k ∷ v.earlier) (next_record bytes k)) go_on room
@@ -138,13 +126,12 @@ module _ {bytes xs : List ℕ} {t : ℕ} {before : List ℕ} {start : ℕ} {coun
           → globals ≡ global_count bytes → ((j : ℕ) → name ≡ target_name globals (as_line l j)) → locals' ≡ put_local true name value locals
           → counts' ≡ with_line counts t block → next ≡ next_record bytes k → Walk bytes xs t before start counts₀ out' at' locals' counts' next
       walk_more put eg en elocals ecounts ek = record {
-        ok = v.ok;
         thread = v.thread;
-        within = rw ek (next_low bytes v.ok t k low v.within);
+        within = rw ek (next_low bytes ok t k low v.within);
         earlier = line_of bytes t k ∷ v.earlier;
         held = rw (elocals, en k, eg, el, ev) (locals_step (case_of bytes) xs locals v.earlier v.held (line_of bytes t k) (omega arith));
         writing = rw ek (writing_more v.writing go_on put);
-        counting = rw (ecounts, eb, ek) (counting_lines_more few (rw (lines_more bytes v.ok t k low v.within) at v.counting));
+        counting = rw (ecounts, eb, ek) (counting_lines_more few (rw (lines_more bytes ok t k low v.within) at v.counting));
       }
 
 -- Before thread t: the slice and the place so far, and the counts of the threads before it; the slice and the place at the start.
@@ -170,15 +157,12 @@ module _ {bytes xs before : List ℕ} {start : ℕ} {out : List ℕ} {at : ℕ} 
     unfolding all_decoded_values
     threads_go_on = rw (chains_more bytes t (thread_count bytes) h)
 
-    pub threads_next : RoomFor bytes (start + length (values_of bytes xs)) before → ThreadToWrite bytes xs t at out counts
-    threads_next fits = record {
-      fits = record {
-        accepted = fits.accepted;
-        thread = h;
-        room = writing_room v.writing (thread_inputs bytes xs t) (threads_from bytes xs (t + 1)) threads_go_on fits.room;
-      };
+    pub threads_next : Accepted bytes → start + length (values_of bytes xs) ≤ length before → ThreadToWrite bytes xs t at out counts
+    threads_next ok room = record {
+      thread = h;
+      room = writing_room v.writing (thread_inputs bytes xs t) (threads_from bytes xs (t + 1)) threads_go_on room;
       rows = v.rows;
-      fresh = v.fresh t (omega arith) (omega (arith, fits.accepted.few_threads));
+      fresh = v.fresh t (omega arith) (omega (arith, ok.few_threads));
     }
 
     pub threads_more : {out' : List ℕ} {counts' : List (List ℕ)} {r : ℕ} → ThreadWritten bytes xs t at out out' counts counts' r

@@ -3,12 +3,12 @@
 use Rattle.std.specs.Prelude.{ℕ, suc, ◌+◌, ◌%◌, ◌≤◌, ◌<◌, ◌≡◌, ◌≢◌, cond, List, [], ◌∷◌, ltb, get_or, set, length, replicate}
 use Rattle.model.specs.Limits.{most_threads, most_lines, most_blocks}
 use Rattle.model.specs.Lists.{numbers_from}
-use Rattle.model.specs.CaseFile.{kind_of, thread_count, switch_count, case_of}
+use Rattle.model.specs.CaseFile.{thread_count, switch_count, case_of}
 use Rattle.model.specs.Line.{guard_true, is_input}
 use Rattle.model.specs.Assignment.{assignment_of, was_run}
 use Rattle.model.specs.Schedule.{lines_in_block, decoded_values, all_decoded_values, decode}
 use Rattle.laws.specs.Accepted.{thread_lines}
-use Rattle.laws.specs.Written.{numbers_at, Put, ThreadRoom}
+use Rattle.laws.specs.Written.{numbers_at, Put}
 use Rattle.case_file.specs.declared.Record.{Record}
 use Rattle.case_file.specs.Records.{as_line}
 use Rattle.line.specs.LineReads.{reads_from}
@@ -33,7 +33,8 @@ AllCounts bytes xs counts = (t : ℕ) → t < thread_count bytes → CountsOf by
 
 -- Thread t has room for the values of its input lines from a place on, and none of its lines is counted yet.
 pub record ThreadToWrite (bytes xs : List ℕ) (t at : ℕ) (slice : List ℕ) (counts : List (List ℕ)) : Type 0 where
-  pub fits : ThreadRoom bytes t (at + length (thread_inputs bytes xs t)) slice
+  pub thread : t < thread_count bytes
+  pub room : at + length (thread_inputs bytes xs t) ≤ length slice
   pub rows : length counts ≡ most_threads
   pub fresh : get_or counts t [] ≡ replicate most_blocks 0
 
@@ -73,4 +74,4 @@ input_number l locals value = cond (guard_true (as_line l 0) (reads_from 0 0 0 l
 
 -- The schedule's numbers for a line: none unless it is an input.
 unfoldable pub own_numbers : Record → List ℕ → ℕ → List ℕ
-own_numbers l locals value = cond (is_input (kind_of l.kind)) (input_number l locals value ∷ []) []
+own_numbers l locals value = cond (is_input l.kind) (input_number l locals value ∷ []) []

@@ -5,53 +5,46 @@ ghost use Rattle.std.specs.Prelude.{◌≡◌, ℕ, ◌+◌, ◌%◌, ◌≤◌,
 ghost use Rattle.model.specs.Word.{bit};
 ghost use Rattle.model.specs.Limits.{most_schedule_numbers};
 ghost use Rattle.model.specs.Lists.{written_over};
-ghost use Rattle.model.specs.CaseFile.{kind_of, switch_count, case_of};
+ghost use Rattle.model.specs.CaseFile.{switch_count, case_of};
 ghost use Rattle.model.specs.Line.{is_input};
 ghost use Rattle.model.specs.Schedule.{schedule_size};
-ghost use Rattle.laws.specs.Accepted.{Accepted};
 ghost use Rattle.laws.specs.Bounded.{Bounded};
-ghost use Rattle.laws.specs.Written.{numbers_at, Put, RoomFor};
+ghost use Rattle.laws.specs.Written.{numbers_at, Put};
 ghost use Rattle.schedule.specs.Schedules.{schedule_of, values_of, lengths_in, with_line, run_value, input_number, own_numbers};
 ghost use Rattle.schedule.specs.Schedules.{FewCounted, ThreadToWrite, ThreadWritten, AllWritten};
 
 use assignment::{block_of, value_of, was_run};
 use case_file::{
-    Record, first_of, globals, kind_of, next_of, record_at, records, switches, threads,
+    Case, Record, first_of, globals, kind_of, next_of, record_at, records, switches, threads,
 };
 use line::{guarded, put_local, target_name};
-use model::{BLOCKS, LOCALS, THREADS};
+use model::{BLOCKS, Kind, LOCALS, THREADS};
 
 // The size of a schedule of an accepted case: each of its records is one line, so no chain is followed.
-pub fn schedule_size(case: &[u8]) -> usize
-    requires { Accepted case.now }
-    ensures { Bounded (schedule_size (case_of case.now)) most_schedule_numbers result }
+pub fn schedule_size(case: &Case<'_>) -> usize
+    ensures { Bounded (schedule_size (case_of case.now.bytes.now)) most_schedule_numbers result }
 {
-    let last = records(case);
-    let mut n = switches(case) as usize + 1;
-    let mut k = 1;
-    while k <= last {
-        n += inputs_of(kind_of(case, k));
-        k += 1;
+    let last = records(case.bytes);
+    let mut n = switches(case.bytes) as usize + 1;
+    for k in 1..last + 1 {
+        n += inputs_of(kind_of(case.bytes, k));
     }
     n
 }
 
 // 1 for an input line.
-fn inputs_of(kind: u16) -> usize
-    ensures { result ≡ bit (is_input (kind_of kind)) }
+fn inputs_of(kind: Kind) -> usize
+    ensures { result ≡ bit (is_input kind) }
 {
-    match kind {
-        4 => 1,
-        _ => 0,
-    }
+    usize::from(kind == Kind::Input)
 }
 
 // The schedule of an assignment, from the slice's start.
-pub fn write_schedule(case: &[u8], assignment: &[u16], schedule: &mut [u16])
-    requires { RoomFor case.now (schedule_size (case_of case.now)) schedule.old }
-    ensures { schedule.new ≡ written_over (schedule_of case.now assignment.now) schedule.old }
+pub fn write_schedule(case: &Case<'_>, assignment: &[u16], schedule: &mut [u16])
+    requires { schedule_size (case_of case.now.bytes.now) ≤ length schedule.old }
+    ensures { schedule.new ≡ written_over (schedule_of case.now.bytes.now assignment.now) schedule.old }
 {
-    let last = switches(case) as usize;
+    let last = switches(case.bytes) as usize;
     let counts = write_all_values(case, assignment, schedule, last + 1);
     write_lengths(case, schedule, &counts);
 }
@@ -63,30 +56,26 @@ fn next_thread(t: usize, many: usize) -> usize
     ensures { (i : ℕ) → t ≡ i % many → result ≡ (i + 1) % many }
 {
     let next = t + 1;
-    if next == many {
-        return 0;
-    }
-    next
+    if next == many { 0 } else { next }
 }
 
 // The lengths of the blocks, from the slice's start: block i's is the count of thread i modulo T.
-fn write_lengths(case: &[u8], schedule: &mut [u16], counts: &[[u16; BLOCKS]; THREADS])
-    requires { RoomFor case.now (switch_count case.now + 1) schedule.old }
-    ensures { schedule.new ≡ numbers_at schedule.old 0 (lengths_in case.now counts.now) }
+fn write_lengths(case: &Case<'_>, schedule: &mut [u16], counts: &[[u16; BLOCKS]; THREADS])
+    requires { switch_count case.now.bytes.now + 1 ≤ length schedule.old }
+    ensures { schedule.new ≡ numbers_at schedule.old 0 (lengths_in case.now.bytes.now counts.now) }
 {
-    let many = threads(case) as usize;
-    let last = switches(case) as usize;
-    let mut i = 0;
+    let many = threads(case.bytes) as usize;
+    let last = switches(case.bytes) as usize;
     let mut t = 0;
-    while i <= last {
+    for i in 0..last + 1 {
         schedule[i] = counts[t][i];
-        i += 1;
         t = next_thread(t, many);
     }
 }
 
 // One more line of thread t is in a block; what is no block changes nothing. Lines that were not run are counted as of block n + 1,
 // whose length is not written.
+#[tactic(auto, unfolding(crate::specs::Schedules::with_line))]
 fn count_line(counts: &mut [[u16; BLOCKS]; THREADS], t: usize, block: u16)
     requires { FewCounted counts.old t block }
     ensures { counts.new ≡ with_line counts.old t block }
@@ -98,9 +87,8 @@ fn count_line(counts: &mut [[u16; BLOCKS]; THREADS], t: usize, block: u16)
 }
 
 // The value of a line with this block number where it was run, else 0.
-fn run_value(case: &[u8], block: u16, value: u16) -> u16
-    requires { Accepted case.now }
-    ensures { result ≡ run_value case.now block value }
+fn run_value(case: &Case<'_>, block: u16, value: u16) -> u16
+    ensures { result ≡ run_value case.now.bytes.now block value }
 {
     if was_run(case, block) { value } else { 0 }
 }
@@ -113,6 +101,7 @@ fn input_number(l: Record, locals: &[u16; LOCALS], value: u16) -> u16
 }
 
 // The number of a line, if it is an input, at a place; the place after it.
+#[tactic(auto, using(laws::proofs::Writing::put_nothing, crate::proofs::Walks::put_one), unfolding(crate::specs::Schedules::own_numbers))]
 fn put_number(
     schedule: &mut [u16],
     at: usize,
@@ -123,9 +112,8 @@ fn put_number(
     requires { at + length (own_numbers l locals.now value) ≤ length schedule.old }
     ensures { Put (own_numbers l locals.now value) schedule.old at schedule.new result }
 {
-    let kind = l.kind;
-    match kind {
-        4 => {
+    match l.kind {
+        Kind::Input => {
             schedule[at] = input_number(l, locals, value);
             at + 1
         }
@@ -135,22 +123,22 @@ fn put_number(
 
 // The values of thread t's input lines, from a place on; its lines are counted by block on the way. The place after them.
 fn write_values(
-    case: &[u8],
+    case: &Case<'_>,
     assignment: &[u16],
     schedule: &mut [u16],
     counts: &mut [[u16; BLOCKS]; THREADS],
     start: usize,
     t: u16,
 ) -> usize
-    requires { ThreadToWrite case.now assignment.now t start schedule.old counts.old }
-    ensures { ThreadWritten case.now assignment.now t start schedule.old schedule.new counts.old counts.new result }
+    requires { ThreadToWrite case.now.bytes.now assignment.now t start schedule.old counts.old }
+    ensures { ThreadWritten case.now.bytes.now assignment.now t start schedule.old schedule.new counts.old counts.new result }
 {
-    let many = globals(case) as usize;
+    let many = globals(case.bytes) as usize;
     let mut locals = [0u16; LOCALS];
     let mut at = start;
-    let mut k = first_of(case, t as usize);
+    let mut k = first_of(case.bytes, t as usize);
     while k != 0 {
-        let l = record_at(case, t, k);
+        let l = record_at(case.bytes, t, k);
         let number = k as u16;
         let block = block_of(assignment, number);
         let value = value_of(assignment, number);
@@ -158,28 +146,26 @@ fn write_values(
         at = put_number(schedule, at, l, &locals, given);
         put_local(&mut locals, target_name(many, l), value);
         count_line(counts, t as usize, block);
-        k = next_of(case, k);
+        k = next_of(case.bytes, k);
     }
     at
 }
 
 // The values of all input lines, by thread and then by chain, from a place on; how many lines of each thread each block has.
 fn write_all_values(
-    case: &[u8],
+    case: &Case<'_>,
     assignment: &[u16],
     schedule: &mut [u16],
     start: usize,
 ) -> [[u16; BLOCKS]; THREADS]
-    requires { RoomFor case.now (start + length (values_of case.now assignment.now)) schedule.old }
-    ensures { AllWritten case.now assignment.now schedule.old start schedule.new result }
+    requires { start + length (values_of case.now.bytes.now assignment.now) ≤ length schedule.old }
+    ensures { AllWritten case.now.bytes.now assignment.now schedule.old start schedule.new result }
 {
-    let many = threads(case);
+    let many = threads(case.bytes);
     let mut counts = [[0u16; BLOCKS]; THREADS];
     let mut at = start;
-    let mut t = 0u16;
-    while t < many {
+    for t in 0..many {
         at = write_values(case, assignment, schedule, &mut counts, at, t);
-        t += 1;
     }
     counts
 }

@@ -9,29 +9,40 @@ use lib.ListN.{length, get_or, set, replicate, length-set}
 use lib.Seq.{get_or-set_same, get_or-set_other}
 use Rattle.model.specs.Limits.{most_threads, most_lines}
 use Rattle.model.specs.CaseFile.{Line, records, thread_count, first_record, next_record, record_field, line_of, kind_of, chains, case_of, lines_of}
+use Rattle.model.specs.declared.Kind.{Kind}
+use Rattle.model.specs.declared.Kind.TheVariants.{Compute, Store, Load, Input, Assert, Assume, Lock, Unlock}
 use Rattle.model.specs.Line.{is_input}
 use Rattle.laws.specs.Accepted.{Accepted, thread_lines, lines_from}
 use Rattle.laws.proofs.Chains.{threads_are, lines_from_end}
 use Rattle.laws.proofs.Views.{EqView, same, diff, eq_view}
 use Rattle.laws.proofs.Lines.{few_lines_from}
-use Rattle.line.proofs.KindNumbers.{input_other}
 use Rattle.schedule_check.specs.InputValues.{Inputs, put_next, put_lines, put_threads, ThreadPut, AllPut}
 use Rattle.schedule_check.specs.Ready.{InputsReady}
 
-module _ (schedule : List ℕ) (kind k : ℕ) (f f' : Inputs) where
-  pub next_is_input : (v : ℕ) → kind ≡ 4 → v ≡ get_or schedule f.used 0 → f'.given ≡ set f.given k v → f'.used ≡ f.used + 1
-      → f' ≡ put_next schedule (is_input (kind_of kind)) k f
-  unfolding put_next kind_of
+not_input : (kind : Kind) → (kind ≡ Input → ⊥) → is_input kind ≡ false
+not_input Compute other = refl
+not_input Store other = refl
+not_input Load other = refl
+not_input Input other = absurd (other refl)
+not_input Assert other = refl
+not_input Assume other = refl
+not_input Lock other = refl
+not_input Unlock other = refl
+
+module _ (schedule : List ℕ) (kind : Kind) (k : ℕ) (f f' : Inputs) where
+  pub next_is_input : (v : ℕ) → kind ≡ Input → v ≡ get_or schedule f.used 0 → f'.given ≡ set f.given k v → f'.used ≡ f.used + 1
+      → f' ≡ put_next schedule (is_input kind) k f
+  unfolding put_next
   next_is_input v e is is-given is-used =
       let put : f' ≡ record { given = set f.given k v; used = f.used + 1 } = λ i. record { given = is-given i; used = is-used i } in
       put ∙ rw (e, is)
 
-  pub next_is_other : (kind ≡ 4 → ⊥) → f'.given ≡ f.given → f'.used ≡ f.used → f' ≡ put_next schedule (is_input (kind_of kind)) k f
+  pub next_is_other : (kind ≡ Input → ⊥) → f'.given ≡ f.given → f'.used ≡ f.used → f' ≡ put_next schedule (is_input kind) k f
   unfolding put_next
   next_is_other other is-given is-used =
-      let stays : f' ≡ f = λ i. record { given = is-given i; used = is-used i } in stays ∙ rw (input_other kind (tt, other))
+      let stays : f' ≡ f = λ i. record { given = is-given i; used = is-used i } in stays ∙ rw (not_input kind other)
 
-next_used : (schedule : List ℕ) (input : Bool) (k : ℕ) (f : Inputs) → (put_next schedule input k f).used ≤ f.used + 1
+next_used : (schedule : List ℕ) (is : Bool) (k : ℕ) (f : Inputs) → (put_next schedule is k f).used ≤ f.used + 1
 unfolding put_next
 next_used schedule true k f = omega arith
 next_used schedule false k f = omega arith
@@ -49,12 +60,12 @@ pub record Putting (bytes schedule : List ℕ) (t : ℕ) (f₀ : Inputs) (k : �
   pub fits : f.used + length (lines_from bytes t k) ≤ f₀.used + most_lines
   pub counted : lines + length (lines_from bytes t k) ≡ length (thread_lines bytes t)
 
-module _ {bytes : List ℕ} {t start : ℕ} (ready : InputsReady bytes t start) (schedule : List ℕ) (f₀ : Inputs) where
+module _ {bytes : List ℕ} {t start : ℕ} (ok : Accepted bytes) (ready : InputsReady bytes t start) (schedule : List ℕ) (f₀ : Inputs) where
   few : length (thread_lines bytes t) ≤ most_lines
-  few = few_lines_from bytes ready.accepted t (first_record bytes t) (ready.accepted.firsts t ready.thread)
+  few = few_lines_from bytes ok t (first_record bytes t) (ok.firsts t ready.thread)
 
   pub putting_start : {first : ℕ} → first ≡ first_record bytes t → Putting bytes schedule t f₀ first f₀ 0
-  putting_start e = rw e (record { inside = ready.accepted.firsts t ready.thread; does = refl; fits = omega (arith, few); counted = omega arith })
+  putting_start e = rw e (record { inside = ok.firsts t ready.thread; does = refl; fits = omega (arith, few); counted = omega arith })
 
   module _ {k : ℕ} {f : Inputs} {lines : ℕ} (p : Putting bytes schedule t f₀ k f lines) where
     pub putting_few : lines ≤ most_lines
@@ -68,18 +79,18 @@ module _ {bytes : List ℕ} {t start : ℕ} (ready : InputsReady bytes t start) 
 
     module _ (some : k ≡ 0 → ⊥) {next : ℕ} (is_next : next ≡ next_record bytes k) where
       lines_are : lines_from bytes t k ≡ line_of bytes t k ∷ lines_from bytes t (next_record bytes k)
-      lines_are = ready.accepted.lines_go_on t k (omega arith) p.inside
+      lines_are = ok.lines_go_on t k (omega arith) p.inside
 
       pub fewer_lines : length (lines_from bytes t next) < length (lines_from bytes t k)
       fewer_lines = rw is_next (omega (arith, ap length lines_are))
 
-      pub putting_more : {kind : ℕ} {f' : Inputs} → kind ≡ record_field bytes k 1 → f' ≡ put_next schedule (is_input (kind_of kind)) k f
+      pub putting_more : {kind : Kind} {f' : Inputs} → kind ≡ kind_of (record_field bytes k 1) → f' ≡ put_next schedule (is_input kind) k f
           → Putting bytes schedule t f₀ next f' (lines + 1)
       unfolding put_lines
       putting_more {kind} {f'} is_kind is-f' =
           let is : f' ≡ put_next schedule (is_input (line_of bytes t k).kind) k f = rw is_kind at is-f' in
           rw is_next (record {
-            inside = ready.accepted.nexts k (omega arith) p.inside;
+            inside = ok.nexts k (omega arith) p.inside;
             does = ap (put_lines schedule (lines_from bytes t (next_record bytes k))) is
                 ∙ sym (ap (λ (ls : List Line). put_lines schedule ls f) lines_are) ∙ p.does;
             fits = omega (arith, p.fits, ap length lines_are, ap (λ (x : Inputs). x.used) is, next_used schedule (is_input (line_of bytes t k).kind) k f);

@@ -3,7 +3,9 @@
 -- Assumes nothing.
 use Rattle.std.specs.Prelude.{ℕ, zero, suc, ◌+◌, ◌-◌, ◌*◌, ◌%◌, Bool, true, false, cond, ◌&&◌, List, [], ◌∷◌, reverse, eqb, ltb, leb, get_or}
 use Rattle.model.specs.Limits.{local_count}
-use Rattle.model.specs.CaseFile.{Kind, compute, store, load, input, assert, assume, lock, unlock, Line, Case, item_count, lines_of, line_at}
+use Rattle.model.specs.CaseFile.{Line, Case, item_count, lines_of, line_at}
+use Rattle.model.specs.declared.Kind.{Kind}
+use Rattle.model.specs.declared.Kind.TheVariants.{Compute, Store, Load, Input, Assert, Assume, Lock, Unlock}
 use Rattle.model.specs.Line.{item_name, guard_name, operand_a, target_name, holder, unrun_value, is_input}
 use Rattle.model.specs.Table.{Row, table}
 use Rattle.model.specs.Assignment.{variables}
@@ -146,27 +148,27 @@ abbrev pub operands_of : (Term → Term → Formula) → Line → ℕ → ℕ �
 operands_of of l a b = of (operand l.a l.c a) (operand l.b l.c b)
 
 unfoldable pub guarded_in : Kind → Case → List ℕ → Line → ℕ → ℕ → Formula
-guarded_in compute case sources l a b = operands_of (is_expression sources (value_of l.number) l.op) l a b
-guarded_in store case sources l a b = operands_of (is_expression sources (value_of l.number) l.op) l a b
-guarded_in load case sources l a b = read_name case sources (value_of l.number) l (operand_a l) a
-guarded_in input case sources l a b = truth true
-guarded_in assert case sources l a b = operands_of (is_truth sources (value_of l.number) l.op) l a b
-guarded_in assume case sources l a b = operands_of (is_truth sources (value_of l.number) l.op) l a b
-guarded_in lock case sources l a b = equal (value_of l.number) (constant (holder l))
-guarded_in unlock case sources l a b = equal (value_of l.number) (constant 0)
+guarded_in Compute case sources l a b = operands_of (is_expression sources (value_of l.number) l.op) l a b
+guarded_in Store case sources l a b = operands_of (is_expression sources (value_of l.number) l.op) l a b
+guarded_in Load case sources l a b = read_name case sources (value_of l.number) l (operand_a l) a
+guarded_in Input case sources l a b = truth true
+guarded_in Assert case sources l a b = operands_of (is_truth sources (value_of l.number) l.op) l a b
+guarded_in Assume case sources l a b = operands_of (is_truth sources (value_of l.number) l.op) l a b
+guarded_in Lock case sources l a b = equal (value_of l.number) (constant (holder l))
+guarded_in Unlock case sources l a b = equal (value_of l.number) (constant 0)
 
 abbrev pub old_target : Case → List ℕ → Line → ℕ → Formula
 old_target case sources l target = read_name case sources (value_of l.number) l (target_name case.G l) target
 
 unfoldable pub guarded_out : Kind → Case → List ℕ → Line → ℕ → Formula
-guarded_out compute case sources l target = old_target case sources l target
-guarded_out store case sources l target = old_target case sources l target
-guarded_out load case sources l target = old_target case sources l target
-guarded_out input case sources l target = old_target case sources l target
-guarded_out assert case sources l target = equal (value_of l.number) (constant 1)
-guarded_out assume case sources l target = equal (value_of l.number) (constant 1)
-guarded_out lock case sources l target = old_target case sources l target
-guarded_out unlock case sources l target = old_target case sources l target
+guarded_out Compute case sources l target = old_target case sources l target
+guarded_out Store case sources l target = old_target case sources l target
+guarded_out Load case sources l target = old_target case sources l target
+guarded_out Input case sources l target = old_target case sources l target
+guarded_out Assert case sources l target = equal (value_of l.number) (constant 1)
+guarded_out Assume case sources l target = equal (value_of l.number) (constant 1)
+guarded_out Lock case sources l target = old_target case sources l target
+guarded_out Unlock case sources l target = old_target case sources l target
 
 -- "A line with block number n + 1 was not run"
 abbrev pub not_run : Case → ℕ → Formula
@@ -189,14 +191,14 @@ mutex_reads case sources x l guard target =
     (join implication (guard_true l guard) (read_name case sources x l (target_name case.G l) target))
 
 unfoldable pub demand_assertion : Kind → Case → List ℕ → Line → ℕ → ℕ → Formula
-demand_assertion compute case sources l guard target = truth true
-demand_assertion store case sources l guard target = truth true
-demand_assertion load case sources l guard target = truth true
-demand_assertion input case sources l guard target = truth true
-demand_assertion assert case sources l guard target = truth true
-demand_assertion assume case sources l guard target = equal (value_of l.number) (constant 1)
-demand_assertion lock case sources l guard target = mutex_reads case sources (constant 0) l guard target
-demand_assertion unlock case sources l guard target = truth true
+demand_assertion Compute case sources l guard target = truth true
+demand_assertion Store case sources l guard target = truth true
+demand_assertion Load case sources l guard target = truth true
+demand_assertion Input case sources l guard target = truth true
+demand_assertion Assert case sources l guard target = truth true
+demand_assertion Assume case sources l guard target = equal (value_of l.number) (constant 1)
+demand_assertion Lock case sources l guard target = mutex_reads case sources (constant 0) l guard target
+demand_assertion Unlock case sources l guard target = truth true
 
 unfoldable pub walk_back : Case → List ℕ → ℕ → ℕ → List Line → Formula
 walk_back case sources i g [] = same sources (block_value case i g) (value_before case i g)
@@ -213,14 +215,14 @@ unlocks_as_stranger case sources l guard target =
 -- A 7: "some assert has value 0", or, since Four, some line unlocks what its thread does not hold; or else others do. The earlier lines
 -- of the thread are given latest first.
 unfoldable pub or_breaks : Kind → Case → List ℕ → List Line → Line → Formula → Formula
-or_breaks compute case sources earlier l others = others
-or_breaks store case sources earlier l others = others
-or_breaks load case sources earlier l others = others
-or_breaks input case sources earlier l others = others
-or_breaks assert case sources earlier l others = join disjunction (is_zero (value_of l.number)) others
-or_breaks assume case sources earlier l others = others
-or_breaks lock case sources earlier l others = others
-or_breaks unlock case sources earlier l others =
+or_breaks Compute case sources earlier l others = others
+or_breaks Store case sources earlier l others = others
+or_breaks Load case sources earlier l others = others
+or_breaks Input case sources earlier l others = others
+or_breaks Assert case sources earlier l others = join disjunction (is_zero (value_of l.number)) others
+or_breaks Assume case sources earlier l others = others
+or_breaks Lock case sources earlier l others = others
+or_breaks Unlock case sources earlier l others =
     join disjunction (unlocks_as_stranger case sources l (copy_of case.G (guard_name l) earlier) (copy_of case.G (target_name case.G l) earlier)) others
 
 unfoldable pub some_breaks : Case → List ℕ → List Line → List Line → Formula → Formula

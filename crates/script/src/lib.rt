@@ -1,13 +1,6 @@
 // The script of a case: its constraints as SMT-LIB text, and what the calls that write it answer (specs/).
 #![tactic(auto)]
 
-// The text was written, or measured, and has so many bytes; or the case is refused, or the slice is too short.
-#[derive(Clone, Copy)]
-pub enum Spelled {
-    Text { bytes: usize },
-    Refused { number: u16, place: u16 },
-}
-
 // The answer in the document's numbers, as C has it: the refusal (0: none) and its place; else how many bytes the text has.
 #[repr(C)]
 #[derive(Clone, Copy)]

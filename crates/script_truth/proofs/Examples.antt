@@ -1,6 +1,7 @@
 -- The text of case A is the one that docs/SMT-TEXT.md shows, to the byte, and so are the two assertions with links that it shows, and the
 -- two about holders.
 -- Assumes nothing. No proof uses them: they hold the definitions of the text beside its document.
+use Rattle.std.specs.Prelude.{Ok}
 use mathlib.Core.Path.{◌≡◌, refl}
 use Prim.Native.Nat.{ℕ}
 use mathlib.Core.List.{List, [], ◌∷◌}
@@ -8,7 +9,6 @@ use lib.ListN.{take, drop}
 use Rattle.model.specs.CaseFile.{case_of}
 use Rattle.model.specs.Line.{unrun_value}
 use Rattle.model.specs.Accept.{verdict}
-use Rattle.model.specs.declared.Verdict.TheVariants.{Accepted}
 use Rattle.smt.specs.Spelling.{four_hex, term_text, formula_text, declaration, declarations, assertion, assertion_lines, script_text}
 use Rattle.script.specs.Assertions.{value_before, local_with, sources_from, sources_of, linked, same, blocks_from, read_before, read_item, read_name, guard_true, operand, comparison, operation, expression, facts_with, facts, with_facts, is_expression, is_truth, guarded_in, guarded_out, line_assertion, value_assertion, mutex_reads, demand_assertion, walk_back, unlocks_as_stranger, or_breaks, some_breaks, some_thread_breaks, assertion_of, assertions_of, script_of}
 use Rattle.script.specs.Text.{smt_text}
@@ -73,7 +73,7 @@ unfoldable pub linked_case : List ℕ
 unfolding file header rec bytes_of
 linked_case = file (header 2 1 1 0 1 0 0 0) (rec 2 4 0 0 0 0 0 0 (rec 3 2 0 0 0 0 0 0 (rec 0 3 0 1 0 0 0 0 [])))
 
-pub linked_case_accepted : verdict linked_case ≡ Accepted
+pub linked_case_accepted : verdict linked_case ≡ Ok tt
 unfolding computing linked_case
 linked_case_accepted = refl
 
@@ -91,7 +91,7 @@ unfolding file header rec bytes_of
 held_case = file (header 2 1 0 1 1 3 0 0)
     (rec 2 7 0 0 0 0 0 0 (rec 0 8 0 0 0 0 0 0 (rec 4 1 0 0 0 16 0 1 (rec 5 8 1 0 0 0 0 0 (rec 0 7 0 0 0 0 0 0 [])))))
 
-pub held_case_accepted : verdict held_case ≡ Accepted
+pub held_case_accepted : verdict held_case ≡ Ok tt
 unfolding computing held_case
 held_case_accepted = refl
 

@@ -10,7 +10,9 @@ use lib.Dec.{eqb, ltb}
 use borrow.Author.Tests.{lt-ltb, ne_eqb}
 use Rattle.model.specs.Word.{bit, nonzero}
 use Rattle.model.specs.Limits.{local_count, highest_op}
-use Rattle.model.specs.CaseFile.{Kind, compute, store, load, input, assert, assume, lock, unlock, Line, Case}
+use Rattle.model.specs.CaseFile.{Line, Case}
+use Rattle.model.specs.declared.Kind.{Kind}
+use Rattle.model.specs.declared.Kind.TheVariants.{Compute, Store, Load, Input, Assert, Assume, Lock, Unlock}
 use Rattle.model.specs.Line.{local_name, guard_name, name_of_a, has_expression, name_of_b, Reads, guard_true, apply, operand_value, expression}
 use Rattle.model.specs.Assignment.{Assignment, assignment_of}
 use Rattle.model.specs.Copies.{read_local, read_name}
@@ -35,14 +37,14 @@ cond_is_not_bit false = refl
 -- The operand a of a line that has an expression, and the operand b where op is not 0.
 name_of_a_lem : (kind : Kind) (a : ℕ) → has_expression kind ≡ true → name_of_a kind a ≡ local_name a
 unfolding name_of_a
-name_of_a_lem compute a has = refl
-name_of_a_lem store a has = refl
-name_of_a_lem load a has = absurd (true≢false (sym has))
-name_of_a_lem input a has = absurd (true≢false (sym has))
-name_of_a_lem assert a has = refl
-name_of_a_lem assume a has = refl
-name_of_a_lem lock a has = absurd (true≢false (sym has))
-name_of_a_lem unlock a has = absurd (true≢false (sym has))
+name_of_a_lem Compute a has = refl
+name_of_a_lem Store a has = refl
+name_of_a_lem Load a has = absurd (true≢false (sym has))
+name_of_a_lem Input a has = absurd (true≢false (sym has))
+name_of_a_lem Assert a has = refl
+name_of_a_lem Assume a has = refl
+name_of_a_lem Lock a has = absurd (true≢false (sym has))
+name_of_a_lem Unlock a has = absurd (true≢false (sym has))
 
 second_operand : (op x y y' : ℕ) → (op ≢ 0 → y ≡ y') → apply op x y ≡ apply op x y'
 unfolding apply

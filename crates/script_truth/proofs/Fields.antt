@@ -8,7 +8,9 @@ use native.Mathlib.Omega.{arith}
 use lib.Dec.{eqb, leb, ltb}
 use borrow.Author.Tests.{eqb-true, leb-true, ltb-true}
 use Rattle.model.specs.Limits.{local_count, most_globals, highest_guard, highest_op}
-use Rattle.model.specs.CaseFile.{Kind, compute, store, load, input, assert, assume, lock, unlock, Line, records, line_of}
+use Rattle.model.specs.CaseFile.{Line, records, line_of}
+use Rattle.model.specs.declared.Kind.{Kind}
+use Rattle.model.specs.declared.Kind.TheVariants.{Compute, Store, Load, Input, Assert, Assume, Lock, Unlock}
 use Rattle.model.specs.Accept.{expression_ok, only_operand_a, no_expression, kind_rule}
 use Rattle.laws.specs.Accepted.{Accepted}
 use Rattle.laws.proofs.Views.{and-true}
@@ -51,16 +53,16 @@ module _ (l : Line) (guard : l.guard ≤ highest_guard) where
 
   of_rule : (kind : Kind) (G M : ℕ) → G ≤ most_globals → kind_rule kind G M l ≡ true → Fields l
   unfolding kind_rule
-  of_rule compute G M few rule = of_expression (and-true (ltb l.target local_count) _ rule).rest
-  of_rule store G M few rule = of_expression (and-true (ltb l.target G) _ rule).rest
-  of_rule load G M few rule =
+  of_rule Compute G M few rule = of_expression (and-true (ltb l.target local_count) _ rule).rest
+  of_rule Store G M few rule = of_expression (and-true (ltb l.target G) _ rule).rest
+  of_rule Load G M few rule =
       let loaded = and-true (ltb l.a G) (only_operand_a l) (and-true (ltb l.target local_count) _ rule).rest in
       of_operand_a (omega (arith, ltb-true l.a G loaded.first)) loaded.rest
-  of_rule input G M few rule = of_no_expression (and-true (ltb l.target local_count) _ rule).rest
-  of_rule assert G M few rule = of_expression (and-true (eqb l.target 0) _ rule).rest
-  of_rule assume G M few rule = of_expression (and-true (eqb l.target 0) _ rule).rest
-  of_rule lock G M few rule = of_no_expression (and-true (ltb l.target M) _ rule).rest
-  of_rule unlock G M few rule = of_no_expression (and-true (ltb l.target M) _ rule).rest
+  of_rule Input G M few rule = of_no_expression (and-true (ltb l.target local_count) _ rule).rest
+  of_rule Assert G M few rule = of_expression (and-true (eqb l.target 0) _ rule).rest
+  of_rule Assume G M few rule = of_expression (and-true (eqb l.target 0) _ rule).rest
+  of_rule Lock G M few rule = of_no_expression (and-true (ltb l.target M) _ rule).rest
+  of_rule Unlock G M few rule = of_no_expression (and-true (ltb l.target M) _ rule).rest
 
 pub record_fields : (bytes : List ℕ) → Accepted bytes → (t k : ℕ) → 0 < k → k ≤ records bytes → Fields (line_of bytes t k)
 record_fields bytes ok t k low high =

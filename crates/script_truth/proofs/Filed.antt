@@ -1,6 +1,7 @@
 -- What is proved of the text of a case holds: the statement is specs/Filed.antt. What is left here is to bring together that the text is
 -- read back (`reading`'s Scripts and SpelledTable), that its script is true where the rows hold (Truth), and demand 3.
 -- Assumes nothing. This is where the other modules lead.
+use Rattle.std.specs.Prelude.{Ok, Err}
 use mathlib.Core.Path.{◌≡◌, refl, sym, ap, ◌∙◌}
 use mathlib.Core.Logic.{◌↔◌}
 use Prim.Native.Nat.{ℕ, suc, ◌≤◌, ◌<◌}
@@ -17,12 +18,10 @@ use Rattle.model.specs.CaseFile.{Case, case_of}
 use Rattle.model.specs.Accept.{verdict}
 use Rattle.model.specs.Assignment.{variables, assignment_of}
 use Rattle.model.specs.Table.{Row, table, numbers_of}
-use Rattle.model.specs.declared.Verdict.TheVariants.{Accepted}
 use Rattle.smt.specs.Script.{Script}
 use Rattle.smt.specs.Reader.{read_script}
 use Rattle.script.specs.Assertions.{assertions_of, sources_of, script_of}
 use Rattle.script.specs.Text.{smt_text, measured, spelled, spelled_into}
-use Rattle.script.specs.declared.Spelled.TheVariants.{Text, Refused}
 use Rattle.laws.proofs.OnCase.{on_accepted}
 use Rattle.reading.proofs.Scripts.{read_back}
 use Rattle.correspondence.specs.Demand3.{Yes, MeetsWithoutEights, Demand3}
@@ -32,6 +31,7 @@ use Rattle.correspondence.proofs.Demand3 as demand
 use Rattle.script_truth.specs.Filed.{text_room, written_text, Found, Model, script_without_eights, text_without_eights, Filed, ForEveryText}
 use Rattle.script_truth.proofs.SpelledTable.{script_spelled, without_spelled}
 use Rattle.script_truth.proofs.Truth.{each_assertion_agrees, first_false_is_first_row, true_is_every_row, true_without_is_rows, true_is_yes}
+use Rattle.model.specs.declared.Refusal.TheVariants as refusals
 
 one_for_each : (case : Case) (sources : List ℕ) (ws : List Row) → length (assertions_of case sources ws) ≡ length ws
 unfolding assertions_of
@@ -42,20 +42,20 @@ one_for_each case sources (w ∷ ws) = ap suc (one_for_each case sources ws)
 found_in : {read : Option Script} {script : Script} → read ≡ some script → (Says : Script → Type 0) → Found read Says ↔ Says script
 found_in is Says = rw is ((λ told. told), (λ told. told))
 
-module _ (bytes : List ℕ) (small : AllBelow 256 bytes) (accepted : verdict bytes ≡ Accepted) where
+module _ (bytes : List ℕ) (small : AllBelow 256 bytes) (accepted : verdict bytes ≡ Ok tt) where
   abbrev case : Case
   case = case_of bytes
 
   -- ---- What the calls write.
-  measures : measured bytes ≡ Text (text_room bytes)
+  measures : measured bytes ≡ Ok (text_room bytes)
   unfolding measured
   measures = on_accepted _ _ _ accepted
 
-  short_slice : (room : ℕ) → room < text_room bytes → spelled bytes room ≡ Refused 10 0
+  short_slice : (room : ℕ) → room < text_room bytes → spelled bytes room ≡ Err refusals.Short
   unfolding spelled
   short_slice room h = rw (on_accepted _ _ _ accepted, lt-leb _ _ h)
 
-  with_room : (room : ℕ) → text_room bytes ≤ room → spelled bytes room ≡ Text (text_room bytes)
+  with_room : (room : ℕ) → text_room bytes ≤ room → spelled bytes room ≡ Ok (text_room bytes)
   unfolding spelled
   with_room room h = rw (on_accepted _ _ _ accepted, le-leb _ _ h)
 

@@ -8,7 +8,9 @@ use mathlib.Core.List.{List}
 use lib.Dec.{eqb}
 use borrow.Author.Tests.{eq-eqb, ne_eqb}
 use Rattle.model.specs.Word.{bit, nonzero}
-use Rattle.model.specs.CaseFile.{Kind, compute, store, load, input, assert, assume, lock, unlock, Line, Case}
+use Rattle.model.specs.CaseFile.{Line, Case}
+use Rattle.model.specs.declared.Kind.{Kind}
+use Rattle.model.specs.declared.Kind.TheVariants.{Compute, Store, Load, Input, Assert, Assume, Lock, Unlock}
 use Rattle.model.specs.Line.{has_expression, operand_a, target_name, Reads, guard_true, expression, guarded_in_value, guarded_out_value, value_by, value_of}
 use Rattle.model.specs.Assignment.{Assignment, assignment_of}
 use Rattle.model.specs.Holds.{reads_with, demand_met}
@@ -72,14 +74,14 @@ module _ (case : Case) (xs sources : List ℕ) (l : Line) (fields : Fields l)
     in_value : (kind : Kind) → l.kind ≡ kind
         → meets (guarded_in kind case sources l a b) env ≡ eqb (α.value l.number) (guarded_in_value kind l reads)
     unfolding guarded_in guarded_in_value meets value tested assignment_of
-    in_value compute e = is_line_expression (ap has_expression e)
-    in_value store e = is_line_expression (ap has_expression e)
-    in_value load e = name_is_read case xs sources (Assertions.value_of l.number) l own (operand_a l) a
-    in_value input e = sym (eq-eqb (α.value l.number) (α.value l.number) refl)
-    in_value assert e = is_line_truth (ap has_expression e)
-    in_value assume e = is_line_truth (ap has_expression e)
-    in_value lock e = refl
-    in_value unlock e = refl
+    in_value Compute e = is_line_expression (ap has_expression e)
+    in_value Store e = is_line_expression (ap has_expression e)
+    in_value Load e = name_is_read case xs sources (Assertions.value_of l.number) l own (operand_a l) a
+    in_value Input e = sym (eq-eqb (α.value l.number) (α.value l.number) refl)
+    in_value Assert e = is_line_truth (ap has_expression e)
+    in_value Assume e = is_line_truth (ap has_expression e)
+    in_value Lock e = refl
+    in_value Unlock e = refl
 
     old_target_lem : meets (Assertions.old_target case sources l target) env ≡ eqb (α.value l.number) reads.target
     unfolding value assignment_of
@@ -87,14 +89,14 @@ module _ (case : Case) (xs sources : List ℕ) (l : Line) (fields : Fields l)
 
     out_value : (kind : Kind) → meets (guarded_out kind case sources l target) env ≡ eqb (α.value l.number) (guarded_out_value kind reads)
     unfolding guarded_out guarded_out_value meets value tested assignment_of
-    out_value compute = old_target_lem
-    out_value store = old_target_lem
-    out_value load = old_target_lem
-    out_value input = old_target_lem
-    out_value assert = refl
-    out_value assume = refl
-    out_value lock = old_target_lem
-    out_value unlock = old_target_lem
+    out_value Compute = old_target_lem
+    out_value Store = old_target_lem
+    out_value Load = old_target_lem
+    out_value Input = old_target_lem
+    out_value Assert = refl
+    out_value Assume = refl
+    out_value Lock = old_target_lem
+    out_value Unlock = old_target_lem
 
     pub line_value : meets (line_assertion case sources l guard a b target) env ≡ eqb (α.value l.number) (value_of l reads)
     unfolding line_assertion value_by meets
@@ -125,11 +127,11 @@ module _ (case : Case) (xs sources : List ℕ) (l : Line) (fields : Fields l)
     pub demand_value : (kind : Kind)
         → meets (demand_assertion kind case sources l guard target) env ≡ demand_met kind l demand_reads (α.value l.number)
     unfolding demand_assertion demand_met meets value tested assignment_of
-    demand_value compute = refl
-    demand_value store = refl
-    demand_value load = refl
-    demand_value input = refl
-    demand_value assert = refl
-    demand_value assume = refl
-    demand_value lock = mutex_value 0 ∙ lock_reads_zero (guard_true l demand_reads) demand_reads.target
-    demand_value unlock = refl
+    demand_value Compute = refl
+    demand_value Store = refl
+    demand_value Load = refl
+    demand_value Input = refl
+    demand_value Assert = refl
+    demand_value Assume = refl
+    demand_value Lock = mutex_value 0 ∙ lock_reads_zero (guard_true l demand_reads) demand_reads.target
+    demand_value Unlock = refl

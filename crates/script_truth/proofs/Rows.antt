@@ -10,7 +10,9 @@ use native.Mathlib.Omega.{arith}
 use lib.Dec.{eqb}
 use borrow.Author.Tests.{eq-eqb, ne_eqb}
 use Rattle.model.specs.Limits.{local_count}
-use Rattle.model.specs.CaseFile.{Kind, compute, store, load, input, assert, assume, lock, unlock, Line, Case, lines_of, item_count, line_at}
+use Rattle.model.specs.CaseFile.{Line, Case, lines_of, item_count, line_at}
+use Rattle.model.specs.declared.Kind.{Kind}
+use Rattle.model.specs.declared.Kind.TheVariants.{Compute, Store, Load, Input, Assert, Assume, Lock, Unlock}
 use Rattle.model.specs.Line.{no_name, item_name, guard_name, target_name, Reads, guard_true, holder, breaks}
 use Rattle.model.specs.Assignment.{Assignment, assignment_of, was_run}
 use Rattle.model.specs.Copies.{copy_of, reads_after, walk_back}
@@ -131,22 +133,22 @@ module _ (case : Case) (xs sources : List ℕ) where
 
   demand_agrees : (kind : Kind) (earlier : List Line) (l : Line) → Placed case α l → AllAgree (demand_rows kind case earlier l)
   unfolding demand_rows assertion_of holds meets value tested joined assignment_of
-  demand_agrees compute earlier l placed = tt
-  demand_agrees store earlier l placed = tt
-  demand_agrees load earlier l placed = tt
-  demand_agrees input earlier l placed = tt
-  demand_agrees assert earlier l placed = tt
-  demand_agrees assume earlier l placed = (
+  demand_agrees Compute earlier l placed = tt
+  demand_agrees Store earlier l placed = tt
+  demand_agrees Load earlier l placed = tt
+  demand_agrees Input earlier l placed = tt
+  demand_agrees Assert earlier l placed = tt
+  demand_agrees Assume earlier l placed = (
     rw placed.found (or_where_run case (α.block l.number) _ _
         (λ run. demand_value case xs sources l placed.fields (placed.own run) 0 0 l.kind)),
     tt,
   )
-  demand_agrees lock earlier l placed = (
+  demand_agrees Lock earlier l placed = (
     rw placed.found (or_where_run case (α.block l.number) _ _
         (λ run. demand_value case xs sources l placed.fields (placed.own run) _ _ l.kind)),
     tt,
   )
-  demand_agrees unlock earlier l placed = tt
+  demand_agrees Unlock earlier l placed = tt
 
   values_agree : (earlier ls : List Line) → AllLines (Placed case α) ls → AllAgree (value_rows case earlier ls)
   unfolding value_rows
@@ -195,7 +197,7 @@ module _ (case : Case) (xs sources : List ℕ) where
   module _ (few : local_count + item_count case ≤ no_name) where
     stranger_value : (earlier : List Line) (l : Line) → Placed case α l
         → meets (unlocks_as_stranger case sources l (copy_of case.G (guard_name l) earlier) (copy_of case.G (target_name case.G l) earlier)) env
-        ≡ breaks (was_run case (α.block l.number)) unlock l (reads_after case α earlier l) (α.value l.number)
+        ≡ breaks (was_run case (α.block l.number)) Unlock l (reads_after case α earlier l) (α.value l.number)
     unfolding unlocks_as_stranger breaks was_run meets value tested joined assignment_of
     stranger_value earlier l placed = go (eq_view (α.block l.number) (suc case.n))
       where
@@ -231,14 +233,14 @@ module _ (case : Case) (xs sources : List ℕ) where
         → meets (or_breaks kind case sources earlier l others) env
         ≡ (breaks (was_run case (α.block l.number)) kind l (reads_after case α earlier l) (α.value l.number) || meets others env)
     unfolding or_breaks breaks meets value tested joined assignment_of
-    or_break compute earlier l others placed = refl
-    or_break store earlier l others placed = refl
-    or_break load earlier l others placed = refl
-    or_break input earlier l others placed = refl
-    or_break assert earlier l others placed = refl
-    or_break assume earlier l others placed = refl
-    or_break lock earlier l others placed = refl
-    or_break unlock earlier l others placed = ap (λ (p : Bool). p || meets others env) (stranger_value earlier l placed)
+    or_break Compute earlier l others placed = refl
+    or_break Store earlier l others placed = refl
+    or_break Load earlier l others placed = refl
+    or_break Input earlier l others placed = refl
+    or_break Assert earlier l others placed = refl
+    or_break Assume earlier l others placed = refl
+    or_break Lock earlier l others placed = refl
+    or_break Unlock earlier l others placed = ap (λ (p : Bool). p || meets others env) (stranger_value earlier l placed)
 
     some_break : (earlier ls : List Line) (others : Formula) → AllLines (Placed case α) ls
         → meets (Assertions.some_breaks case sources earlier ls others) env ≡ (some_breaks case α earlier ls || meets others env)

@@ -12,7 +12,9 @@ use lib.ListN.{get_or}
 use borrow.Author.Tests.{eqb-false, ltb-true, leb-true}
 use Rattle.model.specs.Word.{word_size}
 use Rattle.model.specs.Limits.{local_count}
-use Rattle.model.specs.CaseFile.{Kind, compute, store, load, input, assert, assume, lock, unlock, Line, Case, item_count, line_at}
+use Rattle.model.specs.CaseFile.{Line, Case, item_count, line_at}
+use Rattle.model.specs.declared.Kind.{Kind}
+use Rattle.model.specs.declared.Kind.TheVariants.{Compute, Store, Load, Input, Assert, Assume, Lock, Unlock}
 use Rattle.model.specs.Line.{no_name, item_name, guard_name, operand_a, target_name, holder}
 use Rattle.model.specs.Assignment.{variables}
 use Rattle.model.specs.Copies.{latest, copy_of}
@@ -197,28 +199,28 @@ module _ (case : Case) (few : suc case.n < word_size) (initials : (g : ℕ) → 
 
       in_spelled : (kind : Kind) (a b : ℕ) → a ≤ case.R → b ≤ case.R → F (guarded_in kind case sources l a b)
       unfolding guarded_in
-      in_spelled compute a b p q = own_expression_spelled a b p q
-      in_spelled store a b p q = own_expression_spelled a b p q
-      in_spelled load a b p q = name_spelled (value_of l.number) own_spelled l (operand_a l) a line.number p
-      in_spelled input a b p q = tt
-      in_spelled assert a b p q = own_truth_spelled a b p q
-      in_spelled assume a b p q = own_truth_spelled a b p q
-      in_spelled lock a b p q = (own_spelled, line.own.holding)
-      in_spelled unlock a b p q = (own_spelled, omega arith)
+      in_spelled Compute a b p q = own_expression_spelled a b p q
+      in_spelled Store a b p q = own_expression_spelled a b p q
+      in_spelled Load a b p q = name_spelled (value_of l.number) own_spelled l (operand_a l) a line.number p
+      in_spelled Input a b p q = tt
+      in_spelled Assert a b p q = own_truth_spelled a b p q
+      in_spelled Assume a b p q = own_truth_spelled a b p q
+      in_spelled Lock a b p q = (own_spelled, line.own.holding)
+      in_spelled Unlock a b p q = (own_spelled, omega arith)
 
       old_target_spelled : (target : ℕ) → target ≤ case.R → F (old_target case sources l target)
       old_target_spelled target p = name_spelled (value_of l.number) own_spelled l (target_name case.G l) target line.number p
 
       out_spelled : (kind : Kind) (target : ℕ) → target ≤ case.R → F (guarded_out kind case sources l target)
       unfolding guarded_out
-      out_spelled compute target p = old_target_spelled target p
-      out_spelled store target p = old_target_spelled target p
-      out_spelled load target p = old_target_spelled target p
-      out_spelled input target p = old_target_spelled target p
-      out_spelled assert target p = (own_spelled, omega arith)
-      out_spelled assume target p = (own_spelled, omega arith)
-      out_spelled lock target p = old_target_spelled target p
-      out_spelled unlock target p = old_target_spelled target p
+      out_spelled Compute target p = old_target_spelled target p
+      out_spelled Store target p = old_target_spelled target p
+      out_spelled Load target p = old_target_spelled target p
+      out_spelled Input target p = old_target_spelled target p
+      out_spelled Assert target p = (own_spelled, omega arith)
+      out_spelled Assume target p = (own_spelled, omega arith)
+      out_spelled Lock target p = old_target_spelled target p
+      out_spelled Unlock target p = old_target_spelled target p
 
       line_spelled : (guard a b target : ℕ) → guard ≤ case.R → a ≤ case.R → b ≤ case.R → target ≤ case.R
           → F (line_assertion case sources l guard a b target)
@@ -244,14 +246,14 @@ module _ (case : Case) (few : suc case.n < word_size) (initials : (g : ℕ) → 
       demand_spelled : (kind : Kind) (guard target : ℕ) → guard ≤ case.R → target ≤ case.R
           → F (demand_assertion kind case sources l guard target)
       unfolding demand_assertion
-      demand_spelled compute guard target g p = tt
-      demand_spelled store guard target g p = tt
-      demand_spelled load guard target g p = tt
-      demand_spelled input guard target g p = tt
-      demand_spelled assert guard target g p = tt
-      demand_spelled assume guard target g p = (own_spelled, omega arith)
-      demand_spelled lock guard target g p = mutex_spelled 0 guard target (omega arith) g p
-      demand_spelled unlock guard target g p = tt
+      demand_spelled Compute guard target g p = tt
+      demand_spelled Store guard target g p = tt
+      demand_spelled Load guard target g p = tt
+      demand_spelled Input guard target g p = tt
+      demand_spelled Assert guard target g p = tt
+      demand_spelled Assume guard target g p = (own_spelled, omega arith)
+      demand_spelled Lock guard target g p = mutex_spelled 0 guard target (omega arith) g p
+      demand_spelled Unlock guard target g p = tt
 
       pub demand_assertion_spelled : (guard target : ℕ) → guard ≤ case.R → target ≤ case.R
           → F (join disjunction (not_run case l.number) (demand_assertion (line_at case l.number).kind case sources (line_at case l.number) guard target))
@@ -261,14 +263,14 @@ module _ (case : Case) (few : suc case.n < word_size) (initials : (g : ℕ) → 
       or_break_spelled : (kind : Kind) (earlier : List Line) (others : Formula) → copy_of case.G (guard_name l) earlier ≤ case.R
           → copy_of case.G (target_name case.G l) earlier ≤ case.R → F others → F (or_breaks kind case sources earlier l others)
       unfolding or_breaks unlocks_as_stranger
-      or_break_spelled compute earlier others g p rest = rest
-      or_break_spelled store earlier others g p rest = rest
-      or_break_spelled load earlier others g p rest = rest
-      or_break_spelled input earlier others g p rest = rest
-      or_break_spelled assert earlier others g p rest = ((own_spelled, omega arith), rest)
-      or_break_spelled assume earlier others g p rest = rest
-      or_break_spelled lock earlier others g p rest = rest
-      or_break_spelled unlock earlier others g p rest =
+      or_break_spelled Compute earlier others g p rest = rest
+      or_break_spelled Store earlier others g p rest = rest
+      or_break_spelled Load earlier others g p rest = rest
+      or_break_spelled Input earlier others g p rest = rest
+      or_break_spelled Assert earlier others g p rest = ((own_spelled, omega arith), rest)
+      or_break_spelled Assume earlier others g p rest = rest
+      or_break_spelled Lock earlier others g p rest = rest
+      or_break_spelled Unlock earlier others g p rest =
           ((not_run_spelled l.number line.number, mutex_spelled (holder l) _ _ line.own.holding g p), rest)
 
     -- ---- Constraints 6 and 7.

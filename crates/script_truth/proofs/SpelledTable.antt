@@ -1,5 +1,6 @@
 -- The script of an accepted case can be spelled: its variables are those that it declares, and its constants have 16 bits.
 -- Assumes nothing. Met again in Filed.
+use Rattle.std.specs.Prelude.{Ok}
 use mathlib.Core.Path.{◌≡◌}
 use Prim.Native.Nat.{ℕ, zero, suc, ◌+◌, ◌%◌, ◌≤◌, ◌<◌}
 use mathlib.Core.Bool.{Bool, true, false, cond}
@@ -8,13 +9,14 @@ use native.Mathlib.Omega.{arith}
 use lib.Dec.{eqb}
 use lib.ListN.{get_or, length}
 use Rattle.model.specs.Word.{word_size, AllBelow}
-use Rattle.model.specs.CaseFile.{Kind, compute, store, load, input, assert, assume, lock, unlock, Line, Case, case_of, lines_of, item_count, line_at}
+use Rattle.model.specs.CaseFile.{Line, Case, case_of, lines_of, item_count, line_at}
+use Rattle.model.specs.declared.Kind.{Kind}
+use Rattle.model.specs.declared.Kind.TheVariants.{Compute, Store, Load, Input, Assert, Assume, Lock, Unlock}
 use Rattle.model.specs.Line.{guard_name, operand_a, operand_b, target_name, visible, is_input}
 use Rattle.model.specs.Accept.{verdict}
 use Rattle.model.specs.Assignment.{variables}
 use Rattle.model.specs.Holds.{from_record}
 use Rattle.model.specs.Table.{Row, row, follow_row, stay_rows, line_order_rows, order_rows, demand_rows, value_rows, all_order_rows, all_value_rows, item_rows, block_rows, run_rows, goal_row, table, without_eights}
-use Rattle.model.specs.declared.Verdict.TheVariants as verdicts
 use Rattle.script.specs.Assertions.{most_sources, source, sources_from, sources_of, assertion_of, assertions_of, script_of}
 use Rattle.laws.specs.Accepted.{Accepted}
 use Rattle.laws.specs.Order.{AllLines, AllThreads}
@@ -112,19 +114,19 @@ module _ (case : Case) (few : suc case.n < word_size) (initials : (g : ℕ) → 
   demand_row_spelled : (kind : Kind) (earlier : List Line) (l : Line) → Spells case l → AllLines (Spells case) earlier
       → Rows (demand_rows kind case earlier l)
   unfolding demand_rows assertions_of assertion_of
-  demand_row_spelled compute earlier l line before = tt
-  demand_row_spelled store earlier l line before = tt
-  demand_row_spelled load earlier l line before = tt
-  demand_row_spelled input earlier l line before = tt
-  demand_row_spelled assert earlier l line before = tt
-  demand_row_spelled assume earlier l line before =
+  demand_row_spelled Compute earlier l line before = tt
+  demand_row_spelled Store earlier l line before = tt
+  demand_row_spelled Load earlier l line before = tt
+  demand_row_spelled Input earlier l line before = tt
+  demand_row_spelled Assert earlier l line before = tt
+  demand_row_spelled Assume earlier l line before =
       (demand_assertion_spelled case few initials sources known l line 0 0 (omega arith) (omega arith), tt)
-  demand_row_spelled lock earlier l line before = (
+  demand_row_spelled Lock earlier l line before = (
     demand_assertion_spelled case few initials sources known l line _ _
         (copy_low case (guard_name l) earlier before) (copy_low case (target_name case.G l) earlier before),
     tt,
   )
-  demand_row_spelled unlock earlier l line before = tt
+  demand_row_spelled Unlock earlier l line before = tt
 
   values_spelled : (earlier ls : List Line) → AllLines (Spells case) earlier → AllLines (Spells case) ls → Rows (value_rows case earlier ls)
   unfolding value_rows assertions_of assertion_of
@@ -186,7 +188,7 @@ all_spell case [] found known own = tt
 all_spell case (l ∷ ls) found known own =
     (record { found = found.0; number = known.0; own = own.0 }, all_spell case ls found.1 known.1 own.1)
 
-module _ (bytes : List ℕ) (accepted : verdict bytes ≡ verdicts.Accepted) where
+module _ (bytes : List ℕ) (accepted : verdict bytes ≡ Ok tt) where
   ok : Accepted bytes
   ok = accepted_of bytes accepted
 

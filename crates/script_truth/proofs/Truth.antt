@@ -2,6 +2,7 @@
 -- rows before hold, the first that is false is the first row that fails, and all are true exactly if the checker says yes. So it is
 -- without the 8s.
 -- Assumes nothing. Met again in Filed.
+use Rattle.std.specs.Prelude.{Ok}
 use mathlib.Core.Path.{◌≡◌, refl, sym, ◌∙◌}
 use mathlib.Core.Logic.{◌↔◌}
 use Prim.Native.Nat.{ℕ, suc, ◌≤◌}
@@ -16,7 +17,6 @@ use Rattle.model.specs.Assignment.{Assignment, variables, assignment_of}
 use Rattle.model.specs.Table.{Row, all_order_rows, all_value_rows, block_rows, run_rows, goal_row, table, without_eights}
 use Rattle.model.specs.Holds.{holds, first_failing}
 use Rattle.model.specs.Answers.{checked}
-use Rattle.model.specs.declared.Verdict.TheVariants as verdicts
 use Rattle.model.specs.declared.Checked.TheVariants.{Meets}
 use Rattle.smt.specs.Term.{Formula, meets}
 use Rattle.smt.specs.Script.{Script, environment, all_meet, first_false, script_true}
@@ -100,7 +100,7 @@ all_placed case α t low (l ∷ ls) found known ordered = (
   all_placed case α t (α.block l.number) ls found.1 known.1 ordered.1,
 )
 
-module _ (bytes : List ℕ) (accepted : verdict bytes ≡ verdicts.Accepted) (xs : List ℕ) where
+module _ (bytes : List ℕ) (accepted : verdict bytes ≡ Ok tt) (xs : List ℕ) where
   abbrev case : Case
   case = case_of bytes
 
@@ -171,7 +171,7 @@ module _ (bytes : List ℕ) (accepted : verdict bytes ≡ verdicts.Accepted) (xs
   pub true_without_is_rows : (script_true (script_without_eights case) xs ≡ true) ↔ AllHold case α (without_eights (table case))
   true_without_is_rows = true_is_rows (without_eights (table case)) (script_without_eights case) each_without_agrees
 
-  pub true_is_yes : length xs ≡ variables case → (script_true (script_of case) xs ≡ true) ↔ (checked bytes xs ≡ Meets)
+  pub true_is_yes : length xs ≡ variables case → (script_true (script_of case) xs ≡ true) ↔ (checked bytes xs ≡ Ok Meets)
   true_is_yes sized = (
     (λ told. meets_of_passes bytes xs (record {
       accepted = accepted;

@@ -1,7 +1,7 @@
 -- What is proved of the text of a case: document 02, One. It stands over what the calls write and answer, by the definitions that
 -- their contracts promise to equal, and over what the reader (`smt`'s Reader) finds in those bytes. It is proved in proofs/Filed.antt.
 -- Assumes nothing.
-use Rattle.std.specs.Prelude.{◌≡◌, ◌↔◌, ◌≢◌, ℕ, ◌≤◌, ◌<◌, true, List, length, take}
+use Rattle.std.specs.Prelude.{◌≡◌, ◌↔◌, ◌≢◌, ℕ, ◌≤◌, ◌<◌, true, List, length, take, Ok, Err}
 use Rattle.std.proofs.Math.Option.{Option, none, some}
 use Rattle.model.specs.Word.{AllBelow}
 use Rattle.model.specs.CaseFile.{Case, case_of}
@@ -10,7 +10,6 @@ use Rattle.model.specs.Assignment.{variables, assignment_of}
 use Rattle.model.specs.Table.{table, without_eights}
 use Rattle.model.specs.Runs.{KeepsRule}
 use Rattle.model.specs.Answers.{checked}
-use Rattle.model.specs.declared.Verdict.TheVariants.{Accepted}
 use Rattle.model.specs.declared.Checked.TheVariants.{Meets, Fails}
 use Rattle.smt.specs.Term.{bit_vectors}
 use Rattle.smt.specs.Script.{Script, environment, first_false, script_true}
@@ -18,10 +17,10 @@ use Rattle.smt.specs.Spelling.{script_text}
 use Rattle.smt.specs.Reader.{read_script}
 use Rattle.script.specs.Assertions.{sources_of, assertions_of, script_of}
 use Rattle.script.specs.Text.{smt_text, measured, spelled, spelled_into}
-use Rattle.script.specs.declared.Spelled.TheVariants.{Text, Refused}
 use Rattle.laws.specs.AllHold.{AllHold}
 use Rattle.correspondence.specs.Demand3.{Yes, DecodedAs, counted, AnsweredViolated, ViolatingRun}
 use Rattle.script_truth.specs.Agreement.{EachAgrees}
+use Rattle.model.specs.declared.Refusal.TheVariants as refusals
 
 -- How many bytes a slice must hold, and the text that the call leaves in a slice.
 abbrev pub text_room : List ℕ → ℕ
@@ -54,10 +53,10 @@ text_without_eights bytes = script_text (script_without_eights (case_of bytes))
 pub record Filed (bytes : List ℕ) : Type 0 where
   -- ---- The text and its script.
   -- The text is measured, and written where there is room; "A short slice meets refusal 10."
-  pub measures : measured bytes ≡ Text (text_room bytes)
-  pub short_slice : (room : ℕ) → room < text_room bytes → spelled bytes room ≡ Refused 10 0
+  pub measures : measured bytes ≡ Ok (text_room bytes)
+  pub short_slice : (room : ℕ) → room < text_room bytes → spelled bytes room ≡ Err refusals.Short
   pub written : (slice : List ℕ) → text_room bytes ≤ length slice
-      → (spelled bytes (length slice) ≡ Text (text_room bytes)) × (written_text bytes slice ≡ smt_text bytes)
+      → (spelled bytes (length slice) ≡ Ok (text_room bytes)) × (written_text bytes slice ≡ smt_text bytes)
   -- The reader finds the case's script in it, which has the case's variables and "one assertion for each constraint".
   pub read : read_script (smt_text bytes) ≡ some (script_of (case_of bytes))
   pub its_variables : (script_of (case_of bytes)).variables ≡ variables (case_of bytes)
@@ -69,10 +68,10 @@ pub record Filed (bytes : List ℕ) : Type 0 where
   -- "The text must be true of an assignment exactly when the table is",
   pub true_is_every_row : (xs : List ℕ) → TextTrue (smt_text bytes) xs ↔ AllHold (case_of bytes) (assignment_of (case_of bytes) xs) (table (case_of bytes))
   -- that is, for one with a number for each variable, when the checker says yes;
-  pub yes_is_true : (xs : List ℕ) → (checked bytes xs ≡ Meets) ↔ ((length xs ≡ variables (case_of bytes)) × TextTrue (smt_text bytes) xs)
+  pub yes_is_true : (xs : List ℕ) → (checked bytes xs ≡ Ok Meets) ↔ ((length xs ≡ variables (case_of bytes)) × TextTrue (smt_text bytes) xs)
   -- and the constraint that the checker names is the first assertion, from 1, that is false.
   pub no_names_the_first_false : (xs : List ℕ) (j : ℕ) →
-      (checked bytes xs ≡ Fails j)
+      (checked bytes xs ≡ Ok (Fails j))
       ↔ ((length xs ≡ variables (case_of bytes)) × (j ≢ 0) × (first_false (environment xs) 1 (script_of (case_of bytes)).assertions ≡ j))
   -- ---- The text and the runs: demand 3, with a model of the text where it says an assignment with yes, for these are the same.
   pub model_is_yes : (xs : List ℕ) → Model (smt_text bytes) xs ↔ Yes bytes xs
@@ -85,4 +84,4 @@ pub record Filed (bytes : List ℕ) : Type 0 where
 
 -- For every list of bytes that no refusal from 1 to 9 meets.
 abbrev pub ForEveryText : Type 0
-ForEveryText = (bytes : List ℕ) → AllBelow 256 bytes → verdict bytes ≡ Accepted → Filed bytes
+ForEveryText = (bytes : List ℕ) → AllBelow 256 bytes → verdict bytes ≡ Ok tt → Filed bytes

@@ -1,36 +1,39 @@
--- The assertions of the order rows. Assumes nothing. Met again in `put_own`, `put_eight`, `put_one` and `put_last`.
+-- The assertions of the order rows. Assumes nothing. Met again in `put_own`, `put_three`, `put_eight` and `put_at_most`.
 use mathlib.Core.Path.{◌≡◌}
-use Prim.Native.Nat.{ℕ, suc, ◌-◌, ◌*◌}
-use mathlib.Core.List.{List}
-use Rattle.smt.specs.Term.{bvurem, bvule, variable, constant, apply, test}
+use Prim.Native.Nat.{ℕ, ◌-◌, ◌*◌}
+use mathlib.Core.List.{List, ◌++◌, append_assoc}
+use Rattle.smt.specs.Term.{bvurem, bvule, disjunction, variable, constant, apply, test, Formula, join}
 use Rattle.smt.specs.Spelling.{ascii, term_text, formula_text}
-use Rattle.script.specs.Assertions.{equal, block_of}
-use Rattle.spell.specs.Spelt.{Spelt}
+use Rattle.script.specs.Assertions.{equal, block_of, not_run}
+use Rattle.spell.specs.declared.Writer.{Writer}
+use Rattle.spell.specs.Spelt.{Puts}
 use Rattle.spell.specs.Atoms.{atom_term, two_atoms}
 use Rattle.spell.specs.declared.Atom.{Atom}
 use Rattle.spell.specs.declared.Atom.TheVariants.{Variable, Constant}
-use Rattle.spell.proofs.Spelling.{spelt_then}
+use Rattle.spell.proofs.Spelling.{puts_then, puts_as}
+use Rattle.model.specs.CaseFile.{Case}
 
-module _ {d a b e f g : List ℕ} {start at place behind next r : ℕ} where
-  pub own_spelt : (k threads t : ℕ) {block : ℕ} → block ≡ 2 * (k - 1) → Spelt (ascii "(= (bvurem ") d start a at
-      → Spelt (two_atoms (Variable block) (Constant threads)) a at b place → Spelt (ascii " ") b place e behind → Spelt (term_text (constant t)) e behind f next
-      → Spelt (ascii ")") f next g r → Spelt (formula_text (equal (apply bvurem (block_of k) (constant threads)) (constant t))) d start g r
+module _ {d a b e f g : Writer} where
+  pub own_spelt : (k threads t : ℕ) {block : ℕ} → block ≡ 2 * (k - 1) → Puts (ascii "(= (bvurem ") d a
+      → Puts (two_atoms (Variable block) (Constant threads)) a b → Puts (ascii " ") b e → Puts (term_text (constant t)) e f
+      → Puts (ascii ")") f g → Puts (formula_text (equal (apply bvurem (block_of k) (constant threads)) (constant t))) d g
   unfolding formula_text term_text two_atoms
-  own_spelt k threads t is word both blank thread close = rw (← is) (spelt_then word (spelt_then both (spelt_then blank (spelt_then thread close))))
+  own_spelt k threads t is word both blank thread close = rw (← is) (puts_then word (puts_then both (puts_then blank (puts_then thread close))))
 
-pub together_spelt : (k j : ℕ) {block before : ℕ} → block ≡ 2 * (k - 1) → before ≡ 2 * (j - 1) → {d a : List ℕ} {start r : ℕ}
-    → Spelt (formula_text (equal (variable block) (variable before))) d start a r → Spelt (formula_text (equal (block_of k) (block_of j))) d start a r
+-- A 3 or an 8: what its first part is put as, and the second.
+pub or_spelt : (case : Case) (k : ℕ) (f : Formula) {d a b e : Writer} → Puts (ascii "(or " ++ (formula_text (not_run case k) ++ ascii " ")) d a
+    → Puts (formula_text f) a b → Puts (ascii ")") b e → Puts (formula_text (join disjunction (not_run case k) f)) d e
+unfolding formula_text
+or_spelt case k f unrun run close = puts_as (words (formula_text (not_run case k)) (formula_text f)) (puts_then unrun (puts_then run close))
+  where
+    words : (A B : List ℕ) → (ascii "(or " ++ (A ++ ascii " ")) ++ (B ++ ascii ")") ≡ ascii "(or " ++ (A ++ (ascii " " ++ (B ++ ascii ")")))
+    words A B = simp append_assoc
+
+pub together_spelt : (k j : ℕ) {block before : ℕ} → block ≡ 2 * (k - 1) → before ≡ 2 * (j - 1) → {d a : Writer}
+    → Puts (formula_text (equal (variable block) (variable before))) d a → Puts (formula_text (equal (block_of k) (block_of j))) d a
 together_spelt k j is was put = rw (is, was) at put
 
-module _ {d a b : List ℕ} {start at r : ℕ} where
-  at_most_spelt : (x y : Atom) → Spelt (ascii "(bvule ") d start a at → Spelt (two_atoms x y) a at b r → Spelt (formula_text (test bvule (atom_term x) (atom_term y))) d start b r
-  unfolding formula_text two_atoms
-  at_most_spelt x y word both = spelt_then word both
-
-  pub one_spelt : (k l : ℕ) {block next : ℕ} → block ≡ 2 * (k - 1) → next ≡ 2 * (l - 1) → Spelt (ascii "(bvule ") d start a at
-      → Spelt (two_atoms (Variable block) (Variable next)) a at b r → Spelt (formula_text (test bvule (block_of k) (block_of l))) d start b r
-  one_spelt k l {block} {next} is then word both = rw (← is, ← then) (at_most_spelt (Variable block) (Variable next) word both)
-
-  pub last_spelt : (k : ℕ) {n block unrun : ℕ} → block ≡ 2 * (k - 1) → unrun ≡ suc n → Spelt (ascii "(bvule ") d start a at
-      → Spelt (two_atoms (Variable block) (Constant unrun)) a at b r → Spelt (formula_text (test bvule (block_of k) (constant (suc n)))) d start b r
-  last_spelt k {block = block} {unrun = unrun} is most word both = rw (← is, ← most) (at_most_spelt (Variable block) (Constant unrun) word both)
+pub at_most_spelt : (x y : Atom) {d a b : Writer} → Puts (ascii "(bvule ") d a → Puts (two_atoms x y) a b
+    → Puts (formula_text (test bvule (atom_term x) (atom_term y))) d b
+unfolding formula_text two_atoms
+at_most_spelt x y word both = puts_then word both

@@ -1,6 +1,5 @@
--- The sources of a case, record by record. Assumes nothing. Met again in `one_more`, `with_source` and `sources_of`.
+-- The sources of a case, record by record. Assumes nothing. Met again in `one_more` and `sources_of`.
 use mathlib.Core.Path.{◌≡◌, refl, sym, ap, ◌∙◌}
-use mathlib.Core.Logic.{◌≢◌}
 use mathlib.Core.Bool.{Bool, true, false}
 use Prim.Native.Nat.{ℕ, zero, suc, ◌+◌, ◌-◌, ◌≤◌, ◌<◌}
 use mathlib.Core.List.{List, [], ◌∷◌, ◌++◌, append_assoc, append-nil}
@@ -9,12 +8,13 @@ use native.Mathlib.Numerals.{add-one}
 use borrow.Author.Tests.{lt-ltb, le-ltb}
 use lib.ListN.{length, set, replicate, length-append, length-set}
 use lib.Seq.{length-take-le, take-suc-set}
-use Rattle.model.specs.CaseFile.{Kind, kind_of, Line, Case, records, record_field, thread_count, first_record, next_record, line_of, chain, chains, case_of, sum_of_lines, sum_of_threads, has_number, find_line, find_thread, line_at}
+use Rattle.model.specs.CaseFile.{kind_of, Line, Case, records, record_field, thread_count, first_record, next_record, line_of, chain, chains, case_of, sum_of_lines, sum_of_threads, has_number, find_line, find_thread, line_at}
+use Rattle.model.specs.declared.Kind.{Kind}
+use Rattle.model.specs.declared.Kind.TheVariants.{Input}
 use Rattle.model.specs.Line.{is_input}
 use Rattle.laws.specs.Accepted.{Accepted, lines_from}
 use Rattle.laws.proofs.Views.{EqView, same, diff, eq_view, LtView, below, above, lt_view}
 use Rattle.laws.proofs.Lines.{find_nothing}
-use Rattle.line.proofs.KindNumbers.{input_other}
 use Rattle.script.specs.Assertions.{most_sources, source, sources_from, sources_of}
 use Rattle.linked.specs.declared.Sources.{Sources}
 use Rattle.linked.specs.Shape.{HasSources}
@@ -87,25 +87,18 @@ module _ {xs : List ℕ} {sources : Sources} (v : Found xs sources) where
   so_many : length xs ≡ sources.count
   so_many = ap length (sym v.are) ∙ length-take-le sources.count sources.records (omega (arith, v.few, v.room))
 
-  pub found_full : (k : ℕ) → most_sources ≤ sources.count → Found (with_source xs (kind_of 4) k) sources
-  unfolding with_source kind_of
+  pub found_full : (k : ℕ) → most_sources ≤ sources.count → Found (with_source xs Input k) sources
+  unfolding with_source
   found_full k h = rw (le-ltb (length xs) most_sources (omega (arith, so_many))) v
 
   pub found_more : (k : ℕ) → sources.count < most_sources
-      → Found (with_source xs (kind_of 4) k) (record { count = sources.count + 1; records = set sources.records sources.count k })
-  unfolding with_source kind_of
+      → Found (with_source xs Input k) (record { count = sources.count + 1; records = set sources.records sources.count k })
+  unfolding with_source
   found_more k h = rw (lt-ltb (length xs) most_sources (omega (arith, so_many))) (record {
     few = omega arith;
     room = length-set sources.records sources.count k ∙ v.room;
     are = rw add-one (take-suc-set sources.records sources.count k (omega (arith, v.room)) ∙ ap (λ (ys : List ℕ). ys ++ (k ∷ [])) v.are);
   })
-
-  pub found_other : (kind k : ℕ) → Unit {0} × kind ≢ 4 → Found (with_source xs (kind_of kind) k) sources
-  unfolding with_source
-  found_other kind k n = rw (input_other kind n) v
-
-pub found_input : {r : Sources} (xs : List ℕ) (kind k : ℕ) → kind ≡ 4 → Found (with_source xs (kind_of 4) k) r → Found (with_source xs (kind_of kind) k) r
-found_input xs kind k e v = rw e v
 
 -- The loop over the records, at record k.
 pub record Sourcing (bytes : List ℕ) (k : ℕ) (sources : Sources) : Type 0 where
@@ -122,17 +115,16 @@ sourcing_start bytes =
     record { some = omega arith; upto = omega arith; so_far = []; found = record { few = omega arith; room = refl; are = refl }; left = rw all }
 
 module _ {bytes : List ℕ} {k : ℕ} {sources : Sources} (v : Sourcing bytes k sources) where
-  pub sourcing_more : Accepted bytes → k ≤ records bytes → {kind : ℕ} {r : Sources} → kind ≡ record_field bytes k 1
-      → ((xs : List ℕ) → Found xs sources → Found (with_source xs (kind_of kind) k) r) → Sourcing bytes (k + 1) r
-  sourcing_more ok h {kind} ek with-this =
+  pub sourcing_more : Accepted bytes → k ≤ records bytes → {kind : Kind} {r : Sources} → kind ≡ kind_of (record_field bytes k 1)
+      → ((xs : List ℕ) → Found xs sources → Found (with_source xs kind k) r) → Sourcing bytes (k + 1) r
+  sourcing_more ok h {kind} is with-this =
       let more : records bytes + 1 - k ≡ suc (records bytes + 1 - suc k) = omega arith in
-      let κ : (line_at (case_of bytes) k).kind ≡ kind_of kind = kind_of_line bytes k ok v.some h ∙ ap kind_of (sym ek) in
       record {
         some = omega arith;
         upto = omega arith;
-        so_far = with_source v.so_far (kind_of kind) k;
+        so_far = with_source v.so_far kind k;
         found = with-this v.so_far v.found;
-        left = rw (add-one k) (source_step (case_of bytes) v.so_far (records bytes + 1 - suc k) k (kind_of kind) κ ∙ (rw more at v.left));
+        left = rw (add-one k) (source_step (case_of bytes) v.so_far (records bytes + 1 - suc k) k kind (kind_of_line bytes k ok v.some h ∙ sym is) ∙ (rw more at v.left));
       }
 
   pub sourcing_end : records bytes < k → HasSources (case_of bytes) sources

@@ -1,7 +1,7 @@
 -- The sources that are found so far.
 -- Assumes nothing.
 use Rattle.std.specs.Prelude.{◌≡◌, ℕ, ◌≤◌, cond, ◌&&◌, List, [], ◌∷◌, ◌++◌, ltb, length, take}
-use Rattle.model.specs.CaseFile.{Kind}
+use Rattle.model.specs.declared.Kind.{Kind}
 use Rattle.model.specs.Line.{is_input}
 use Rattle.script.specs.Assertions.{most_sources}
 use Rattle.linked.specs.declared.Sources.{Sources}

@@ -6,71 +6,70 @@ use mathlib.Core.List.{List}
 use native.Mathlib.Omega.{arith}
 use borrow.Author.Tests.{ne_eqb}
 use Rattle.model.specs.Limits.{most_lines}
-use Rattle.model.specs.CaseFile.{case_of, line_at}
+use Rattle.model.specs.CaseFile.{records, case_of, line_at}
 use Rattle.model.specs.Table.{Row}
 use Rattle.smt.specs.Term.{bvurem, bvule, disjunction, constant, apply, test, join}
 use Rattle.smt.specs.Spelling.{ascii, formula_text}
 use Rattle.script.specs.Assertions.{equal, block_of, sources_of, not_run, value_assertion, demand_assertion, some_thread_breaks, assertion_of}
-use Rattle.spell.specs.Spelt.{Spelt}
-use Rattle.linked.specs.declared.Shape.{Shape}
-use Rattle.linked.specs.declared.Sources.{Sources}
-use Rattle.line_threads.specs.Threads.{LineThere, RowOf}
+use Rattle.spell.specs.declared.Writer.{Writer}
+use Rattle.spell.specs.Spelt.{Puts}
+use Rattle.laws.specs.RecordNumber.{RecordNumber}
+use Rattle.line_threads.specs.Threads.{RowOf}
 use Rattle.walk_text.specs.Walk.{walk_copies}
-use Rattle.smt_text.specs.Rows.{row_assertion, RowKnown, RowHanded}
+use Rattle.smt_text.specs.Rows.{row_assertion, RowKnown}
 
 -- The line of a 4 or a 5.
-pub line_handed : {bytes xs previous threads : List ℕ} {shape : Shape} {sources : Sources} {count : ℕ} {w : Row} {kind : ℕ}
-    → RowHanded bytes shape sources xs count previous threads w → w.kind ≡ kind → kind ≤ 5 → LineThere bytes threads w.one
-line_handed h e low = record { accepted = h.handed.accepted; lines = h.handed.lines; number = h.known.of.line (omega (arith, e)) }
+pub line_numbered : {bytes previous : List ℕ} {w : Row} {kind : ℕ} → RowKnown bytes previous w → w.kind ≡ kind → kind ≤ 5 → RecordNumber (records bytes) w.one
+line_numbered known e low = known.of.line (omega (arith, e))
 
 -- What is spelled for a kind is the row's assertion.
 
-abbrev RowSpelt : List ℕ → Row → List ℕ → ℕ → List ℕ → ℕ → Type 0
-RowSpelt bytes w d start a r = Spelt (formula_text (row_assertion bytes w)) d start a r
+abbrev RowSpelt : List ℕ → Row → Writer → Writer → Type 0
+RowSpelt bytes w d a = Puts (formula_text (row_assertion bytes w)) d a
 
-module _ (bytes : List ℕ) (w : Row) {d a : List ℕ} {start r : ℕ} where
-  pub follows_spelt : w.kind ≡ 1 → Spelt (formula_text (test bvule (block_of w.one) (block_of w.two))) d start a r → RowSpelt bytes w d start a r
+module _ (bytes : List ℕ) (w : Row) {d a : Writer} where
+  pub follows_spelt : w.kind ≡ 1 → Puts (formula_text (test bvule (block_of w.one) (block_of w.two))) d a → RowSpelt bytes w d a
   unfolding assertion_of
   follows_spelt e put = rw e put
 
-  pub last_spelt : RowOf (case_of bytes) w → w.kind ≡ 2 → Spelt (formula_text (test bvule (block_of w.one) (constant (suc (case_of bytes).n)))) d start a r
-      → RowSpelt bytes w d start a r
+  pub last_spelt : RowOf (case_of bytes) w → w.kind ≡ 2 → Puts (formula_text (test bvule (block_of w.one) (constant (suc (case_of bytes).n)))) d a
+      → RowSpelt bytes w d a
   unfolding assertion_of
   last_spelt of e put = rw (e, of.last e) put
 
   pub thread_spelt : w.kind ≡ 3
-      → Spelt (formula_text (join disjunction (not_run (case_of bytes) w.one) (equal (apply bvurem (block_of w.one) (constant w.two)) (constant w.three)))) d start a r
-      → RowSpelt bytes w d start a r
+      → Puts (formula_text (join disjunction (not_run (case_of bytes) w.one) (equal (apply bvurem (block_of w.one) (constant w.two)) (constant w.three)))) d a
+      → RowSpelt bytes w d a
   unfolding assertion_of
   thread_spelt e put = rw e put
 
-  pub value_spelt : w.kind ≡ 4 → Spelt (formula_text (value_assertion (case_of bytes) (sources_of (case_of bytes)) w.one w.two w.three w.four w.five)) d start a r
-      → RowSpelt bytes w d start a r
+  pub value_spelt : w.kind ≡ 4 → Puts (formula_text (value_assertion (case_of bytes) (sources_of (case_of bytes)) w.one w.two w.three w.four w.five)) d a
+      → RowSpelt bytes w d a
   unfolding assertion_of
   value_spelt e put = rw e put
 
   pub demand_spelt : w.kind ≡ 5
-      → Spelt (formula_text (join disjunction (not_run (case_of bytes) w.one) (demand_assertion (line_at (case_of bytes) w.one).kind (case_of bytes) (sources_of (case_of bytes)) (line_at (case_of bytes) w.one) w.two w.three))) d start a r
-      → RowSpelt bytes w d start a r
+      → Puts (formula_text (join disjunction (not_run (case_of bytes) w.one) (demand_assertion (line_at (case_of bytes) w.one).kind (case_of bytes) (sources_of (case_of bytes)) (line_at (case_of bytes) w.one) w.two w.three))) d a
+      → RowSpelt bytes w d a
   unfolding assertion_of
   demand_spelt e put = rw e put
 
   pub walk_spelt : {previous : List ℕ} → RowKnown bytes previous w → w.kind ≡ 6
-      → Spelt (formula_text (walk_copies (case_of bytes) (sources_of (case_of bytes)) w.two w.one previous most_lines w.three)) d start a r → RowSpelt bytes w d start a r
+      → Puts (formula_text (walk_copies (case_of bytes) (sources_of (case_of bytes)) w.two w.one previous most_lines w.three)) d a → RowSpelt bytes w d a
   walk_spelt known e put = rw (known.walk e) at put
 
-  pub goal_spelt : w.kind ≡ 7 → Spelt (formula_text (some_thread_breaks (case_of bytes) (sources_of (case_of bytes)) (case_of bytes).threads)) d start a r → RowSpelt bytes w d start a r
+  pub goal_spelt : w.kind ≡ 7 → Puts (formula_text (some_thread_breaks (case_of bytes) (sources_of (case_of bytes)) (case_of bytes).threads)) d a → RowSpelt bytes w d a
   unfolding assertion_of
   goal_spelt e put = rw e put
 
   pub stay_spelt : w.kind ≡ 8
-      → Spelt (formula_text (join disjunction (not_run (case_of bytes) w.one) (equal (block_of w.one) (block_of w.two)))) d start a r → RowSpelt bytes w d start a r
+      → Puts (formula_text (join disjunction (not_run (case_of bytes) w.one) (equal (block_of w.one) (block_of w.two)))) d a → RowSpelt bytes w d a
   unfolding assertion_of
   stay_spelt e put = rw e put
 
   -- the test of a kind leaves what it is not
   pub other_spelt : (((((((Unit {0} × w.kind ≢ 1) × w.kind ≢ 2) × w.kind ≢ 3) × w.kind ≢ 4) × w.kind ≢ 5) × w.kind ≢ 6) × w.kind ≢ 7) × w.kind ≢ 8
-      → Spelt (ascii "false") d start a r → RowSpelt bytes w d start a r
+      → Puts (ascii "false") d a → RowSpelt bytes w d a
   unfolding assertion_of formula_text
   other_spelt n put =
       rw (

@@ -6,10 +6,7 @@ use Rattle.model.specs.CaseFile.{case_of}
 use Rattle.model.specs.Table.{Row}
 use Rattle.smt.specs.Term.{Formula}
 use Rattle.script.specs.Assertions.{sources_of, assertion_of}
-use Rattle.linked.specs.declared.Shape.{Shape}
-use Rattle.linked.specs.declared.Sources.{Sources}
 use Rattle.line_threads.specs.Threads.{RowOf}
-use Rattle.goal_text.specs.Goal.{CaseHanded}
 use Rattle.walk_text.specs.Walk.{walk_copies}
 
 -- The assertion of a row of a case.
@@ -20,8 +17,3 @@ row_assertion bytes w = assertion_of (case_of bytes) (sources_of (case_of bytes)
 pub record RowKnown (bytes previous : List ℕ) (w : Row) : Type 0 where
   pub of : RowOf (case_of bytes) w
   pub walk : w.kind ≡ 6 → walk_copies (case_of bytes) (sources_of (case_of bytes)) w.two w.one previous most_lines w.three ≡ row_assertion bytes w
-
--- A row of an accepted case, whose shape and sources, table, copies before each line and lines' threads are known.
-pub record RowHanded (bytes : List ℕ) (shape : Shape) (sources : Sources) (xs : List ℕ) (count : ℕ) (previous threads : List ℕ) (w : Row) : Type 0 where
-  pub handed : CaseHanded bytes shape sources xs count threads
-  pub known : RowKnown bytes previous w

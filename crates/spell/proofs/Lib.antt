@@ -1,4 +1,4 @@
 pub mod Spelling
 pub mod Places
-pub mod Numbers
+pub mod Closing
 pub mod Atoms

@@ -1,42 +1,51 @@
--- Places in a slice: the place after some bytes, and whether they fit. Assumes nothing. Met again in `past`, `fits` and `copy`.
-use mathlib.Core.Path.{◌≡◌, refl, sym}
+-- Places in a slice: the place after some bytes, and the slice that they are copied into. Assumes nothing. Met again in `put`.
+use mathlib.Core.Path.{◌≡◌, refl, sym, ap, ◌∙◌}
 use mathlib.Core.Bool.{Bool, true, false}
-use Prim.Native.Nat.{ℕ, ◌+◌, ◌-◌, ◌≤◌, ◌<◌}
-use mathlib.Core.List.{List}
+use Prim.Native.Nat.{ℕ, ◌+◌, ◌-◌, ◌≤◌, ◌<◌, min}
+use mathlib.Core.List.{List, ◌++◌}
 use native.Mathlib.Omega.{arith}
-use native.Mathlib.Numerals.{add-one}
-use lib.Dec.{leb}
-use lib.ListN.{length, get_or, set, drop, drop_of_length-le}
-use lib.Seq.{drop-cons}
-use borrow.Author.Tests.{leb-true, leb-false, le-leb, lt-leb}
+use borrow.Author.Tests.{ltb-true, ltb-false}
+use borrow.Rule.Slice.PartMut.{put_mid}
+use lib.Dec.{ltb}
+use lib.ListN.{length, take, drop}
+use lib.Seq.{sets-eq, length-take-le}
+use native.Mathlib.Nat.{min-eq_left, min-eq_right, le-min, min-le_left}
+use Rattle.std.proofs.lemmas.List.{length-drop, take_all}
+use Rattle.std.proofs.lemmas.Slice.{put_mid-paste}
 use Rattle.laws.specs.Written.{numbers_at}
-use Rattle.laws.proofs.Writing.{Writing, writing_start, writing_more, put_single, writing_end}
+use Rattle.spell.specs.Spelt.{top, capped, Spelt}
+use Rattle.spell.proofs.Spelling.{capped_below, capped_beyond, spelt_in}
 
-pub left_over : (room at many : ℕ) → at ≤ room → leb many (room - at) ≡ leb (at + many) room
-left_over room at many h = go (leb many (room - at)) refl
+-- The place after some bytes, which is not beyond the highest.
+module _ (place : ℕ) {end : ℕ} (e : end ≡ min place top) where
+  pub capped_min : end ≡ capped place
+  capped_min = go (ltb top place) refl
+    where
+      go : (p : Bool) → ltb top place ≡ p → end ≡ capped place
+      go true q = let h = ltb-true top place q in e ∙ min-eq_right (omega (arith, h)) ∙ sym (capped_beyond place h)
+      go false q = let h = ltb-false top place q in e ∙ min-eq_left h ∙ sym (capped_below place h)
+
+-- Bytes that are copied stand in their place.
+copied : (before bytes : List ℕ) (at many : ℕ) → many ≡ length bytes → at + length bytes ≤ length before → put_mid at many before bytes ≡ numbers_at before at bytes
+unfolding numbers_at
+copied before bytes at many e h =
+    put_mid-paste at many before bytes bytes (length bytes) refl (sym e) refl
+    ∙ ap (λ (here : List ℕ). take at before ++ here ++ drop (at + length bytes) before) (take_all (length bytes) bytes (omega arith))
+    ∙ sym (sets-eq bytes before at h)
+
+pub copied_in : {before bytes new : List ℕ} {at end : ℕ} → at ≤ top → end ≡ min (at + length bytes) top → end ≤ length before
+    → length new ≡ length (take (end - at) (drop at before)) → new ≡ bytes → Spelt bytes before at (put_mid at (end - at) before new) end
+copied_in {before} {bytes} {new} {at} {end} h e fits size is = rw is (spelt_in (copied before bytes at (end - at) (omega (arith, so_many)) (omega (arith, so_many, fits))) (capped_min (at + length bytes) e))
   where
-    go : (p : Bool) → leb many (room - at) ≡ p → p ≡ leb (at + many) room
-    go true e = sym (le-leb (at + many) room (omega (arith, leb-true many (room - at) e)))
-    go false e = sym (lt-leb (at + many) room (omega (arith, leb-false many (room - at) e)))
+    behind : at ≤ end
+    behind = rw e (le-min (omega (arith)) h)
 
-pub beyond : (room at many : ℕ) → room < at → false ≡ leb (at + many) room
-beyond room at many h = sym (lt-leb (at + many) room (omega (arith, h)))
+    so_many : length bytes ≡ end - at
+    so_many = sym (ap length is) ∙ size ∙ length-take-le (end - at) (drop at before) (omega (arith, fits, length-drop at before))
 
--- The loop that copies, at byte j.
-pub record Copying (bytes before : List ℕ) (start j : ℕ) (out : List ℕ) : Type 0 where
-  pub upto : j ≤ length bytes
-  pub writes : Writing bytes before start out (start + j) (drop j bytes)
-
-pub copying_start : (bytes before : List ℕ) (start : ℕ) → Copying bytes before start 0 before
-copying_start bytes before start =
-    let here : start + 0 ≡ start = omega arith in
-    record { upto = omega arith; writes = rw here (writing_start refl) }
-
-module _ {bytes before : List ℕ} {start j : ℕ} {out : List ℕ} (v : Copying bytes before start j out) where
-  pub copying_more : j < length bytes → Copying bytes before start (j + 1) (set out (start + j) (get_or bytes j 0))
-  copying_more h =
-      let next : start + (j + 1) ≡ start + j + 1 = omega arith in
-      record { upto = omega arith; writes = rw (next, add-one j) (writing_more v.writes (drop-cons bytes j 0 h) put_single) }
-
-  pub copying_end : length bytes ≤ j → out ≡ numbers_at before start bytes
-  copying_end h = (writing_end v.writes (drop_of_length-le bytes {i = j} h)).slice
+-- Nothing is copied where the bytes reach beyond the slice.
+pub spelt_beyond : {bytes before : List ℕ} {at end : ℕ} → end ≡ min (at + length bytes) top → length before < end → Spelt bytes before at before end
+spelt_beyond {bytes} {before} {at} {end} e far = record { same = refl; place = capped_min (at + length bytes) e; slice = λ fits few. absurd (omega (arith, fits, far, least)) }
+  where
+    least : end ≤ at + length bytes
+    least = rw e (min-le_left (at + length bytes) top)

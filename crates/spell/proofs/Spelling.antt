@@ -9,7 +9,8 @@ use lib.ListN.{length, length-append}
 use borrow.Author.Tests.{ltb-true, ltb-false, lt-ltb, le-ltb, leb-false}
 use Rattle.laws.specs.Written.{numbers_at}
 use Rattle.laws.proofs.Writing.{numbers_none, numbers_append, length_numbers}
-use Rattle.spell.specs.Spelt.{top, capped, Spelt}
+use Rattle.spell.specs.Spelt.{top, capped, Spelt, Puts}
+use Rattle.spell.specs.declared.Writer.{Writer}
 
 -- Places up to the highest are themselves; beyond it there is only one.
 pub capped_below : (x : ℕ) → x ≤ top → capped x ≡ x
@@ -51,7 +52,7 @@ spelt_nothing {out} {at} h = record { same = refl; place = sym (capped_below (at
     none : at + 0 ≡ at
     none = omega arith
 
-pub spelt_then : {xs ys d a x : List ℕ} {at place end : ℕ} → Spelt xs d at a place → Spelt ys a place x end → Spelt (xs ++ ys) d at x end
+spelt_then : {xs ys d a x : List ℕ} {at place end : ℕ} → Spelt xs d at a place → Spelt ys a place x end → Spelt (xs ++ ys) d at x end
 spelt_then {xs} {ys} {d} {a} {x} {at} {place} {end} first second = record {
   same = second.same ∙ first.same;
   place = second.place ∙ ap (λ (k : ℕ). capped (k + length ys)) first.place ∙ capped_add (at + length xs) (length ys) ∙ ap capped size;
@@ -65,26 +66,33 @@ spelt_then {xs} {ys} {d} {a} {x} {at} {place} {end} first second = record {
     size : at + length xs + length ys ≡ at + length (xs ++ ys)
     size = omega (arith, length-append xs ys)
 
--- All bytes, the slice before them and the place of the first; the slice so far, the place, and the bytes that are left.
-pub record Left (bytes before : List ℕ) (start : ℕ) (out : List ℕ) (at : ℕ) (rest : List ℕ) : Type 0 where
+-- The same of a writer.
+pub puts_nothing : {now : Writer} → now.at ≤ top → Puts [] now now
+puts_nothing h = record { spelt = spelt_nothing h; same_slice = refl }
+
+pub puts_then : {xs ys : List ℕ} {d a x : Writer} → Puts xs d a → Puts ys a x → Puts (xs ++ ys) d x
+puts_then first second = record { spelt = spelt_then first.spelt second.spelt; same_slice = second.same_slice ∙ first.same_slice }
+
+pub puts_as : {d a : Writer} {xs ys : List ℕ} → xs ≡ ys → Puts xs d a → Puts ys d a
+puts_as e put = rw (sym e) put
+
+-- All bytes, the writer before them and now, and the bytes that are left.
+pub record Remains (bytes : List ℕ) (before now : Writer) (rest : List ℕ) : Type 0 where
   pub begun : List ℕ
   pub whole : begun ++ rest ≡ bytes
-  pub spelt : Spelt begun before start out at
+  pub puts : Puts begun before now
 
-pub left_start : {bytes out : List ℕ} {at : ℕ} {rest : List ℕ} → at ≤ top → rest ≡ bytes → Left bytes out at out at rest
-left_start h e = record { begun = []; whole = e; spelt = spelt_nothing h }
+pub left_start : {bytes rest : List ℕ} {now : Writer} → now.at ≤ top → rest ≡ bytes → Remains bytes now now rest
+left_start h e = record { begun = []; whole = e; puts = puts_nothing h }
 
-module _ {bytes before : List ℕ} {start : ℕ} {out : List ℕ} {at : ℕ} {rest : List ℕ} (v : Left bytes before start out at rest) where
-  pub left_more : {here after out' : List ℕ} {at' : ℕ} → rest ≡ here ++ after → Spelt here out at out' at' → Left bytes before start out' at' after
+module _ {bytes rest : List ℕ} {before now : Writer} (v : Remains bytes before now rest) where
+  pub left_more : {here after : List ℕ} {then : Writer} → rest ≡ here ++ after → Puts here now then → Remains bytes before then after
   left_more {here} {after} e put = record {
     begun = v.begun ++ here;
     whole = append_assoc v.begun here after ∙ ap (λ (behind : List ℕ). v.begun ++ behind) (sym e) ∙ v.whole;
-    spelt = spelt_then v.spelt put;
+    puts = puts_then v.puts put;
   }
 
-  -- The bytes that are left are spelled, or none is left.
-  pub left_last : {here out' : List ℕ} {at' : ℕ} → rest ≡ here → Spelt here out at out' at' → Spelt bytes before start out' at'
-  left_last e put = rw (sym v.whole, e) (spelt_then v.spelt put)
-
-  pub left_end : rest ≡ [] → Spelt bytes before start out at
-  left_end e = rw (sym v.whole, e, append-nil v.begun) v.spelt
+  -- No byte is left.
+  pub left_end : rest ≡ [] → Puts bytes before now
+  left_end e = rw (sym v.whole, e, append-nil v.begun) v.puts

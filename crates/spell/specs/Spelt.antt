@@ -2,6 +2,7 @@
 -- Assumes nothing.
 use Rattle.std.specs.Prelude.{◌≡◌, cond, ℕ, ◌+◌, ◌≤◌, List, ltb, length}
 use Rattle.laws.specs.Written.{numbers_at}
+use Rattle.spell.specs.declared.Writer.{Writer}
 
 -- The highest place, and a place that is not beyond it.
 abbrev pub top : ℕ
@@ -15,3 +16,8 @@ pub record Spelt (bytes before : List ℕ) (at : ℕ) (after : List ℕ) (r : �
   pub same : length after ≡ length before
   pub place : r ≡ capped (at + length bytes)
   pub slice : at + length bytes ≤ length before → length before ≤ top → after ≡ numbers_at before at bytes
+
+-- These bytes are what a writer has spelled between two states, into the slice that it holds.
+pub record Puts (bytes : List ℕ) (before after : Writer) : Type 0 where
+  pub spelt : Spelt bytes before.text.now before.at after.text.now after.at
+  pub same_slice : after.text.ghost_name ≡ before.text.ghost_name

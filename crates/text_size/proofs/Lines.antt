@@ -7,7 +7,9 @@ use native.Mathlib.Omega.{arith}
 use lib.Dec.{eqb, ltb, leb}
 use lib.ListN.{length}
 use Rattle.model.specs.Limits.{local_count}
-use Rattle.model.specs.CaseFile.{Kind, compute, store, load, input, assert, assume, lock, unlock, Line, Case, line_at}
+use Rattle.model.specs.CaseFile.{Line, Case, line_at}
+use Rattle.model.specs.declared.Kind.{Kind}
+use Rattle.model.specs.declared.Kind.TheVariants.{Compute, Store, Load, Input, Assert, Assume, Lock, Unlock}
 use Rattle.model.specs.Line.{guard_name, operand_a, target_name, holder}
 use Rattle.model.specs.Copies.{copy_of}
 use Rattle.smt.specs.Term.{Test, equals, bvult, bvule, disjunction, implication, Term, constant, choice, apply, Formula, truth, test, negation, join, select}
@@ -88,44 +90,44 @@ module _ (case : Case) (sources : List ℕ) (few : length sources ≤ most_sourc
   -- A line with its guard true, with its guard false, the text of its 5 with what the line of an assertion has besides, and its part in
   -- the goal.
   abbrev in_most : ℕ → Kind → ℕ
-  in_most reads compute = 3976
-  in_most reads store = 3976
-  in_most reads load = reads
-  in_most reads input = 5
-  in_most reads assert = 4007
-  in_most reads assume = 4007
-  in_most reads lock = 17
-  in_most reads unlock = 17
+  in_most reads Compute = 3976
+  in_most reads Store = 3976
+  in_most reads Load = reads
+  in_most reads Input = 5
+  in_most reads Assert = 4007
+  in_most reads Assume = 4007
+  in_most reads Lock = 17
+  in_most reads Unlock = 17
 
   abbrev out_most : ℕ → Kind → ℕ
-  out_most reads compute = reads
-  out_most reads store = reads
-  out_most reads load = reads
-  out_most reads input = reads
-  out_most reads assert = 17
-  out_most reads assume = 17
-  out_most reads lock = reads
-  out_most reads unlock = reads
+  out_most reads Compute = reads
+  out_most reads Store = reads
+  out_most reads Load = reads
+  out_most reads Input = reads
+  out_most reads Assert = 17
+  out_most reads Assume = 17
+  out_most reads Lock = reads
+  out_most reads Unlock = reads
 
   abbrev pub demand_most : ℕ → Kind → ℕ
-  demand_most reads compute = 0
-  demand_most reads store = 0
-  demand_most reads load = 0
-  demand_most reads input = 0
-  demand_most reads assert = 0
-  demand_most reads assume = 50
-  demand_most reads lock = 62 + reads
-  demand_most reads unlock = 0
+  demand_most reads Compute = 0
+  demand_most reads Store = 0
+  demand_most reads Load = 0
+  demand_most reads Input = 0
+  demand_most reads Assert = 0
+  demand_most reads Assume = 50
+  demand_most reads Lock = 62 + reads
+  demand_most reads Unlock = 0
 
   abbrev pub part_most : ℕ → Kind → ℕ
-  part_most reads compute = 0
-  part_most reads store = 0
-  part_most reads load = 0
-  part_most reads input = 0
-  part_most reads assert = 23
-  part_most reads assume = 0
-  part_most reads lock = 0
-  part_most reads unlock = 64 + reads
+  part_most reads Compute = 0
+  part_most reads Store = 0
+  part_most reads Load = 0
+  part_most reads Input = 0
+  part_most reads Assert = 23
+  part_most reads Assume = 0
+  part_most reads Lock = 0
+  part_most reads Unlock = 64 + reads
 
   module _ (reads : ℕ) (own : (t : ℕ) → 371 + 366 * length (own_blocks case t) ≤ reads) where
     value_atomic : (k : ℕ) → Atomic (value_of k)
@@ -152,28 +154,28 @@ module _ (case : Case) (sources : List ℕ) (few : length sources ≤ most_sourc
 
     in_size : (κ : Kind) (l : Line) (a b : ℕ) → size (guarded_in κ case sources l a b) ≤ in_most reads κ
     unfolding guarded_in
-    in_size compute l a b = line_expression l a b
-    in_size store l a b = line_expression l a b
-    in_size load l a b = read_name_size case sources few reads own (value_of l.number) (value_atomic l.number) l (operand_a l) a
-    in_size input l a b = omega (arith, truth_most)
-    in_size assert l a b = line_truth l a b
-    in_size assume l a b = line_truth l a b
-    in_size lock l a b = is_number_size l.number (holder l)
-    in_size unlock l a b = is_number_size l.number 0
+    in_size Compute l a b = line_expression l a b
+    in_size Store l a b = line_expression l a b
+    in_size Load l a b = read_name_size case sources few reads own (value_of l.number) (value_atomic l.number) l (operand_a l) a
+    in_size Input l a b = omega (arith, truth_most)
+    in_size Assert l a b = line_truth l a b
+    in_size Assume l a b = line_truth l a b
+    in_size Lock l a b = is_number_size l.number (holder l)
+    in_size Unlock l a b = is_number_size l.number 0
 
     old_size : (l : Line) (target : ℕ) → size (read_name case sources (value_of l.number) l (target_name case.G l) target) ≤ reads
     old_size l target = read_name_size case sources few reads own (value_of l.number) (value_atomic l.number) l (target_name case.G l) target
 
     out_size : (κ : Kind) (l : Line) (target : ℕ) → size (guarded_out κ case sources l target) ≤ out_most reads κ
     unfolding guarded_out
-    out_size compute l target = old_size l target
-    out_size store l target = old_size l target
-    out_size load l target = old_size l target
-    out_size input l target = old_size l target
-    out_size assert l target = is_number_size l.number 1
-    out_size assume l target = is_number_size l.number 1
-    out_size lock l target = old_size l target
-    out_size unlock l target = old_size l target
+    out_size Compute l target = old_size l target
+    out_size Store l target = old_size l target
+    out_size Load l target = old_size l target
+    out_size Input l target = old_size l target
+    out_size Assert l target = is_number_size l.number 1
+    out_size Assume l target = is_number_size l.number 1
+    out_size Lock l target = old_size l target
+    out_size Unlock l target = old_size l target
 
     chosen_size : (f g h : Formula) → size (select f g h) ≡ 8 + size f + size g + size h
     unfolding size
@@ -200,11 +202,11 @@ module _ (case : Case) (sources : List ℕ) (few : length sources ≤ most_sourc
         implied : (f : Formula) → size f ≤ reads → size (join implication (guard_true l guard) f) ≤ 29 + reads
         implied f h = omega (arith, guard_size l guard)
 
-    pub assume_size : (l : Line) (guard target : ℕ) → size (demand_assertion assume case sources l guard target) ≤ 17
+    pub assume_size : (l : Line) (guard target : ℕ) → size (demand_assertion Assume case sources l guard target) ≤ 17
     unfolding demand_assertion
     assume_size l guard target = is_number_size l.number 1
 
-    pub lock_size : (l : Line) (guard target : ℕ) → size (demand_assertion lock case sources l guard target) ≤ 29 + reads
+    pub lock_size : (l : Line) (guard target : ℕ) → size (demand_assertion Lock case sources l guard target) ≤ 29 + reads
     unfolding demand_assertion
     lock_size l guard target = reads_size 0 l guard target
 
@@ -214,26 +216,26 @@ module _ (case : Case) (sources : List ℕ) (few : length sources ≤ most_sourc
 
     pub part_size : (κ : Kind) (earlier : List Line) (l : Line) (f : Formula) → size (or_breaks κ case sources earlier l f) ≤ part_most reads κ + size f
     unfolding or_breaks size
-    part_size compute earlier l f = omega arith
-    part_size store earlier l f = omega arith
-    part_size load earlier l f = omega arith
-    part_size input earlier l f = omega arith
-    part_size assert earlier l f = omega arith
-    part_size assume earlier l f = omega arith
-    part_size lock earlier l f = omega arith
-    part_size unlock earlier l f =
+    part_size Compute earlier l f = omega arith
+    part_size Store earlier l f = omega arith
+    part_size Load earlier l f = omega arith
+    part_size Input earlier l f = omega arith
+    part_size Assert earlier l f = omega arith
+    part_size Assume earlier l f = omega arith
+    part_size Lock earlier l f = omega arith
+    part_size Unlock earlier l f =
         omega (arith, stranger_size l (copy_of case.G (guard_name l) earlier) (copy_of case.G (target_name case.G l) earlier))
 
     -- All together: a 4 that has the most has no 5 and no read in the goal.
     kind_most : (κ : Kind) → reads ≤ 3800 → 371 ≤ reads → in_most reads κ + out_most reads κ + demand_most reads κ + part_most reads κ ≤ 3976 + reads
-    kind_most compute h k = omega arith
-    kind_most store h k = omega arith
-    kind_most load h k = omega arith
-    kind_most input h k = omega arith
-    kind_most assert h k = omega arith
-    kind_most assume h k = omega arith
-    kind_most lock h k = omega arith
-    kind_most unlock h k = omega arith
+    kind_most Compute h k = omega arith
+    kind_most Store h k = omega arith
+    kind_most Load h k = omega arith
+    kind_most Input h k = omega arith
+    kind_most Assert h k = omega arith
+    kind_most Assume h k = omega arith
+    kind_most Lock h k = omega arith
+    kind_most Unlock h k = omega arith
 
     -- The 4 of a line that its number finds.
     found_size : (l : Line) → line_at case l.number ≡ l → (guard a b target : ℕ)

@@ -9,7 +9,9 @@ use native.Mathlib.Nat.{mul-zero, mul-suc, mul-add}
 use lib.Dec.{eqb}
 use lib.ListN.{length, length-append, length-reverse}
 use Rattle.model.specs.Limits.{most_lines, most_items}
-use Rattle.model.specs.CaseFile.{Kind, compute, store, load, input, assert, assume, lock, unlock, Line, Case, lines_of, item_count, line_at, sum_of_lines}
+use Rattle.model.specs.CaseFile.{Line, Case, lines_of, item_count, line_at, sum_of_lines}
+use Rattle.model.specs.declared.Kind.{Kind}
+use Rattle.model.specs.declared.Kind.TheVariants.{Compute, Store, Load, Input, Assert, Assume, Lock, Unlock}
 use Rattle.model.specs.Line.{item_name, target_name, guard_name, operand_a, operand_b}
 use Rattle.model.specs.Copies.{latest, copy_of}
 use Rattle.model.specs.Holds.{from_record}
@@ -89,28 +91,28 @@ module _ (case : Case) (sources : List ℕ) where
 
       demand_size : (κ : Kind) (earlier : List Line) (l : Line) → (line_at case l.number).kind ≡ κ → rows_size (demand_rows κ case earlier l) ≤ demand_most case sources few reads κ
       unfolding demand_rows rows_size assertion_of
-      demand_size compute earlier l e = omega arith
-      demand_size store earlier l e = omega arith
-      demand_size load earlier l e = omega arith
-      demand_size input earlier l e = omega arith
-      demand_size assert earlier l e = omega arith
-      demand_size assume earlier l e =
+      demand_size Compute earlier l e = omega arith
+      demand_size Store earlier l e = omega arith
+      demand_size Load earlier l e = omega arith
+      demand_size Input earlier l e = omega arith
+      demand_size Assert earlier l e = omega arith
+      demand_size Assume earlier l e =
           let f = demand_assertion (line_at case l.number).kind case sources (line_at case l.number) 0 0 in
           omega (
             arith,
             or_not_run_size case l.number f,
-            of_kind assume (line_at case l.number) e 0 0 (assume_size case sources few reads own (line_at case l.number) 0 0),
+            of_kind Assume (line_at case l.number) e 0 0 (assume_size case sources few reads own (line_at case l.number) 0 0),
           )
-      demand_size lock earlier l e =
+      demand_size Lock earlier l e =
           let guard = copy_of case.G (guard_name l) earlier in
           let target = copy_of case.G (target_name case.G l) earlier in
           let f = demand_assertion (line_at case l.number).kind case sources (line_at case l.number) guard target in
           omega (
             arith,
             or_not_run_size case l.number f,
-            of_kind lock (line_at case l.number) e guard target (lock_size case sources few reads own (line_at case l.number) guard target),
+            of_kind Lock (line_at case l.number) e guard target (lock_size case sources few reads own (line_at case l.number) guard target),
           )
-      demand_size unlock earlier l e = omega arith
+      demand_size Unlock earlier l e = omega arith
 
       value_size : (earlier : List Line) (l : Line) → line_at case l.number ≡ l
           → 10 + size (assertion_of case sources (value_row case earlier l)) + rows_size (demand_rows l.kind case earlier l) + part_most case sources few reads l.kind ≤ 4059 + reads

@@ -1,6 +1,7 @@
 -- No text of an accepted case is longer than two million bytes. The more threads there are, the more lines there can be, and the fewer
 -- blocks a thread has; with four threads the bound is nearest.
 -- Assumes nothing.
+use Rattle.std.specs.Prelude.{Ok}
 use mathlib.Core.Path.{◌≡◌, subst}
 use Prim.Native.Nat.{ℕ, zero, suc, ◌+◌, ◌-◌, ◌*◌, ◌≤◌}
 use mathlib.Core.List.{List, [], ◌∷◌, ◌++◌}
@@ -12,7 +13,6 @@ use Rattle.model.specs.Assignment.{variables}
 use Rattle.model.specs.Accept.{verdict}
 use Rattle.model.specs.Listing.{decimal}
 use Rattle.model.specs.Table.{all_order_rows, all_value_rows, block_rows, run_rows, goal_row, table}
-use Rattle.model.specs.declared.Verdict.TheVariants as verdicts
 use Rattle.laws.specs.Accepted.{Accepted}
 use Rattle.laws.specs.Order.{AllThreads}
 use Rattle.laws.proofs.Accepted.{accepted_of}
@@ -110,5 +110,5 @@ module _ (bytes : List ℕ) (ok : Accepted bytes) where
       go (above g _) (above h _) = let e : thread_count bytes ≡ 4 = omega (arith, ok.few_threads) in
           omega (arith, text_size 1835 (λ t. omega (arith, own_blocks_lem 4 e t, ok.few_switches)) (omega arith), lines_are_few bytes ok, ok.few_records)
 
-pub text_at_most : (bytes : List ℕ) → verdict bytes ≡ verdicts.Accepted → length (smt_text bytes) ≤ most_text_bytes
+pub text_at_most : (bytes : List ℕ) → verdict bytes ≡ Ok tt → length (smt_text bytes) ≤ most_text_bytes
 text_at_most bytes accepted = by_threads bytes (accepted_of bytes accepted)

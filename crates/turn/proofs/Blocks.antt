@@ -2,8 +2,8 @@
 -- Assumes nothing.
 use mathlib.Core.Path.{◌≡◌, refl, sym, ap, ap₂, ◌∙◌}
 use mathlib.Core.Logic.{◌≢◌}
-use Prim.Native.Nat.{ℕ, zero, suc, ◌-◌, ◌≤◌, ◌<◌}
-use mathlib.Core.Bool.{true, false}
+use Prim.Native.Nat.{ℕ, zero, suc, ◌≤◌}
+use mathlib.Core.Bool.{Bool, true, false}
 use mathlib.Core.List.{List, [], ◌∷◌}
 use native.Mathlib.Omega.{arith}
 use lib.ListN.{length, drop, length-set}
@@ -16,7 +16,7 @@ use Rattle.laws.proofs.Chains.{lines_from_end}
 use Rattle.turn.specs.declared.Stand.{Stand}
 use Rattle.turn.specs.declared.Stand.TheVariants.{Running, Strayed, Stopped}
 use Rattle.turn.specs.declared.Turn.{Turn}
-use Rattle.turn.specs.TurnState.{memory_of, lines_left, given_by, is_running}
+use Rattle.turn.specs.TurnState.{memory_of, lines_left, given_by}
 use Rattle.turn.specs.Promises.{end_by, end_of, continued, end_after, trace_after, BlockRecorded}
 use Rattle.turn.proofs.Steps.{Stepped, StepTraced}
 
@@ -29,10 +29,11 @@ pub record Stepping (bytes givens : List ℕ) (t i steps : ℕ) (turn₀ : Turn)
   pub traced : trace_after bytes givens t i left turn trace ≡ trace_after bytes givens t i steps turn₀ trace₀
   pub size : length trace ≡ length trace₀
 
-running_of : (stand : Stand) → is_running stand ≡ true → stand ≡ Running
-running_of Running e = refl
-running_of (Strayed k) e = absurd (let z : ◌≡◌ {A = ℕ} 0 1 = cc in omega arith)
-running_of (Stopped k) e = absurd (let z : ◌≡◌ {A = ℕ} 0 1 = cc in omega arith)
+-- Whether the run goes on.
+abbrev is_running : Stand → Bool
+is_running Running = true
+is_running (Strayed k) = false
+is_running (Stopped k) = false
 
 never_running : {P : Type 0} (stand : Stand) → is_running stand ≡ false → stand ≡ Running → P
 never_running stand ended ran = absurd (let e : is_running Running ≡ false = rw ran at ended in let z : ◌≡◌ {A = ℕ} 0 1 = cc in omega arith)
@@ -95,27 +96,6 @@ module _ (bytes givens : List ℕ) (t i steps : ℕ) (turn₀ : Turn) (trace₀ 
   abbrev Recorded : Turn → List ℕ → Type 0
   Recorded after trace = BlockRecorded bytes givens t i steps turn₀ after trace₀ trace
 
-  module _ (low : turn₀.next ≤ records bytes) where
-    pub stepping_start : is_running turn₀.stand ≡ true → Stepping bytes givens t i steps turn₀ trace₀ steps turn₀ trace₀
-    stepping_start runs = record {
-      does = refl;
-      runs = running_of turn₀.stand runs;
-      moves = refl;
-      within = low;
-      traced = refl;
-      size = refl;
-    }
-
-    pub run_ended : is_running turn₀.stand ≡ false → Recorded turn₀ trace₀
-    run_ended ended = record {
-      ran = record {
-        does = halts bytes turn₀.stand turn₀ (next steps (lines_left bytes t turn₀)) ended;
-        moves = never_running turn₀.stand ended;
-        within = low;
-      };
-      traced = never_running turn₀.stand ended;
-    }
-
   module _ {left : ℕ} {turn : Turn} {trace : List ℕ} (g : Stepping bytes givens t i steps turn₀ trace₀ left turn trace) where
     pub block_ends : left ≤ 0 → Recorded turn trace
     block_ends none =
@@ -143,18 +123,12 @@ module _ (bytes givens : List ℕ) (t i steps : ℕ) (turn₀ : Turn) (trace₀ 
         }
 
     -- One line more.
-    module _ (ok : Accepted bytes) (some : 0 < left) (more : turn.next ≢ 0) (after : Turn) (s : Stepped bytes givens t turn after) where
-      abbrev n : ℕ
-      n = left - 1
-
+    module _ (ok : Accepted bytes) {n : ℕ} (left_is : left ≡ suc n) (more : turn.next ≢ 0) (after : Turn) (s : Stepped bytes givens t turn after) where
       abbrev later : List Line
       later = lines_from bytes t (next_record bytes turn.next)
 
       rest_is : lines_left bytes t turn ≡ line_of bytes t turn.next ∷ later
       rest_is = ok.lines_go_on t turn.next (omega arith) g.within
-
-      left_is : left ≡ suc n
-      left_is = omega arith
 
       does_line : continued (end_of bytes after) (next n later) ≡ end_after bytes givens t steps turn₀
       does_line =

@@ -2,94 +2,91 @@
 -- Assumes nothing.
 use mathlib.Core.Path.{◌≡◌, refl, sym, ap, ◌∙◌}
 use Prim.Native.Nat.{ℕ}
-use mathlib.Core.Bool.{true, false}
-use native.Mathlib.Omega.{arith}
+use mathlib.Core.Bool.{Bool, true, false, cond}
 use lib.Dec.{eqb}
 use Rattle.model.specs.Word.{nonzero}
-use Rattle.model.specs.CaseFile.{Kind, compute, store, load, input, assert, assume, lock, unlock, Line, kind_of}
-use Rattle.model.specs.Line.{Reads, no_name, name_of_target, guard_true, expression, guarded_in_value, guarded_out_value, value_by, value_of, stops, breaks, is_input, stray_input}
+use Rattle.model.specs.CaseFile.{Line}
+use Rattle.model.specs.declared.Kind.{Kind}
+use Rattle.model.specs.declared.Kind.TheVariants.{Compute, Store, Load, Input, Assert, Assume, Lock, Unlock}
+use Rattle.model.specs.Line.{Reads, no_name, name_of_target, guard_true, expression, guarded_in_value, guarded_out_value, value_by, value_of, stops, breaks, is_input, stray_input, unrun_stray}
 use Rattle.laws.proofs.Views.{and_false}
 use Rattle.laws.proofs.Breaking.{out_breaks_nothing}
-use Rattle.line.proofs.KindNumbers.{KindView, is5, is6, kind_view, Not6}
-use Rattle.turn.specs.declared.Effect.{Effect}
-use Rattle.turn.specs.Promises.{Effective}
+use Rattle.turn.specs.declared.Effect.TheVariants.{Strays, Stops, Writes}
+use Rattle.turn.specs.Promises.{effect_of}
 
-module _ (G : ℕ) (l : Line) (reads : Reads) (e : Effect) where
+module _ (G : ℕ) (l : Line) (reads : Reads) where
   -- its guard is true, and its kind is κ
-  module _ (on : guard_true l reads ≡ true) (κ : Kind) (kind : l.kind ≡ κ) where
-    pub in_does : e.strays ≡ false → e.stops ≡ stops κ l reads → e.breaks ≡ breaks true κ l reads e.value
-        → e.name ≡ name_of_target G κ l.target → e.value ≡ guarded_in_value κ l reads → Effective G l reads e
-    unfolding stray_input value_by
-    in_does strays' stops' breaks' name' value' =
-        let is : e.value ≡ value_of l reads = rw on (value' ∙ ap (λ (x : Kind). guarded_in_value x l reads) (sym kind)) in
-        record {
-          straying = rw on (strays' ∙ sym (and_false (is_input l.kind)));
-          stopping = stops' ∙ ap (λ (x : Kind). stops x l reads) (sym kind);
-          breaking = breaks' ∙ (λ i. breaks true (sym kind i) l reads (is i));
-          naming = rw on (name' ∙ ap (λ (x : Kind). name_of_target G x l.target) (sym kind));
-          giving = λ _. is;
-        }
+  module _ (on : guard_true l reads ≡ true) (κ : Kind) (kind : l.kind ≡ κ) (name value : ℕ) where
+    stays_in : stray_input l.kind l reads ≡ false
+    unfolding stray_input
+    stays_in = rw on (and_false (is_input l.kind))
+
+    pub in_writes : (broken : Bool) → stops κ l reads ≡ false → name ≡ name_of_target G κ l.target → value ≡ guarded_in_value κ l reads
+        → broken ≡ breaks true κ l reads value → Writes name value broken ≡ effect_of G l reads
+    unfolding value_by
+    in_writes broken goes' name' value' breaks' =
+        let stays = stays_in in
+        let goes : stops l.kind l reads ≡ false = ap (λ (x : Kind). stops x l reads) kind ∙ goes' in
+        let value'' : value ≡ guarded_in_value l.kind l reads = value' ∙ ap (λ (x : Kind). guarded_in_value x l reads) (sym kind) in
+        let name'' : name ≡ name_of_target G l.kind l.target = name' ∙ ap (λ (x : Kind). name_of_target G x l.target) (sym kind) in
+        let breaks'' : broken ≡ breaks true l.kind l reads (guarded_in_value l.kind l reads) = breaks' ∙ (λ i. breaks true (sym kind i) l reads (value'' i)) in
+        rw (stays, goes, on) (λ i. Writes (name'' i) (value'' i) (breaks'' i))
+
+    pub in_ends : (stop : Bool) → stop ≡ stops κ l reads → name ≡ name_of_target G κ l.target → (stop ≡ false → value ≡ guarded_in_value κ l reads)
+        → false ≡ breaks true κ l reads value → cond stop Stops (Writes name value false) ≡ effect_of G l reads
+    in_ends true stops' name' value' breaks' =
+        let stays = stays_in in
+        let ends : stops l.kind l reads ≡ true = ap (λ (x : Kind). stops x l reads) kind ∙ sym stops' in
+        rw (stays, ends)
+    in_ends false stops' name' value' breaks' = in_writes false (sym stops') name' (value' refl) breaks'
 
   -- its guard is false
-  module _ (off : guard_true l reads ≡ false) (stops' : e.stops ≡ false) (breaks' : e.breaks ≡ false) (name' : e.name ≡ no_name) where
-    out_goes : (κ : Kind) → false ≡ stops κ l reads
+  module _ (off : guard_true l reads ≡ false) where
+    out_goes : (κ : Kind) → stops κ l reads ≡ false
     unfolding stops
-    out_goes compute = refl
-    out_goes store = refl
-    out_goes load = refl
-    out_goes input = refl
-    out_goes assert = refl
-    out_goes assume = rw off
-    out_goes lock = rw off
-    out_goes unlock = refl
+    out_goes Compute = refl
+    out_goes Store = refl
+    out_goes Load = refl
+    out_goes Input = refl
+    out_goes Assert = refl
+    out_goes Assume = rw off
+    out_goes Lock = rw off
+    out_goes Unlock = refl
 
-    out_sound : (κ : Kind) → false ≡ breaks true κ l reads (value_by κ l reads)
+    out_sound : (κ : Kind) → breaks true κ l reads (value_by κ l reads) ≡ false
     unfolding value_by
-    out_sound κ = rw off (sym (out_breaks_nothing true κ l reads off))
+    out_sound κ = rw off (out_breaks_nothing true κ l reads off)
 
-    out_does : e.strays ≡ stray_input l.kind l reads → Effective G l reads e
-    out_does strays' = record {
-      straying = strays';
-      stopping = stops' ∙ out_goes l.kind;
-      breaking = breaks' ∙ out_sound l.kind;
-      naming = rw off name';
-      giving = λ on. absurd (let z : ◌≡◌ {A = ℕ} 0 1 = cc in omega arith);
-    }
+    pub out_does : (stray : Bool) → stray ≡ unrun_stray l.kind reads.given → cond stray Strays (Writes no_name 0 false) ≡ effect_of G l reads
+    unfolding stray_input unrun_stray
+    out_does stray is = by stray (is ∙ sym unrun)
+      where
+        unrun : stray_input l.kind l reads ≡ unrun_stray l.kind reads.given
+        unrun = rw off
 
-    pub out_input : l.kind ≡ input → e.strays ≡ nonzero reads.given → Effective G l reads e
-    unfolding stray_input
-    out_input kind strays' =
-        let is : stray_input input l reads ≡ nonzero reads.given = rw off in
-        out_does (strays' ∙ sym is ∙ ap (λ (x : Kind). stray_input x l reads) (sym kind))
+        goes : stops l.kind l reads ≡ false
+        goes = out_goes l.kind
 
-    pub out_other : is_input l.kind ≡ false → e.strays ≡ false → Effective G l reads e
-    unfolding stray_input
-    out_other other strays' = out_does (rw other strays')
+        sound : breaks true l.kind l reads (value_of l reads) ≡ false
+        sound = out_sound l.kind
 
--- With a true guard, an assume ends the run by its expression, and a lock by its mutex.
+        by : (stray : Bool) → stray ≡ stray_input l.kind l reads → cond stray Strays (Writes no_name 0 false) ≡ effect_of G l reads
+        by true e = rw (← e)
+        by false e = rw (← e, goes, sound, off)
+
+-- With a true guard, an assume ends the run by its expression and else has value 1, and a lock ends it by its mutex.
 module _ (l : Line) (reads : Reads) (on : guard_true l reads ≡ true) (value : ℕ) where
-  pub stops_assume : value ≡ expression l reads → eqb value 0 ≡ stops assume l reads
+  pub stops_assume : value ≡ expression l reads → eqb value 0 ≡ stops Assume l reads
   unfolding stops
   stops_assume is = rw (on, ← is)
 
-  pub stops_lock : value ≡ reads.target → nonzero value ≡ stops lock l reads
+  pub passed_assume : value ≡ expression l reads → eqb value 0 ≡ false → 1 ≡ guarded_in_value Assume l reads
+  unfolding guarded_in_value
+  passed_assume is some = rw (← is, some)
+
+  pub stops_lock : value ≡ reads.target → nonzero value ≡ stops Lock l reads
   unfolding stops
   stops_lock is = rw (on, ← is)
-
--- With a false guard, what is no assert and no assume keeps its target's value: here the last arm of a `match`.
-pub old_other : (k : ℕ) (reads : Reads) → Not6 k → reads.target ≡ guarded_out_value (kind_of k) reads
-unfolding guarded_out_value
-old_other k reads n = go (kind_of k) (kind_view k)
-  where
-    go : (κ : Kind) → KindView k κ → reads.target ≡ guarded_out_value κ reads
-    go compute v = refl
-    go store v = refl
-    go load v = refl
-    go input v = refl
-    go assert (is5 e) = absurd (n.0.1 e)
-    go assume (is6 e) = absurd (n.1 e)
-    go lock v = refl
-    go unlock v = refl
 
 -- With a false guard, this is the line's value.
 pub old_is_value : (l : Line) (reads : Reads) (value : ℕ) → value ≡ guarded_out_value l.kind reads → guard_true l reads ≡ false → value ≡ value_of l reads

@@ -1,26 +1,20 @@
 -- What a line, a step and a block ask and promise, in terms of the machine.
 -- Assumes nothing.
 use Rattle.std.specs.Prelude.{◌≡◌, ℕ, ◌≤◌, ◌<◌, Bool, true, cond, List, eqb, length, drop}
-use Rattle.model.specs.Limits.{most_records}
 use Rattle.model.specs.CaseFile.{Line, records, thread_count, case_of}
 use Rattle.model.specs.Line.{Reads, no_name, target_name, guard_true, value_of, stops, breaks, stray_input}
 use Rattle.model.specs.Machine.{Memory, BlockEnd, strayed, stopped, passed, run_block}
 use Rattle.model.specs.Runs.{block_steps}
 use Rattle.model.specs.Fill.{put_record, put_steps}
-use Rattle.laws.specs.Accepted.{Accepted}
-use Rattle.laws.specs.RecordNumber.{RecordNumber}
-use Rattle.case_file.specs.declared.Record.{Record}
-use Rattle.line.specs.CaseCounts.{OfCase}
-use Rattle.line.specs.declared.Counts.{Counts}
 use Rattle.turn.specs.declared.Effect.{Effect}
+use Rattle.turn.specs.declared.Effect.TheVariants.{Strays, Stops, Writes}
 use Rattle.turn.specs.declared.Stand.{Stand}
 use Rattle.turn.specs.declared.Stand.TheVariants.{Running, Strayed, Stopped}
 use Rattle.turn.specs.declared.Turn.{Turn}
 use Rattle.turn.specs.TurnState.{items_of, memory_of, lines_left, given_by}
 
--- The case is accepted, each of its records is given a value, and the turn of its thread t is at one of them or at the thread's end.
+-- Each record of the case is given a value, and the turn of its thread t is at one of them or at the thread's end.
 pub record Ready (bytes givens : List ℕ) (t : ℕ) (turn : Turn) : Type 0 where
-  pub accepted : Accepted bytes
   pub thread : t < thread_count bytes
   pub all_given : records bytes < length givens
   pub within : turn.next ≤ records bytes
@@ -40,22 +34,19 @@ continued (strayed k) next = strayed k
 continued (stopped k items) next = stopped k items
 continued (passed m note) next = next m note
 
--- What a line with these reads does, in a case with G globals: it writes where its guard is true.
-pub record Effective (G : ℕ) (l : Line) (reads : Reads) (e : Effect) : Type 0 where
-  pub straying : e.strays ≡ stray_input l.kind l reads
-  pub stopping : e.stops ≡ stops l.kind l reads
-  pub breaking : e.breaks ≡ breaks true l.kind l reads (value_of l reads)
-  pub naming : e.name ≡ cond (guard_true l reads) (target_name G l) no_name
-  pub giving : guard_true l reads ≡ true → e.value ≡ value_of l reads
+-- What a line with these reads does, in a case with G globals: where its guard is false, it writes 0 to no name.
+abbrev pub effect_of : ℕ → Line → Reads → Effect
+effect_of G l reads =
+    cond (stray_input l.kind l reads) Strays
+    (cond (stops l.kind l reads) Stops
+    (Writes (cond (guard_true l reads) (target_name G l) no_name) (cond (guard_true l reads) (value_of l reads) 0) (breaks true l.kind l reads (value_of l reads))))
+
+abbrev pub Effective : ℕ → Line → Reads → Effect → Type 0
+Effective G l reads e = e ≡ effect_of G l reads
 
 -- The same, where the line's guard is so.
 abbrev pub Does : Bool → ℕ → Line → Reads → Effect → Type 0
 Does on G l reads e = guard_true l reads ≡ on → Effective G l reads e
-
--- A record of a case with such counts, and its number.
-pub record Numbered (k : ℕ) (counts : Counts) (l : Record) : Type 0 where
-  pub number : RecordNumber most_records k
-  pub of_case_lem : OfCase counts l
 
 -- The block number and the value of a line with these reads, record k, go to the trace, if `value` is its value where its guard is true.
 abbrev pub LineTraced : ℕ → ℕ → Line → Reads → ℕ → List ℕ → List ℕ → Type 0

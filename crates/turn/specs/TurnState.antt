@@ -1,11 +1,9 @@
 -- A thread's turn as the code holds it, and what it stands for in the machine.
 -- Assumes nothing.
-use Rattle.std.specs.Prelude.{ℕ, Bool, true, false, List, get_or, take}
+use Rattle.std.specs.Prelude.{ℕ, List, get_or, take}
 use Rattle.model.specs.CaseFile.{Line, case_of, item_count}
 use Rattle.model.specs.Machine.{Memory}
 use Rattle.laws.specs.Accepted.{lines_from}
-use Rattle.turn.specs.declared.Stand.{Stand}
-use Rattle.turn.specs.declared.Stand.TheVariants.{Running, Strayed, Stopped}
 use Rattle.turn.specs.declared.Turn.{Turn}
 
 abbrev pub items_of : List ℕ → List ℕ → List ℕ
@@ -21,9 +19,3 @@ lines_left bytes t turn = lines_from bytes t turn.next
 -- The values given, by record number.
 abbrev pub given_by : List ℕ → ℕ → ℕ
 given_by givens k = get_or givens k 0
-
--- Whether the run goes on.
-abbrev pub is_running : Stand → Bool
-is_running Running = true
-is_running (Strayed k) = false
-is_running (Stopped k) = false

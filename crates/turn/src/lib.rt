@@ -2,22 +2,20 @@
 // its blocks are methods that hand the next turn back.
 #![tactic(auto)]
 
-ghost use Rattle.std.specs.Prelude.{◌≡◌, true, false, ℕ, List};
-ghost use Rattle.model.specs.Limits.{most_records};
-ghost use Rattle.model.specs.CaseFile.{kind_of};
-ghost use Rattle.model.specs.Line.{guarded_out_value};
+ghost use Rattle.std.specs.Prelude.{◌≡◌, ◌<◌, true, false, ℕ, if◌then◌else◌};
+ghost use Rattle.model.specs.Limits.{most_records, most_threads};
+ghost use Rattle.model.specs.Line.{guarded_out_value, unrun_stray};
 ghost use Rattle.model.specs.Fill.{put_record};
 ghost use Rattle.laws.specs.RecordNumber.{RecordNumber};
 ghost use Rattle.case_file.specs.Records.{as_line};
-ghost use Rattle.line.specs.CaseCounts.{OfCase};
-ghost use Rattle.line.specs.LineReads.{reads_by};
-ghost use Rattle.line.specs.declared.Counts.{Counts};
-ghost use Rattle.turn.specs.TurnState.{is_running};
-ghost use Rattle.turn.specs.Promises.{Ready, Does, Effective, Numbered, LineTraced, gone_on, BlockRecorded};
+ghost use Rattle.line.specs.SeenReads.{reads_in};
+ghost use Rattle.line.specs.declared.Seen.{Seen};
+ghost use Rattle.turn.specs.declared.Effect.TheVariants as effects;
+ghost use Rattle.turn.specs.Promises.{Ready, Does, Effective, LineTraced, gone_on, BlockRecorded};
 
-use case_file::Record;
-use line::Counts;
-use model::{ITEMS, LOCALS, NAMES};
+use case_file::{Case, Record};
+use line::{Counts, Seen};
+use model::{ITEMS, Kind, LOCALS, NAMES};
 
 // How the run stands: it goes on, or it met an input of refusal 14, or a line that ended it.
 #[derive(Clone, Copy)]
@@ -28,7 +26,7 @@ pub enum Stand {
 }
 
 // The thread's next record, 0 at its end, and its locals; the items, how the run stands, and the record of the first line that
-// violates, 0 while there is none.
+// violates. That is 0 while there is none, and no Option: it is the number `note` of model's Machine.run_block.
 #[derive(Clone, Copy)]
 pub struct Turn {
     pub next: usize,
@@ -38,141 +36,107 @@ pub struct Turn {
     pub note: u16,
 }
 
-// What a line does: whether it strays, whether it ends the run, whether it violates, the name that it writes, and the value that
-// it writes there.
+// What a line does: it strays, or it ends the run, or it writes a value to a name and may violate.
 #[derive(Clone, Copy)]
-pub struct Effect {
-    pub strays: bool,
-    pub stops: bool,
-    pub breaks: bool,
-    pub name: usize,
-    pub value: u16,
+pub enum Effect {
+    Strays,
+    Stops,
+    Writes {
+        name: usize,
+        value: u16,
+        breaks: bool,
+    },
 }
 
 // A name gets a value.
 fn put(name: usize, value: u16) -> Effect
-    ensures { result ≡ record { strays = false; stops = false; breaks = false; name = name; value = value } }
+    ensures { result ≡ effects.Writes name value false }
 {
-    Effect {
-        strays: false,
-        stops: false,
-        breaks: false,
+    Effect::Writes {
         name,
         value,
+        breaks: false,
     }
 }
 
-// A mutex is freed, by a stranger or by its holder.
-fn free(mutex: usize, stranger: bool) -> Effect
-    ensures { result ≡ record { strays = false; stops = false; breaks = stranger; name = mutex; value = 0 } }
+// A name gets a value, unless the line ends the run.
+fn put_unless(stops: bool, name: usize, value: u16) -> Effect
+    ensures { result ≡ (if stops then effects.Stops else effects.Writes name value false) }
 {
-    Effect {
-        strays: false,
-        stops: false,
-        breaks: stranger,
-        name: mutex,
-        value: 0,
+    if stops {
+        Effect::Stops
+    } else {
+        put(name, value)
     }
 }
 
 // What a line with a true guard does, by its kind: compute, store, load, input, assert, assume, lock, unlock.
-fn effect_in<'a>(
-    locals: &'a [u16; LOCALS],
-    items: &'a [u16; ITEMS],
-    counts: Counts,
-    l: Record,
-    given: u16,
-) -> Effect
-    requires { OfCase counts l }
-    ensures { (k : ℕ) → Does true counts.globals (as_line l k) (reads_by counts given locals.now items.now (as_line l k)) result }
+fn effect_in(seen: &Seen<'_>, l: Record, given: u16) -> Effect
+    requires { l.thread < most_threads }
+    ensures { (k : ℕ) → Does true seen.now.counts.globals (as_line l k) (reads_in seen.now given (as_line l k)) result }
 {
-    let kind = l.kind;
     let target = l.target as usize;
-    match kind {
-        1 => put(line::local_name(l.target), line::expression_of(locals, l)),
-        2 => put(LOCALS + target, line::expression_of(locals, l)),
-        3 => put(
+    match l.kind {
+        Kind::Compute => put(
             line::local_name(l.target),
-            line::item_at(items, counts.items, l.a as usize),
+            line::expression_of(seen.locals, l),
         ),
-        4 => put(line::local_name(l.target), given),
-        5 => {
-            let value = line::bit_of(line::expression_of(locals, l) != 0);
-            Effect {
-                strays: false,
-                stops: false,
-                breaks: line::breaks(items, counts, l, value),
+        Kind::Store => put(LOCALS + target, line::expression_of(seen.locals, l)),
+        Kind::Load => put(line::local_name(l.target), seen.item(l.a as usize)),
+        Kind::Input => put(line::local_name(l.target), given),
+        Kind::Assert => {
+            let value = line::bit_of(line::expression_of(seen.locals, l) != 0);
+            Effect::Writes {
                 name: NAMES,
                 value,
+                breaks: seen.breaks(l, value),
             }
         }
-        6 => {
-            let x = line::expression_of(locals, l);
-            Effect {
-                strays: false,
-                stops: x == 0,
-                breaks: false,
-                name: NAMES,
-                value: line::bit_of(x != 0),
-            }
+        Kind::Assume => put_unless(line::expression_of(seen.locals, l) == 0, NAMES, 1),
+        Kind::Lock => {
+            let mutex = seen.counts.globals + target;
+            let taken = seen.item(mutex) != 0;
+            put_unless(taken, LOCALS + mutex, line::holder(l))
         }
-        7 => Effect {
-            strays: false,
-            stops: line::item_at(items, counts.items, counts.globals + target) != 0,
-            breaks: false,
-            name: LOCALS + (counts.globals + target),
-            value: line::holder(l),
+        Kind::Unlock => Effect::Writes {
+            name: LOCALS + (seen.counts.globals + target),
+            value: 0,
+            breaks: seen.breaks(l, 0),
         },
-        _ => {
-            let stranger = line::breaks(items, counts, l, 0);
-            free(LOCALS + (counts.globals + target), stranger)
-        }
     }
 }
 
-// What a line with a false guard does: nothing, and an input must be given 0.
-fn effect_out(l: Record, given: u16) -> Effect
-    ensures { (counts : Counts) (locals items : List ℕ) (k : ℕ) → Does false counts.globals (as_line l k) (reads_by counts given locals items (as_line l k)) result }
+// Whether a line of a kind strays that has a false guard, or was not run: an input must be given 0.
+#[tactic(auto, unfolding(model::specs::Line::unrun_stray))]
+pub fn strays(kind: Kind, given: u16) -> bool
+    ensures { result ≡ unrun_stray kind given }
 {
-    let kind = l.kind;
     match kind {
-        4 => Effect {
-            strays: given != 0,
-            stops: false,
-            breaks: false,
-            name: NAMES,
-            value: 0,
-        },
-        _ => put(NAMES, 0),
+        Kind::Input => given != 0,
+        _ => false,
+    }
+}
+
+// What a line with a false guard does: nothing, unless it strays.
+fn effect_out(l: Record, given: u16) -> Effect
+    ensures { (seen : Seen) (k : ℕ) → Does false seen.counts.globals (as_line l k) (reads_in seen given (as_line l k)) result }
+{
+    if strays(l.kind, given) {
+        Effect::Strays
+    } else {
+        put(NAMES, 0)
     }
 }
 
 // What a line does, by its guard.
-fn effect_of<'a>(
-    locals: &'a [u16; LOCALS],
-    items: &'a [u16; ITEMS],
-    counts: Counts,
-    l: Record,
-    given: u16,
-) -> Effect
-    requires { OfCase counts l }
-    ensures { (k : ℕ) → Effective counts.globals (as_line l k) (reads_by counts given locals.now items.now (as_line l k)) result }
+fn effect_of(seen: &Seen<'_>, l: Record, given: u16) -> Effect
+    requires { l.thread < most_threads }
+    ensures { (k : ℕ) → Effective seen.now.counts.globals (as_line l k) (reads_in seen.now given (as_line l k)) result }
 {
-    if line::guarded(locals, l) {
-        return effect_in(locals, items, counts, l, given);
+    if line::guarded(seen.locals, l) {
+        return effect_in(seen, l, given);
     }
     effect_out(l, given)
-}
-
-// Whether the run goes on.
-fn goes_on(stand: Stand) -> bool
-    ensures { result ≡ is_running stand }
-{
-    match stand {
-        Stand::Running => true,
-        Stand::Strayed(_) => false,
-        Stand::Stopped(_) => false,
-    }
 }
 
 // The block number and the value of record k go to its places, where the trace has them.
@@ -191,68 +155,43 @@ pub fn put_record(trace: &mut [u16], k: usize, block: u16, value: u16)
 }
 
 // The value of a line with a false guard: its target's old value, and 1 for assert and assume.
-fn old_value<'a>(
-    locals: &'a [u16; LOCALS],
-    items: &'a [u16; ITEMS],
-    counts: Counts,
-    l: Record,
-) -> u16
-    requires { OfCase counts l }
-    ensures { (given k : ℕ) → result ≡ guarded_out_value (kind_of l.kind) (reads_by counts given locals.now items.now (as_line l k)) }
+#[tactic(auto, unfolding(model::specs::Line::guarded_out_value, model::specs::Line::name_of_target))]
+fn old_value(seen: &Seen<'_>, l: Record) -> u16
+    ensures { (given k : ℕ) → result ≡ guarded_out_value l.kind (reads_in seen.now given (as_line l k)) }
 {
-    let kind = l.kind;
     let target = l.target as usize;
-    match kind {
-        1 => line::local_at(locals, l.target),
-        2 => line::item_at(items, counts.items, target),
-        3 => line::local_at(locals, l.target),
-        4 => line::local_at(locals, l.target),
-        5 => 1,
-        6 => 1,
-        _ => line::item_at(items, counts.items, counts.globals + target),
+    match l.kind {
+        Kind::Compute | Kind::Load | Kind::Input => line::local_at(seen.locals, l.target),
+        Kind::Store => seen.item(target),
+        Kind::Assert | Kind::Assume => 1,
+        Kind::Lock | Kind::Unlock => seen.item(seen.counts.globals + target),
     }
 }
 
 // The block number and the value of line l, record k, go to the trace. Where its guard is false its value is looked up, but not for
 // an empty trace.
-fn trace_line<'a>(
-    trace: &mut [u16],
-    k: usize,
-    block: u16,
-    locals: &'a [u16; LOCALS],
-    items: &'a [u16; ITEMS],
-    counts: Counts,
-    l: Record,
-    value: u16,
-)
-    requires { Numbered k counts l }
-    ensures { (given j : ℕ) → LineTraced k block (as_line l j) (reads_by counts given locals.now items.now (as_line l j)) value trace.old trace.new }
+fn trace_line(trace: &mut [u16], k: usize, block: u16, seen: &Seen<'_>, l: Record, value: u16)
+    requires { RecordNumber most_records k }
+    ensures { (given j : ℕ) → LineTraced k block (as_line l j) (reads_in seen.now given (as_line l j)) value trace.old trace.new }
 {
-    if trace.len() == 0 {
+    if trace.is_empty() {
         return;
     }
-    if line::guarded(locals, l) {
+    if line::guarded(seen.locals, l) {
         put_record(trace, k, block, value);
         return;
     }
-    let old = old_value(locals, items, counts, l);
+    let old = old_value(seen, l);
     put_record(trace, k, block, old);
 }
 
 impl Turn {
     // The run ends here.
-    fn ended(self, stand: Stand) -> Turn
+    fn ended(mut self, stand: Stand) -> Turn
         ensures { result ≡ record { next = self.next; locals = self.locals; items = self.items; stand = stand; note = self.note } }
     {
-        let locals = self.locals;
-        let items = self.items;
-        Turn {
-            next: self.next,
-            locals,
-            items,
-            stand,
-            note: self.note,
-        }
+        self.stand = stand;
+        self
     }
 
     // The step is over: the thread goes on to its next record, and line k is noted if it is the first that violates.
@@ -269,40 +208,45 @@ impl Turn {
     pub fn block(
         mut self,
         t: u16,
-        case: &[u8],
+        case: &Case<'_>,
         given: &[u16],
         steps: u16,
         i: u16,
         trace: &mut [u16],
     ) -> Turn
-        requires { Ready case.now given.now t self }
-        ensures { BlockRecorded case.now given.now t i steps self result trace.old trace.new }
+        requires { Ready case.now.bytes.now given.now t self }
+        ensures { BlockRecorded case.now.bytes.now given.now t i steps self result trace.old trace.new }
     {
-        let stand = self.stand;
-        if !goes_on(stand) {
+        if !matches!(self.stand, Stand::Running) {
             return self;
         }
-        let counts = line::counts_of(case);
-        let mut left = steps;
-        while 0 < left {
+        let counts = Counts::of(case);
+        for _ in 0..steps {
             let at = self.next;
             if at == 0 {
                 return self;
             }
             let k = at as u16;
-            let l = case_file::record_at(case, t, at);
-            let e = effect_of(&self.locals, &self.items, counts, l, given[at]);
-            if e.strays {
-                return self.ended(Stand::Strayed(k));
+            let l = case_file::record_at(case.bytes, t, at);
+            let seen = Seen {
+                locals: &self.locals,
+                items: &self.items,
+                counts,
+            };
+            match effect_of(&seen, l, given[at]) {
+                Effect::Strays => return self.ended(Stand::Strayed(k)),
+                Effect::Stops => return self.ended(Stand::Stopped(k)),
+                Effect::Writes {
+                    name,
+                    value,
+                    breaks,
+                } => {
+                    trace_line(trace, at, i, &seen, l, value);
+                    line::put_local(&mut self.locals, name, value);
+                    line::put_item(&mut self.items, counts, name, value);
+                    self = self.step(case_file::next_of(case.bytes, at), k, breaks);
+                }
             }
-            if e.stops {
-                return self.ended(Stand::Stopped(k));
-            }
-            trace_line(trace, at, i, &self.locals, &self.items, counts, l, e.value);
-            line::put_local(&mut self.locals, e.name, e.value);
-            line::put_item(&mut self.items, counts.items, e.name, e.value);
-            self = self.step(case_file::next_of(case, at), k, e.breaks);
-            left -= 1;
         }
         self
     }

@@ -1,15 +1,17 @@
 -- What a line of each kind is asked, by its guard, or where it was not run.
 -- Assumes nothing.
 use mathlib.Core.Path.{◌≡◌, refl, sym, ap, ◌∙◌}
-use Prim.Native.Nat.{ℕ, ◌<◌}
-use native.Mathlib.Omega.{arith}
+use Prim.Native.Nat.{ℕ}
 use mathlib.Core.Bool.{Bool, true, false, cond, not}
 use lib.Dec.{eqb}
-use Rattle.model.specs.CaseFile.{Kind, lock, Line}
+use Rattle.model.specs.CaseFile.{Line}
+use Rattle.model.specs.declared.Kind.{Kind}
+use Rattle.model.specs.declared.Kind.TheVariants.{Lock}
 use Rattle.model.specs.Line.{Reads, name_of_target, guard_true, guarded_in_value, guarded_out_value, value_by, unrun_value, breaks}
 use Rattle.model.specs.Holds.{demand_met}
 use Rattle.laws.proofs.Views.{EqView, same, diff, eq_view}
 use Rattle.laws.proofs.Breaking.{unrun_breaks_nothing, out_breaks_nothing}
+use Rattle.std.specs.Prelude.{Ok, Err}
 use Rattle.value_check.specs.declared.Asked.{Asked}
 use Rattle.value_check.specs.Asking.{Asks, failing_asked}
 
@@ -36,7 +38,7 @@ module _ (G : ℕ) (l : Line) (reads : Reads) (value : ℕ) (r : Asked) (κ : Ki
 
 -- A lock reads its mutex: it is free, or the guard is false.
 module _ (l : Line) (reads : Reads) (value : ℕ) where
-  pub lock_in : guard_true l reads ≡ true → (x : ℕ) → x ≡ reads.target → eqb x 0 ≡ demand_met lock l reads value
+  pub lock_in : guard_true l reads ≡ true → (x : ℕ) → x ≡ reads.target → eqb x 0 ≡ demand_met Lock l reads value
   unfolding demand_met
   lock_in on x is = rw (on, ← is) (go (eqb x 0))
     where
@@ -44,7 +46,7 @@ module _ (l : Line) (reads : Reads) (value : ℕ) where
       go true = refl
       go false = refl
 
-  pub lock_out : guard_true l reads ≡ false → true ≡ demand_met lock l reads value
+  pub lock_out : guard_true l reads ≡ false → true ≡ demand_met Lock l reads value
   unfolding demand_met
   lock_out off = rw off
 
@@ -59,10 +61,10 @@ asks_unrun G l reads value x name ex en = record {
 }
 
 -- Where neither fails, the line has the value that its 4 asks for.
-pub value_asked : (at : ℕ) (r : Asked) (value : ℕ) → 0 < at → failing_asked at r value ≡ 0 → value ≡ r.value
+pub value_asked : (at : ℕ) (r : Asked) (value : ℕ) → failing_asked at r value ≡ Ok tt → value ≡ r.value
 unfolding failing_asked
-value_asked at r value some none = go (eq_view value r.value)
+value_asked at r value none = go (eq_view value r.value)
   where
     go : EqView value r.value → value ≡ r.value
     go (same e q) = e
-    go (diff n q) = absurd (omega (arith, some, rw q at none))
+    go (diff n q) = absurd (let z : Err (record { constraint = at }) ≡ Ok tt = rw q at none in cc)

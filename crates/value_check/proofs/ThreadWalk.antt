@@ -8,8 +8,10 @@ use mathlib.Core.List.{List, [], ◌∷◌, ◌++◌, reverse, reverse_aux}
 use native.Mathlib.Omega.{arith}
 use lib.Dec.{eqb}
 use lib.ListN.{length, take, replicate}
+use Rattle.std.specs.Prelude.{Ok, Err}
 use Rattle.model.specs.Limits.{local_count, most_constraints}
-use Rattle.model.specs.CaseFile.{kind_of, Line, Case, records, first_record, next_record, line_of, case_of, lines_of, item_count, line_at}
+use Rattle.model.specs.CaseFile.{Line, Case, records, first_record, next_record, line_of, case_of, lines_of, item_count, line_at}
+use Rattle.model.specs.Line.{Reads}
 use Rattle.model.specs.Machine.{put_local, put_item}
 use Rattle.model.specs.Assignment.{Assignment, assignment_of, was_run}
 use Rattle.model.specs.Copies.{reads_after}
@@ -27,21 +29,22 @@ use Rattle.laws.proofs.Sizes.{item_numbers_lem, line_value_length}
 use Rattle.case_file.specs.declared.Record.{Record}
 use Rattle.case_file.specs.Records.{record_of, as_line}
 use Rattle.line.specs.CaseCounts.{HasCounts}
-use Rattle.line.specs.LineReads.{memory, reads_by}
+use Rattle.line.specs.LineReads.{memory, reads_from}
 use Rattle.line.specs.declared.Counts.{Counts}
 use Rattle.copies.specs.CopyChains.{ThreadChains}
 use Rattle.copies.proofs.CopyChains.{chains_more}
 use Rattle.assignment.specs.Numbers.{record_block, record_value, StartOf}
-use Rattle.search.specs.Search.{Searched}
+use Rattle.search.specs.declared.Failed.{Failed}
+use Rattle.search.specs.Search.{searched}
 use Rattle.search.proofs.Search.{Searching, searching_start, searching_end, searching_room, searching_found, searching_more}
 use Rattle.value_check.specs.declared.Asked.{Asked}
 use Rattle.value_check.specs.Rows.{thread_values}
-use Rattle.value_check.specs.Asking.{Asks, AskedOf, failing_asked}
+use Rattle.value_check.specs.Asking.{Asks, failing_asked}
 use Rattle.value_check.specs.Breaking.{breaking_after}
 use Rattle.value_check.specs.Walked.{CopyNoted, Entered, ThreadToAsk, ThreadWalked}
 use Rattle.laws.proofs.Unrun.{run_within_blocks}
 use Rattle.value_check.proofs.Asking.{value_asked}
-use Rattle.value_check.proofs.LineRows.{line_fails}
+use Rattle.value_check.proofs.LineRows.{then_next, line_searched}
 use Rattle.value_check.proofs.Reading.{Reading, reading_start, reading_later, reading_reads, reading_more}
 
 pub record ThreadWalk (bytes xs : List ℕ) (t start was : ℕ) (held previous locals items : List ℕ) (block broken at k : ℕ) : Type 0 where
@@ -57,10 +60,7 @@ pub record ThreadWalk (bytes xs : List ℕ) (t start was : ℕ) (held previous l
   pub breaking : breaking_after (case_of bytes) (assignment_of (case_of bytes) xs) broken earlier (lines_from bytes t k)
       ≡ breaking_after (case_of bytes) (assignment_of (case_of bytes) xs) was [] (thread_lines bytes t)
 
-module _ {bytes xs : List ℕ} {t start : ℕ} {held₀ previous₀ : List ℕ} (pre : ThreadToAsk bytes xs t start held₀ previous₀) where
-  abbrev ok : Accepted bytes
-  ok = pre.accepted
-
+module _ {bytes xs : List ℕ} {t start : ℕ} {held₀ previous₀ : List ℕ} (ok : Accepted bytes) (pre : ThreadToAsk bytes xs t start held₀ previous₀) where
   abbrev case : Case
   case = case_of bytes
 
@@ -87,9 +87,9 @@ module _ {bytes xs : List ℕ} {t start : ℕ} {held₀ previous₀ : List ℕ} 
       done : lines_from bytes t k ≡ []
       done = lines_end bytes t k e
 
-      pub walk_end : Searched bytes xs start (thread_values bytes t) 0 at
+      pub walk_end : Ok at ≡ searched bytes xs start (thread_values bytes t)
       unfolding value_rows
-      walk_end = searching_end v.seeks (ap (value_rows case v.earlier) done) 0 refl
+      walk_end = searching_end v.seeks (ap (value_rows case v.earlier) done)
 
       pub walk_notes : ThreadWalked bytes xs t was held previous broken
       unfolding breaking_after
@@ -147,63 +147,61 @@ module _ {bytes xs : List ℕ} {t start : ℕ} {held₀ previous₀ : List ℕ} 
         -- What it is asked.
         module _ (l : Record) (el : l ≡ record_of bytes t k) (value : ℕ) (ev : value ≡ record_value xs k)
             (items' : List ℕ) (run : Bool) (entered : Entered bytes xs block i items items' run)
-            (counts : Counts) (are : HasCounts bytes counts) (r : Asked) (asked : AskedOf run counts locals items' l value r) where
+            (counts : Counts) (are : HasCounts bytes counts) (r : Asked)
+            (asked : (k' : ℕ) (reads : Reads) → (run ≡ true → reads ≡ reads_from counts.globals counts.items value locals items' (as_line l k')) → Asks run counts.globals (as_line l k') reads value r) where
           own_value : value ≡ α.value line.number
           unfolding assignment_of
           own_value = ev
 
-          reads_are : run ≡ true → reads_after case α v.earlier line ≡ reads_by counts value locals items' (as_line l k)
+          reads_are : run ≡ true → reads_after case α v.earlier line ≡ reads_from counts.globals counts.items value locals items' (as_line l k)
           reads_are was_run_lem = sym (rw (el, are.globals, are.items) (reading_reads case α (reading_in entered was_run_lem) line own_block value own_value))
 
           asks : Asks (was_run case (α.block line.number)) case.G line (reads_after case α v.earlier line) (α.value line.number) r
           asks = rw (entered.asked, ← own_block, own_value, el, are.globals) at (asked k (reads_after case α v.earlier line) reads_are)
 
-          walk_place : {n : ℕ} → n ≡ value_row_count (kind_of l.kind) → n ≡ length rows
-          walk_place en = en ∙ ap (λ (r' : Record). value_row_count (kind_of r'.kind)) el ∙ sym (line_value_length line.kind case v.earlier line)
+          walk_place : {n : ℕ} → n ≡ value_row_count l.kind → n ≡ length rows
+          walk_place en = en ∙ ap (λ (r' : Record). value_row_count r'.kind) el ∙ sym (line_value_length line.kind case v.earlier line)
 
-          pub walk_room_after : {n : ℕ} → n ≡ value_row_count (kind_of l.kind) → at + n ≤ most_constraints
+          pub walk_room_after : {n : ℕ} → n ≡ value_row_count l.kind → at + n ≤ most_constraints
           walk_room_after en = omega (arith, searching_room v.seeks rows _ split, walk_place en, pre.numbers.room)
 
-          module _ (f : ℕ) (ef : f ≡ failing_asked at r value) where
-            here : Searched bytes xs at rows f (at + length rows)
-            here = record {
-              first = ef ∙ ap (failing_asked at r) own_value
-                  ∙ line_fails case (omega (arith, item_numbers_lem bytes ok)) α v.earlier line is_found.0 asks at;
-              after = λ _. refl;
-            }
+          here : then_next (at + length rows) (failing_asked at r value) ≡ searched bytes xs at rows
+          here =
+              ap (λ (x : ℕ). then_next (at + length rows) (failing_asked at r x)) own_value
+              ∙ line_searched bytes xs (omega (arith, item_numbers_lem bytes ok)) v.earlier line is_found.0 asks at
 
-            pub walk_found : f ≢ 0 → (n : ℕ) → Searched bytes xs start (thread_values bytes t) f n
-            walk_found h n = searching_found v.seeks here _ split h n
+          pub walk_found : {f : Failed} → Err f ≡ failing_asked at r value → Err f ≡ searched bytes xs start (thread_values bytes t)
+          walk_found e = searching_found v.seeks _ _ split (ap (then_next (at + length rows)) e ∙ here)
 
-            -- The next record, with everything that is kept.
-            module _ (none : f ≡ 0) (broken' : ℕ) (eb : broken' ≡ cond (eqb broken 0) (cond r.breaks k 0) broken)
-                (n : ℕ) (en : n ≡ value_row_count (kind_of l.kind)) where
-              breaks_are : r.breaks ≡ breaks_after case α v.earlier line
-              breaks_are = asks.breaking (sym own_value ∙ value_asked at r value v.seeks.some (sym ef ∙ none))
+          -- The next record, with everything that is kept.
+          module _ (held_both : Ok tt ≡ failing_asked at r value) (broken' : ℕ) (eb : broken' ≡ cond (eqb broken 0) (cond r.breaks k 0) broken)
+              (n : ℕ) (en : n ≡ value_row_count l.kind) where
+            breaks_are : r.breaks ≡ breaks_after case α v.earlier line
+            breaks_are = asks.breaking (sym own_value ∙ value_asked at r value (sym held_both))
 
-              breaking_rest : breaking_after case α broken' (line ∷ v.earlier) rest ≡ breaking_after case α was [] (thread_lines bytes t)
-              unfolding breaking_after
-              breaking_rest = rw (eb, breaks_are) (sym (ap (breaking_after case α broken v.earlier) more) ∙ v.breaking)
+            breaking_rest : breaking_after case α broken' (line ∷ v.earlier) rest ≡ breaking_after case α was [] (thread_lines bytes t)
+            unfolding breaking_after
+            breaking_rest = rw (eb, breaks_are) (sym (ap (breaking_after case α broken v.earlier) more) ∙ v.breaking)
 
-              pub walk_more : {held' previous' : List ℕ} → CopyNoted r.name k previous held previous' held'
-                  → (locals' items'' : List ℕ) → locals' ≡ put_local true r.name value locals
-                  → take counts.items items'' ≡ put_item true r.name value (take counts.items items')
-                  → (next : ℕ) → next ≡ next_record bytes k
-                  → ThreadWalk bytes xs t start was held' previous' locals' items'' i broken' (at + n) next
-              walk_more noted locals' items'' elo eit next ex = rw (ex, walk_place en) (record {
-                earlier = line ∷ v.earlier;
-                low = next_low bytes ok t k some v.low;
-                whole = whole;
-                found = is_found.1;
-                ordered = subst (λ (x : ℕ). Ordered case α.block t x rest) own_block in_order.1;
-                reading = λ was_run_lem. rw (elo, put_items_lem, asks.naming) (reading_more case α (reading_in entered (entered.asked ∙ was_run_lem)) line own_block value own_value (omega arith));
-                seeks = searching_more v.seeks here split none;
-                chains = rw (noted.notes, noted.takes, asks.naming) (chains_more bytes ok v.chains line rest whole);
-                breaking = breaking_rest;
-              })
-                where
-                  put_items_lem : take (item_count case) items'' ≡ put_item true r.name value (take (item_count case) items')
-                  put_items_lem = rw are.items at eit
+            pub walk_more : {held' previous' : List ℕ} → CopyNoted r.name k previous held previous' held'
+                → (locals' items'' : List ℕ) → locals' ≡ put_local true r.name value locals
+                → take counts.items items'' ≡ put_item true r.name value (take counts.items items')
+                → (next : ℕ) → next ≡ next_record bytes k
+                → ThreadWalk bytes xs t start was held' previous' locals' items'' i broken' (at + n) next
+            walk_more noted locals' items'' elo eit next ex = rw (ex, walk_place en) (record {
+              earlier = line ∷ v.earlier;
+              low = next_low bytes ok t k some v.low;
+              whole = whole;
+              found = is_found.1;
+              ordered = subst (λ (x : ℕ). Ordered case α.block t x rest) own_block in_order.1;
+              reading = λ was_run_lem. rw (elo, put_items_lem, asks.naming) (reading_more case α (reading_in entered (entered.asked ∙ was_run_lem)) line own_block value own_value (omega arith));
+              seeks = searching_more v.seeks _ _ split (ap (then_next (at + length rows)) held_both ∙ here);
+              chains = rw (noted.notes, noted.takes, asks.naming) (chains_more bytes ok v.chains line rest whole);
+              breaking = breaking_rest;
+            })
+              where
+                put_items_lem : take (item_count case) items'' ≡ put_item true r.name value (take (item_count case) items')
+                put_items_lem = rw are.items at eit
 
-                  whole : reverse_aux (line ∷ rest) v.earlier ≡ reverse (lines_of case t)
-                  whole = sym (ap (λ (ls : List Line). reverse_aux ls v.earlier) more) ∙ v.whole
+                whole : reverse_aux (line ∷ rest) v.earlier ≡ reverse (lines_of case t)
+                whole = sym (ap (λ (ls : List Line). reverse_aux ls v.earlier) more) ∙ v.whole

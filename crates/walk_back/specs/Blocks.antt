@@ -3,7 +3,6 @@
 use Rattle.std.specs.Prelude.{ℕ, ◌+◌, ◌%◌, List, reverse}
 use Rattle.model.specs.CaseFile.{thread_count, switch_count, case_of, lines_of, item_count}
 use Rattle.model.specs.Table.{Row, item_rows, block_rows}
-use Rattle.laws.specs.Accepted.{Accepted}
 use Rattle.copies.specs.CopyChains.{CopyChains}
 use Rattle.assignment.specs.Numbers.{StartOf}
 use Rattle.search.specs.Search.{Room}
@@ -15,9 +14,8 @@ sixes_of bytes i = item_rows (case_of bytes) (reverse (lines_of (case_of bytes) 
 abbrev pub all_sixes : List ℕ → List Row
 all_sixes bytes = block_rows (case_of bytes) 0 (switch_count bytes)
 
--- Some 6s of an accepted case: the chains have all its copies, and there are numbers for the 6s from `start` on.
+-- Some 6s of a case: the chains have all its copies, and there are numbers for the 6s from `start` on.
 pub record SixesReady (bytes previous : List ℕ) (latest : List (List ℕ)) (start : ℕ) (rows : List Row) : Type 0 where
-  pub accepted : Accepted bytes
   pub chains : CopyChains (case_of bytes) latest previous (thread_count bytes)
   pub numbers : Room start rows
 

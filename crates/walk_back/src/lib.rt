@@ -3,16 +3,16 @@
 
 ghost use Rattle.std.specs.Prelude.{◌≡◌};
 ghost use Rattle.model.specs.Limits.{most_lines};
-ghost use Rattle.search.specs.Search.{Searched};
+ghost use Rattle.search.specs.Search.{searched};
 ghost use Rattle.walk_back.specs.Deciding.{deciding, decided_value};
 ghost use Rattle.walk_back.specs.Blocks.{sixes_of, all_sixes, SixesReady, SpanReady};
 
 use assignment::{block_of, start_of_block, value_of};
-use case_file::{items, switches, threads};
+use case_file::{Case, switches, threads};
 use copies::copy_of;
 use model::{ITEMS, LOCALS, MOST_LINES, NAMES, THREADS};
 use numbers::at;
-use search::Found;
+use search::Failed;
 
 // A block with the number of its first 6, and the items' values where it starts and where the next one does.
 #[derive(Clone, Copy)]
@@ -23,7 +23,9 @@ pub struct Span {
     pub after: [u16; ITEMS],
 }
 
-// Walking back from a copy: the first that has block number i; 0 where the chain of copies ends before one is found.
+// Walking back from a copy: the first that has block number i; 0 where the chain of copies ends before one is found. A rule of the
+// project: document 01 names this form, a loop that yields the copy by break, left by a label when the chain of copies ends.
+#[tactic(auto, using(crate::proofs::Deciding::deciding_spent, crate::proofs::Deciding::deciding_ends, crate::proofs::Deciding::deciding_found, crate::proofs::Deciding::deciding_goes_on))]
 fn deciding_copy(assignment: &[u16], previous: &[u16], i: u16, last: u16) -> u16
     ensures { result ≡ deciding previous.now assignment.now i most_lines last }
 {
@@ -59,69 +61,51 @@ fn decided_value(assignment: &[u16], previous: &[u16], i: u16, last: u16, before
 
 // The 6s of a block.
 fn block_failing(
-    case: &[u8],
+    case: &Case<'_>,
     assignment: &[u16],
     previous: &[u16],
     latest: &[[u16; NAMES]; THREADS],
     span: Span,
-) -> Found
-    requires { SpanReady case.now assignment.now previous.now latest.now span }
-    ensures { Searched case.now assignment.now span.start (sixes_of case.now span.block) result.failed result.next }
+) -> Result<u16, Failed>
+    requires { SpanReady case.now.bytes.now assignment.now previous.now latest.now span }
+    ensures { result ≡ searched case.now.bytes.now assignment.now span.start (sixes_of case.now.bytes.now span.block) }
 {
-    let count = items(case);
-    let t = (span.block % threads(case)) as usize;
+    let t = (span.block % threads(case.bytes)) as usize;
     let mut at = span.start;
-    let mut g = 0;
-    while g < count {
+    for g in 0..case.items() {
         let last = copy_of(&latest[t], LOCALS + g);
         let value = decided_value(assignment, previous, span.block, last, span.before[g]);
         if span.after[g] != value {
-            return Found {
-                failed: at,
-                next: at,
-            };
+            return Err(Failed { constraint: at });
         }
         at += 1;
-        g += 1;
     }
-    Found {
-        failed: 0,
-        next: at,
-    }
+    Ok(at)
 }
 
 // The 6s of all blocks, from number `start` on.
 pub fn blocks_failing(
-    case: &[u8],
+    case: &Case<'_>,
     assignment: &[u16],
     previous: &[u16],
     latest: &[[u16; NAMES]; THREADS],
     start: u16,
-) -> Found
-    requires { SixesReady case.now previous.now latest.now start (all_sixes case.now) }
-    ensures { Searched case.now assignment.now start (all_sixes case.now) result.failed result.next }
+) -> Result<u16, Failed>
+    requires { SixesReady case.now.bytes.now previous.now latest.now start (all_sixes case.now.bytes.now) }
+    ensures { result ≡ searched case.now.bytes.now assignment.now start (all_sixes case.now.bytes.now) }
 {
-    let last = switches(case);
-    let mut found = Found {
-        failed: 0,
-        next: start,
-    };
+    let mut next = start;
     let mut before = start_of_block(case, assignment, 0);
-    let mut i: u16 = 0;
-    while i < last {
-        let after = start_of_block(case, assignment, i + 1);
+    for block in 0..switches(case.bytes) {
+        let after = start_of_block(case, assignment, block + 1);
         let span = Span {
-            block: i,
-            start: found.next,
+            block,
+            start: next,
             before,
             after,
         };
-        found = block_failing(case, assignment, previous, latest, span);
-        if found.failed != 0 {
-            return found;
-        }
+        next = block_failing(case, assignment, previous, latest, span)?;
         before = after;
-        i += 1;
     }
-    found
+    Ok(next)
 }

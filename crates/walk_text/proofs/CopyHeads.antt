@@ -7,19 +7,18 @@ use mathlib.Core.List.{List, [], ◌∷◌, ◌++◌, append-nil}
 use native.Mathlib.Omega.{arith}
 use borrow.Author.Tests.{eq-eqb, ne_eqb}
 use lib.ListN.{length, get_or}
-use Rattle.model.specs.Word.{word_size}
 use Rattle.model.specs.Limits.{most_lines}
 use Rattle.model.specs.CaseFile.{Case}
 use Rattle.smt.specs.Term.{Term, variable, constant}
 use Rattle.smt.specs.Spelling.{ascii, formula_text}
 use Rattle.script.specs.Assertions.{equal, block_of, value_of, block_value, value_before, same, sources_of}
-use Rattle.spell.specs.Spelt.{top, Spelt}
+use Rattle.spell.specs.Spelt.{top, Puts}
+use Rattle.spell.specs.declared.Writer.{Writer}
 use Rattle.spell.specs.Atoms.{closing}
-use Rattle.spell.proofs.Spelling.{Left, left_start, left_more, left_end, spelt_then}
-use Rattle.spell.proofs.Numbers.{spelt_as}
-use Rattle.linked.specs.Shape.{HasShape, HasSources, block_value_number}
+use Rattle.spell.proofs.Spelling.{Remains, left_start, left_more, left_end, puts_then, puts_as}
+use Rattle.linked.specs.Shape.{HasShape, HasFrame, block_value_number}
 use Rattle.linked.specs.declared.Shape.{Shape}
-use Rattle.linked.specs.declared.Sources.{Sources}
+use Rattle.linked.specs.declared.Frame.{Frame}
 use Rattle.linked.proofs.Nesting.{closing_none, nested, head_of_three}
 use Rattle.walk_text.specs.Walk.{copies_back, walk_over, copy_head, copy_heads, HeadsPut}
 
@@ -46,13 +45,13 @@ ending : (case : Case) (shape : Shape) → HasShape case shape → (i g : ℕ) {
 ending case shape s i g e = rw (e, s.base, s.items)
 
 module _ (case : Case) (shape : Shape) (s : HasShape case shape) (sources : List ℕ) (i g p : ℕ)
-    {d a b e f h : List ℕ} {start k l m n r : ℕ} where
+    {d a b e f h : Writer} where
   pub copy_spelt : {block value x : ℕ} → block ≡ 2 * (p - 1) → value ≡ 2 * (p - 1) + 1 → x ≡ block_value_number shape i g
-      → Spelt (ascii "(ite ") d start a k → Spelt (formula_text (equal (variable block) (constant i))) a k b l → Spelt (ascii " ") b l e m
-      → Spelt (formula_text (same sources (variable x) (variable value))) e m f n → Spelt (ascii " ") f n h r → Spelt (copy_head case sources i g p) d start h r
+      → Puts (ascii "(ite ") d a → Puts (formula_text (equal (variable block) (constant i))) a b → Puts (ascii " ") b e
+      → Puts (formula_text (same sources (variable x) (variable value))) e f → Puts (ascii " ") f h → Puts (copy_head case sources i g p) d h
   unfolding copy_head
   copy_spelt eb ev ex word asked blank alike behind =
-      spelt_then word (spelt_then (rw eb at asked) (spelt_then blank (spelt_then (rw (ev, ending case shape s i g ex) at alike) behind)))
+      puts_then word (puts_then (rw eb at asked) (puts_then blank (puts_then (rw (ev, ending case shape s i g ex) at alike) behind)))
 
 module _ (case : Case) (sources : List ℕ) (i g : ℕ) where
   abbrev innermost : List ℕ
@@ -68,52 +67,46 @@ module _ (case : Case) (sources : List ℕ) (i g : ℕ) where
 
 -- ---- The loop over the copies, at copy p, after so many
 
-pub record Walking (shape : Shape) (sources : Sources) (previous : List ℕ) (i g last : ℕ)
-    (before : List ℕ) (start : ℕ) (out : List ℕ) (at p many : ℕ) : Type 0 where
+pub record Walking (frame : Frame) (previous : List ℕ) (i g last : ℕ) (before after : Writer) (p many : ℕ) : Type 0 where
   pub upto : many ≤ most_lines
-  pub small : p < word_size
-  pub size : length out ≡ length before
   pub count : many + length (copies_back previous (most_lines - many) p) ≡ length (copies_back previous most_lines last)
-  pub left : (case : Case) → HasShape case shape → HasSources case sources
-      → Left (copy_heads case (sources_of case) i g (copies_back previous most_lines last)) before start out at
-      (copy_heads case (sources_of case) i g (copies_back previous (most_lines - many) p))
+  pub left : (case : Case) → HasFrame case frame
+      → Remains (copy_heads case (sources_of case) i g (copies_back previous most_lines last)) before after (copy_heads case (sources_of case) i g (copies_back previous (most_lines - many) p))
 
-module _ {shape : Shape} {sources : Sources} {previous : List ℕ} {i g last : ℕ} {before : List ℕ} {start : ℕ} where
-  pub walking_start : last < word_size → start ≤ top → Walking shape sources previous i g last before start before start last 0
-  walking_start small h = record { upto = omega arith; small = small; size = refl; count = omega arith; left = λ case s o. left_start h refl }
+module _ {frame : Frame} {previous : List ℕ} {i g last : ℕ} {before : Writer} where
+  pub walking_start : before.at ≤ top → Walking frame previous i g last before before last 0
+  walking_start h = record { upto = omega arith; count = omega arith; left = λ case f. left_start h refl }
 
-  module _ {out : List ℕ} {at p many : ℕ} (v : Walking shape sources previous i g last before start out at p many) where
-    pub walking_more : many < most_lines → p ≢ 0 → {a : List ℕ} {place q : ℕ} → length a ≡ length out
-        → ((case : Case) → HasShape case shape → HasSources case sources → Spelt (copy_head case (sources_of case) i g p) out at a place)
-        → q ≡ get_or previous p 0 → q < word_size → Walking shape sources previous i g last before start a place q (many + 1)
+  module _ {after : Writer} {p many : ℕ} (v : Walking frame previous i g last before after p many) where
+    pub walking_more : many < most_lines → p ≢ 0 → {then : Writer} {q : ℕ}
+        → ((case : Case) → HasFrame case frame → Puts (copy_head case (sources_of case) i g p) after then)
+        → q ≡ get_or previous p 0 → Walking frame previous i g last before then q (many + 1)
     unfolding copy_heads
-    walking_more h n size put e small = record {
+    walking_more h n put e = record {
       upto = omega arith;
-      small = small;
-      size = size ∙ v.size;
       count = rw e (omega (arith, v.count, ap length (copies_go_on previous many p h n)));
-      left = λ case s o. rw e (left_more (v.left case s o) (ap (copy_heads case (sources_of case) i g) (copies_go_on previous many p h n)) (put case s o));
+      left = λ case f. rw e (left_more (v.left case f) (ap (copy_heads case (sources_of case) i g) (copies_go_on previous many p h n)) (put case f));
     }
 
     -- Where none is left all are put, so many.
-    all_put : copies_back previous (most_lines - many) p ≡ [] → HeadsPut shape sources previous i g last before start out at many
+    all_put : copies_back previous (most_lines - many) p ≡ [] → HeadsPut frame previous i g last before after many
     unfolding copy_heads
     all_put e = record {
       count = omega (arith, v.count, ap length e);
-      text = λ case s o. left_end (v.left case s o) (ap (copy_heads case (sources_of case) i g) e);
+      text = λ case f. left_end (v.left case f) (ap (copy_heads case (sources_of case) i g) e);
     }
 
-    pub walking_first : p ≡ 0 → HeadsPut shape sources previous i g last before start out at many
+    pub walking_first : p ≡ 0 → HeadsPut frame previous i g last before after many
     walking_first h = all_put (copies_end previous (most_lines - many) p h)
 
-    pub walking_spent : most_lines ≤ many → HeadsPut shape sources previous i g last before start out at many
-    walking_spent h = all_put (copies_spent previous (most_lines - many) p (omega arith))
+    pub walking_spent : most_lines ≤ many → HeadsPut frame previous i g last before after most_lines
+    walking_spent h = let e : many ≡ most_lines = omega (arith, v.upto) in rw e at (all_put (copies_spent previous (most_lines - many) p (omega arith)))
 
 -- ---- The whole walk
 
 pub walk_spelt : (case : Case) (shape : Shape) → HasShape case shape → (sources : List ℕ) (i g : ℕ) (ps : List ℕ)
-    {d a b e : List ℕ} {start k l r many x : ℕ} {y : Term} → many ≡ length ps → x ≡ block_value_number shape i g → y ≡ value_before case i g
-    → Spelt (copy_heads case sources i g ps) d start a k → Spelt (formula_text (same sources (variable x) y)) a k b l → Spelt (closing many) b l e r
-    → Spelt (formula_text (walk_over case sources i g ps)) d start e r
+    {d a b e : Writer} {many x : ℕ} {y : Term} → many ≡ length ps → x ≡ block_value_number shape i g → y ≡ value_before case i g
+    → Puts (copy_heads case sources i g ps) d a → Puts (formula_text (same sources (variable x) y)) a b → Puts (closing many) b e
+    → Puts (formula_text (walk_over case sources i g ps)) d e
 walk_spelt case shape s sources i g ps em ex ey heads base close =
-    spelt_as (sym (walk_text case sources i g ps)) (spelt_then heads (spelt_then (rw (ending case shape s i g ex, ey) at base) (rw em at close)))
+    puts_as (sym (walk_text case sources i g ps)) (puts_then heads (puts_then (rw (ending case shape s i g ex, ey) at base) (rw em at close)))

@@ -1,17 +1,27 @@
 -- What is noted from a table's numbers is what is noted from its rows, and rows of other kinds change nothing.
 -- Assumes nothing. Met again in Previous, and where other numbers of the rows are noted.
-use mathlib.Core.Path.{◌≡◌, refl, ap, ◌∙◌}
+use mathlib.Core.Path.{◌≡◌, refl, sym, ap, ◌∙◌}
 use Prim.Native.Nat.{ℕ, zero, suc, ◌+◌, ◌*◌, ◌%◌, ◌<◌}
 use mathlib.Core.Bool.{false}
 use mathlib.Core.List.{List, [], ◌∷◌, ◌++◌, reverse, append_assoc}
 use native.Mathlib.Omega.{arith}
 use native.Mathlib.Nat.{zero-add}
 use lib.Dec.{eqb}
-use lib.ListN.{length, get_or}
-use Rattle.model.specs.CaseFile.{Kind, compute, store, load, input, assert, assume, lock, unlock, Line, Case, lines_of, item_count}
+use lib.ListN.{length, get_or, drop}
+use Rattle.model.specs.CaseFile.{Line, Case, lines_of, item_count}
+use Rattle.model.specs.declared.Kind.{Kind}
+use Rattle.model.specs.declared.Kind.TheVariants.{Compute, Store, Load, Input, Assert, Assume, Lock, Unlock}
+use Rattle.std.proofs.lemmas.List.{take-append-drop}
 use Rattle.model.specs.Table.{Row, row, follow_row, stay_rows, demand_rows, all_order_rows, all_value_rows, item_rows, block_rows, run_rows, goal_row, table, numbers_of}
 use Rattle.laws.proofs.StayRows.{stay_rows_by}
 use Rattle.walk_text.specs.Previous.{HasTable, noted, noted_row, noted_from}
+
+-- A slice that has a table has its numbers, and others behind them.
+pub numbers_and_rest : {case : Case} {xs : List ℕ} {count : ℕ} → HasTable case xs count
+    → xs ≡ numbers_of (table case) ++ drop (length (numbers_of (table case))) xs
+numbers_and_rest {case} {xs} h =
+    let many = length (numbers_of (table case)) in
+    sym (take-append-drop many xs) ∙ ap (λ (ns : List ℕ). ns ++ drop many xs) h.numbers
 
 -- A row in front of other numbers.
 abbrev in_front : Row → List ℕ → List ℕ
@@ -75,7 +85,9 @@ module _ (which place : ℕ) (inside : place < 6) where
 
   pub table_numbers_lem : {case : Case} {xs : List ℕ} {count : ℕ} → HasTable case xs count → (notes : List ℕ)
       → noted_from which place xs 0 count notes ≡ noted_rows which place (table case) notes
-  table_numbers_lem {case} h notes = rw (h.numbers, h.rows) (numbers_noted (table case) h.rest notes)
+  table_numbers_lem {case} {count = count} h notes =
+      ap (λ (ns : List ℕ). noted_from which place ns 0 count notes) (numbers_and_rest h)
+      ∙ rw h.rows (numbers_noted (table case) _ notes)
 
 -- ---- Rows of other kinds
 
@@ -108,14 +120,14 @@ module _ (which place : ℕ) (case : Case) where
   pub demand_none : eqb 5 which ≡ false → (kind : Kind) (earlier : List Line) (l : Line) (ws : List Row) (notes : List ℕ)
       → noted_in (demand_rows kind case earlier l ++ ws) notes ≡ noted_in ws notes
   unfolding demand_rows
-  demand_none five compute earlier l ws notes = refl
-  demand_none five store earlier l ws notes = refl
-  demand_none five load earlier l ws notes = refl
-  demand_none five input earlier l ws notes = refl
-  demand_none five assert earlier l ws notes = refl
-  demand_none five assume earlier l ws notes = other_first _ ws notes five
-  demand_none five lock earlier l ws notes = other_first _ ws notes five
-  demand_none five unlock earlier l ws notes = refl
+  demand_none five Compute earlier l ws notes = refl
+  demand_none five Store earlier l ws notes = refl
+  demand_none five Load earlier l ws notes = refl
+  demand_none five Input earlier l ws notes = refl
+  demand_none five Assert earlier l ws notes = refl
+  demand_none five Assume earlier l ws notes = other_first _ ws notes five
+  demand_none five Lock earlier l ws notes = other_first _ ws notes five
+  demand_none five Unlock earlier l ws notes = refl
 
   module _ (six : eqb 6 which ≡ false) where
     items_none : (lines : List Line) (i g many : ℕ) (notes : List ℕ) → noted_in (item_rows case lines i g many) notes ≡ notes

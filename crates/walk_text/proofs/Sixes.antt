@@ -3,7 +3,9 @@
 use Prim.Native.Nat.{ℕ, zero, suc, ◌+◌, ◌≤◌}
 use mathlib.Core.List.{List, [], ◌∷◌, ◌++◌}
 use native.Mathlib.Omega.{arith}
-use Rattle.model.specs.CaseFile.{Kind, compute, store, load, input, assert, assume, lock, unlock, Line, Case, case_of, item_count}
+use Rattle.model.specs.CaseFile.{Line, Case, case_of, item_count}
+use Rattle.model.specs.declared.Kind.{Kind}
+use Rattle.model.specs.declared.Kind.TheVariants.{Compute, Store, Load, Input, Assert, Assume, Lock, Unlock}
 use Rattle.model.specs.Table.{Row, follow_row, stay_rows, line_order_rows, order_rows, demand_rows, value_rows, all_order_rows, all_value_rows, item_rows, block_rows, run_rows, goal_row, table}
 use Rattle.laws.specs.Accepted.{Accepted}
 use Rattle.laws.proofs.StayRows.{stay_rows_by}
@@ -45,14 +47,14 @@ module _ (case : Case) (sources previous : List ℕ) where
 
   demand_walks : (kind : Kind) (earlier : List Line) (l : Line) → Walks (demand_rows kind case earlier l)
   unfolding demand_rows
-  demand_walks compute earlier l = tt
-  demand_walks store earlier l = tt
-  demand_walks load earlier l = tt
-  demand_walks input earlier l = tt
-  demand_walks assert earlier l = tt
-  demand_walks assume earlier l = ((λ e. absurd (omega (arith, e))), tt)
-  demand_walks lock earlier l = ((λ e. absurd (omega (arith, e))), tt)
-  demand_walks unlock earlier l = tt
+  demand_walks Compute earlier l = tt
+  demand_walks Store earlier l = tt
+  demand_walks Load earlier l = tt
+  demand_walks Input earlier l = tt
+  demand_walks Assert earlier l = tt
+  demand_walks Assume earlier l = ((λ e. absurd (omega (arith, e))), tt)
+  demand_walks Lock earlier l = ((λ e. absurd (omega (arith, e))), tt)
+  demand_walks Unlock earlier l = tt
 
   value_walks : (earlier ls : List Line) → Walks (value_rows case earlier ls)
   unfolding value_rows

@@ -1,14 +1,13 @@
 -- What is noted for each line, by record number, from the numbers of a table.
 -- Assumes nothing.
-use Rattle.std.specs.Prelude.{◌≡◌, ℕ, zero, suc, ◌+◌, ◌*◌, cond, List, ◌++◌, eqb, length, get_or, set}
+use Rattle.std.specs.Prelude.{◌≡◌, ℕ, zero, suc, ◌+◌, ◌*◌, cond, List, eqb, length, get_or, set, take}
 use Rattle.model.specs.CaseFile.{Case}
 use Rattle.model.specs.Table.{table, numbers_of}
 
 -- A table of a case as the encoder has written it into a slice, so many rows from its start.
 pub record HasTable (case : Case) (xs : List ℕ) (count : ℕ) : Type 0 where
   pub rows : count ≡ length (table case)
-  pub rest : List ℕ
-  pub numbers : xs ≡ numbers_of (table case) ++ rest
+  pub numbers : take (length (numbers_of (table case))) xs ≡ numbers_of (table case)
 
 -- A row of the kind in question has something to note for its line; other rows have nothing.
 unfoldable pub noted : ℕ → ℕ → ℕ → ℕ → List ℕ → List ℕ

@@ -9,10 +9,10 @@ use Rattle.model.specs.Table.{Row}
 use Rattle.smt.specs.Term.{constant, Formula, select}
 use Rattle.smt.specs.Spelling.{ascii, formula_text}
 use Rattle.script.specs.Assertions.{equal, block_of, value_of, block_value, value_before, same, sources_of, assertion_of}
-use Rattle.spell.specs.Spelt.{Spelt}
-use Rattle.linked.specs.Shape.{HasShape, HasSources}
-use Rattle.linked.specs.declared.Shape.{Shape}
-use Rattle.linked.specs.declared.Sources.{Sources}
+use Rattle.spell.specs.Spelt.{Puts}
+use Rattle.spell.specs.declared.Writer.{Writer}
+use Rattle.linked.specs.Shape.{HasFrame}
+use Rattle.linked.specs.declared.Frame.{Frame}
 use Rattle.copies.specs.CopyChains.{HasBefore}
 
 -- `previous` has for each line of a case, by record number, the copy of its target before it.
@@ -56,9 +56,7 @@ unfoldable pub copy_heads : Case → List ℕ → ℕ → ℕ → List ℕ → L
 copy_heads case sources i g [] = []
 copy_heads case sources i g (p ∷ ps) = copy_head case sources i g p ++ copy_heads case sources i g ps
 
--- The heads of copy `last` and all copies before it are put, so many, and this is the place after them.
-pub record HeadsPut (shape : Shape) (sources : Sources) (previous : List ℕ) (i g last : ℕ)
-    (before : List ℕ) (start : ℕ) (after : List ℕ) (place many : ℕ) : Type 0 where
+-- The heads of copy `last` and all copies before it are put, so many.
+pub record HeadsPut (frame : Frame) (previous : List ℕ) (i g last : ℕ) (before after : Writer) (many : ℕ) : Type 0 where
   pub count : many ≡ length (copies_back previous most_lines last)
-  pub text : (case : Case) → HasShape case shape → HasSources case sources
-      → Spelt (copy_heads case (sources_of case) i g (copies_back previous most_lines last)) before start after place
+  pub text : (case : Case) → HasFrame case frame → Puts (copy_heads case (sources_of case) i g (copies_back previous most_lines last)) before after

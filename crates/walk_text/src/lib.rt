@@ -7,19 +7,18 @@ ghost use Rattle.model.specs.CaseFile.{Case, case_of};
 ghost use Rattle.smt.specs.Spelling.{formula_text};
 ghost use Rattle.script.specs.Assertions.{sources_of};
 ghost use Rattle.laws.specs.Accepted.{Accepted};
-ghost use Rattle.spell.specs.Spelt.{Spelt};
-ghost use Rattle.linked.specs.Shape.{HasShape, HasSources};
+ghost use Rattle.spell.specs.Spelt.{Puts};
+ghost use Rattle.linked.specs.Shape.{HasFrame};
 ghost use Rattle.walk_text.specs.Walk.{PreviousCopies, walk_copies, copy_head, HeadsPut};
 ghost use Rattle.walk_text.specs.Previous.{HasTable, noted_row, noted_from};
 
-use linked::{Shape, Sources, block_value, block_variable, put_same, value_before, value_variable};
+use linked::{Frame, block_variable, put_same, value_variable};
 use model::{MOST_LINES, RECORD_PLACES};
 use numbers::at;
-use spell::{Atom, put, put_closing, put_equal};
+use rows::ROW;
+use spell::{Atom, Writer};
 
-// How many numbers a row has; the kind of the rows that have a line's copies, and the place of the target's copy in them.
-const ROW: usize = 6;
-
+// The kind of the rows that have a line's copies, a number as in `rows::Constraint`, and the place of the target's copy in them.
 const VALUE_ROW: u16 = 4;
 
 const TARGET_COPY: u16 = 5;
@@ -33,6 +32,7 @@ fn note_row(table: &[u16], j: u16, kind: u16, place: u16, notes: &mut [u16])
         return;
     }
     let line = at(table, from + 1) as usize;
+    // Of a slice that `get_mut` lends from, a proof knows the length alone.
     if line < notes.len() {
         notes[line] = at(table, from + place as usize);
     }
@@ -43,10 +43,8 @@ pub fn note_rows(table: &[u16], count: u16, kind: u16, place: u16) -> [u16; RECO
     ensures { result ≡ noted_from kind place table.now 0 count (replicate record_places 0) }
 {
     let mut notes = [0u16; RECORD_PLACES];
-    let mut j: u16 = 0;
-    while j < count {
+    for j in 0..count {
         note_row(table, j, kind, place, &mut notes);
-        j += 1;
     }
     notes
 }
@@ -59,78 +57,46 @@ pub fn previous_copies(table: &[u16], count: u16) -> [u16; RECORD_PLACES]
     note_rows(table, count, VALUE_ROW, TARGET_COPY)
 }
 
-// The place after the heads of some copies, and how many there are.
-#[derive(Clone, Copy)]
-struct Heads {
-    place: usize,
-    many: usize,
-}
-
 // Whether copy p is in block i; where it is, item g has its value at the end of the block. What holds otherwise comes after.
-fn put_copy(
-    text: &mut [u8],
-    start: usize,
-    shape: Shape,
-    sources: Sources,
-    i: u16,
-    g: u16,
-    p: u16,
-) -> usize
-    ensures { (case : Case) → HasShape case shape → HasSources case sources → Spelt (copy_head case (sources_of case) i g p) text.old start text.new result }
+fn put_copy(w: &mut Writer<'_>, frame: Frame, i: u16, g: u16, p: u16)
+    ensures { (case : Case) → HasFrame case frame → Puts (copy_head case (sources_of case) i g p) w.old w.new }
 {
-    let block = Atom::Variable(block_variable(p));
-    let value = Atom::Variable(value_variable(p));
-    let ending = Atom::Variable(block_value(shape, i, g));
-    let mut place = put(text, start, b"(ite ");
-    place = put_equal(text, place, block, Atom::Constant(i));
-    place = put(text, place, b" ");
-    place = put_same(text, place, ending, value, sources);
-    put(text, place, b" ")
+    let ending = Atom::Variable(frame.shape.block_value(i, g));
+    w.put(b"(ite ");
+    w.put_equal(Atom::Variable(block_variable(p)), Atom::Constant(i));
+    w.put(b" ");
+    put_same(w, ending, Atom::Variable(value_variable(p)), frame.sources);
+    w.put(b" ");
 }
 
-// The same for copy `last` and all copies before it.
+// The same for copy `last` and all copies before it; how many there are.
 fn put_copies(
-    text: &mut [u8],
-    start: usize,
-    shape: Shape,
-    sources: Sources,
+    w: &mut Writer<'_>,
+    frame: Frame,
     previous: &[u16],
     i: u16,
     g: u16,
     last: u16,
-) -> Heads
-    ensures { HeadsPut shape sources previous.now i g last text.old start text.new result.place result.many }
+) -> usize
+    ensures { HeadsPut frame previous.now i g last w.old w.new result }
 {
-    let mut place = start;
     let mut p = last;
-    let mut many = 0;
-    while many < MOST_LINES {
+    for many in 0..MOST_LINES {
         if p == 0 {
-            return Heads { place, many };
+            return many;
         }
-        place = put_copy(text, place, shape, sources, i, g, p);
+        put_copy(w, frame, i, g, p);
         p = at(previous, p as usize);
-        many += 1;
     }
-    Heads { place, many }
+    MOST_LINES
 }
 
 // The copies of item g from `last` back, each asked whether it is in block i.
-pub fn put_walk(
-    text: &mut [u8],
-    start: usize,
-    shape: Shape,
-    sources: Sources,
-    previous: &[u16],
-    i: u16,
-    g: u16,
-    last: u16,
-) -> usize
-    ensures { (case : Case) → HasShape case shape → HasSources case sources → Spelt (formula_text (walk_copies case (sources_of case) i g previous.now most_lines last)) text.old start text.new result }
+pub fn put_walk(w: &mut Writer<'_>, frame: Frame, previous: &[u16], i: u16, g: u16, last: u16)
+    ensures { (case : Case) → HasFrame case frame → Puts (formula_text (walk_copies case (sources_of case) i g previous.now most_lines last)) w.old w.new }
 {
-    let heads = put_copies(text, start, shape, sources, previous, i, g, last);
-    let ending = Atom::Variable(block_value(shape, i, g));
-    let before = value_before(shape, i, g);
-    let place = put_same(text, heads.place, ending, before, sources);
-    put_closing(text, place, heads.many)
+    let many = put_copies(w, frame, previous, i, g, last);
+    let ending = Atom::Variable(frame.shape.block_value(i, g));
+    put_same(w, ending, frame.shape.value_before(i, g), frame.sources);
+    w.put_closing(many);
 }

@@ -1,10 +1,6 @@
 -- `case_file::first_items` meets its contract. The invariant: the items so far are those of the first g globals. Assumes nothing.
-use Prim.Native.Nat.{◌-◌}
 use Rattle.case_file.proofs.FirstItems.{Started}
 use Rattle.case_file.proofs.first_items.Given as goal
 
 abbrev pub invariant-loop-g : goal.invariant-loop-g
 invariant-loop-g l = Started l.case l.globals l.items l.g
-
-abbrev pub decreases-loop-g : goal.decreases-loop-g
-decreases-loop-g l = l.globals - l.g

@@ -17,7 +17,7 @@ pub loop-k-preserved : goal.loop-k-preserved
 loop-k-preserved c = counting_more _ _ _ c.loop-k.invariant (search rules) _ _ _ c.kind_of-kind.ensures c.order_rows.ensures c.value_rows.ensures
 
 pub overflow_sub-result : goal.overflow_sub-result
-overflow_sub-result c = omega (arith, c.invisible_firsts.ensures, records_count _ c.requires c.loop-k.invariant (search rules))
+overflow_sub-result c = omega (arith, c.invisible_firsts.ensures, records_count _ c.args.case.now.accepted c.loop-k.invariant (search rules))
 
 pub returns : goal.returns
-returns c = table_count _ c.requires c.loop-k.invariant (search rules) c.invisible_firsts.ensures c.block_values.ensures.is
+returns c = table_count _ c.args.case.now.accepted c.loop-k.invariant (search rules) c.invisible_firsts.ensures c.block_values.ensures.is

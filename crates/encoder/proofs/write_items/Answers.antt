@@ -10,10 +10,7 @@ pub loop-g-init : goal.loop-g-init
 loop-g-init c = going_start (items_all _ _ _ c.items-items.ensures.is)
 
 pub offset_bounds-latest-t : goal.offset_bounds-latest-t
-offset_bounds-latest-t c = omega (arith, block_thread _ c.requires.accepted c.args.i _ c.threads.ensures)
-
--- TODO no goal Need-bounds-1-copy-of
--- index-1-copy-of c = omega (arith, block_thread _ c.before.before.before.before.before.before.requires.accepted c.before.before.before.before.before.before.args.i _ c.before.before.before.threads.ensures)
+offset_bounds-latest-t c = omega (arith, block_thread _ c.args.case.now.accepted c.args.i _ c.threads.ensures)
 
 pub put_row-requires : goal.put_row-requires
 unfolding numbers_of
@@ -25,7 +22,7 @@ overflow_add-at c = let fits = going_fits c.loop-g.invariant c.loop-g-test.true 
 
 pub loop-g-preserved : goal.loop-g-preserved
 loop-g-preserved c =
-    let row = item_put _ c.requires.accepted _ c.requires.held _ _ _ _ _ _ _ _ (search rules) c.threads.ensures c.copy_of-copy.ensures c.item_row-w.ensures c.put_row.ensures in
+    let row = item_put _ c.args.case.now.accepted _ c.requires.held _ _ _ _ _ _ _ _ (search rules) c.threads.ensures c.copy_of-copy.ensures c.item_row-w.ensures c.put_row.ensures in
     going_more c.loop-g.invariant c.loop-g-test.true row
 
 pub shape_of-table : goal.shape_of-table

@@ -8,7 +8,7 @@ use Rattle.encoder.proofs.Walking.{orders, Walking}
 use Rattle.encoder.proofs.write_order.Given as goal
 
 abbrev pub invariant-loop-k : goal.invariant-loop-k
-invariant-loop-k l = Walking l.case l.t (orders (case_of l.case) l.t) (Nearest l.previous) l.k (order_numbers l.case l.t) l.initial.table l.start l.table l.at
+invariant-loop-k l = Walking l.case.bytes.now l.t (orders (case_of l.case.bytes.now) l.t) (Nearest l.previous) l.k (order_numbers l.case.bytes.now l.t) l.initial.table l.start l.table l.at
 
 abbrev pub decreases-loop-k : goal.decreases-loop-k
-decreases-loop-k l = length (lines_from l.case l.t l.k)
+decreases-loop-k l = length (lines_from l.case.bytes.now l.t l.k)

@@ -1,5 +1,4 @@
 -- `write_orders` writes the order rows, a thread at a time. Assumes nothing.
-use borrow.Author.Rules.{rules}
 use native.Mathlib.Omega.{arith}
 use Rattle.encoder.proofs.Series.{going_start, going_fits, going_more, going_end}
 use Rattle.encoder.proofs.Parts.{orders_all}
@@ -8,8 +7,8 @@ use Rattle.encoder.proofs.write_orders.Goals as goal
 pub loop-t-init : goal.loop-t-init
 loop-t-init c = going_start (orders_all _ _ c.threads-threads.ensures)
 
-pub write_order-at-requires : goal.write_order-at-requires
-write_order-at-requires c = let room = going_fits c.loop-t.invariant c.loop-t-test.true (omega (arith, c.requires.room)) in search rules
+pub write_order-at-requires-clause-room : goal.write_order-at-requires-clause-room
+write_order-at-requires-clause-room c = going_fits c.loop-t.invariant c.loop-t-test.true (omega (arith, c.requires))
 
 pub loop-t-preserved : goal.loop-t-preserved
 loop-t-preserved c = going_more c.loop-t.invariant c.loop-t-test.true c.write_order-at.ensures

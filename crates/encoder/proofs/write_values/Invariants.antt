@@ -8,7 +8,7 @@ use Rattle.encoder.proofs.Walking.{values, Walking}
 use Rattle.encoder.proofs.write_values.Given as goal
 
 abbrev pub invariant-loop-k : goal.invariant-loop-k
-invariant-loop-k l = Walking l.case l.t (values (case_of l.case)) (HeldAfter (global_count l.case) l.held) l.k (value_numbers l.case l.t) l.initial.table l.start l.table l.at
+invariant-loop-k l = Walking l.case.bytes.now l.t (values (case_of l.case.bytes.now)) (HeldAfter (global_count l.case.bytes.now) l.held) l.k (value_numbers l.case.bytes.now l.t) l.initial.table l.start l.table l.at
 
 abbrev pub decreases-loop-k : goal.decreases-loop-k
-decreases-loop-k l = length (lines_from l.case l.t l.k)
+decreases-loop-k l = length (lines_from l.case.bytes.now l.t l.k)

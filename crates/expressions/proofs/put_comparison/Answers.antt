@@ -1,9 +1,6 @@
--- `put_comparison` is by the operation. Assumes nothing.
-use Rattle.expressions.proofs.Expressions.{comparison_equals, comparison_less}
+-- `put_comparison` puts a word and two atoms where it is no equation. Assumes nothing.
+use Rattle.expressions.proofs.Expressions.{comparison_less}
 use Rattle.expressions.proofs.put_comparison.Goals as goal
 
-pub returns-then-op-eq5 : goal.returns-then-op-eq5
-returns-then-op-eq5 c = comparison_equals _ _ _ c.if-op-eq5.true c.put_equal.ensures
-
-pub returns : goal.returns
-returns c = comparison_less _ _ _ c.if-op-eq5.false c.put-at.ensures c.put_two.ensures
+pub returns-else-op-eq5 : goal.returns-else-op-eq5
+returns-else-op-eq5 c = comparison_less _ _ _ c.if-op-eq5.false c.put.ensures c.put_two.ensures

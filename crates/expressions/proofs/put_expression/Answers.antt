@@ -1,12 +1,10 @@
 -- `put_expression` is by the operation. Assumes nothing.
-use Rattle.expressions.proofs.Expressions.{expression_first, expression_apply, expression_bit}
+use native.Mathlib.Omega.{arith}
+use Rattle.expressions.proofs.Expressions.{expression_apply, expression_bit}
 use Rattle.expressions.proofs.put_expression.Goals as goal
 
-pub returns-then-op-eq0 : goal.returns-then-op-eq0
-returns-then-op-eq0 c = expression_first _ _ _ c.if-op-eq0.true c.put_atom.ensures
+pub returns-in-1-to-4 : goal.returns-in-1-to-4
+returns-in-1-to-4 c = expression_apply _ _ _ (λ e. omega (arith, e)) (omega arith) c.put_operation.ensures c.put_two.ensures
 
-pub returns-then-op-lt5 : goal.returns-then-op-lt5
-returns-then-op-lt5 c = expression_apply _ _ _ c.if-op-eq0.false c.if-op-lt5.true c.put_operation-at.ensures c.put_two.ensures
-
-pub returns : goal.returns
-returns c = expression_bit _ _ _ c.if-op-lt5.false c.put-at.ensures c.put_comparison-at.ensures c.put.ensures
+pub returns-in_default : goal.returns-in_default
+returns-in_default c = expression_bit _ _ _ (omega arith) c.put.ensures c.put_comparison.ensures c.put-in_default.ensures

@@ -1,23 +1,14 @@
 -- `put_facts` puts the facts of one first source after the other. Assumes nothing.
-use borrow.Author.Rules.{rules}
-use Rattle.linked.proofs.Going.{going_start, going_end, going_last}
-use Rattle.expressions.proofs.Facts.{firsts_go_on, no_firsts}
+use mathlib.Core.Path.{refl}
+use Rattle.spell.proofs.Spelling.{left_start}
+use Rattle.expressions.proofs.Facts.{firsts_more, firsts_end}
 use Rattle.expressions.proofs.put_facts.Goals as goal
 
-pub loop-j-init : goal.loop-j-init
-loop-j-init c = going_start (search rules)
+pub loop-first-init : goal.loop-first-init
+loop-first-init c = left_start c.args.w.now.near refl
 
-pub shape_of-text-then-j-sources : goal.shape_of-text-then-j-sources
-shape_of-text-then-j-sources c = c.loop-j.invariant.same
-
-pub returns-then-j-sources : goal.returns-then-j-sources
-returns-then-j-sources c = going_end c.loop-j.invariant (no_firsts _ _ _ _) c.if-j-sources.true
-
-pub loop-j-preserved : goal.loop-j-preserved
-loop-j-preserved c = firsts_go_on _ _ _ _ c.loop-j.invariant c.if-j-sources.false (search rules) (search rules) c.put_facts_with-at.ensures
-
-pub shape_of-text : goal.shape_of-text
-shape_of-text c = c.loop-j.invariant.same
+pub loop-first-preserved : goal.loop-first-preserved
+loop-first-preserved c = firsts_more _ _ _ _ _ c.loop-first.invariant c.loop-first-test.true c.put_facts_with.ensures
 
 pub returns : goal.returns
-returns c = going_last c.loop-j.invariant (no_firsts _ _ _ _) c.loop-j-test.false
+returns c = rw c.items-first-items.ensures at (firsts_end _ _ _ _ _ c.loop-first.invariant c.loop-first-test.false)

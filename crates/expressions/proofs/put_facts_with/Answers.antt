@@ -1,23 +1,14 @@
 -- `put_facts_with` puts one fact after the other. Assumes nothing.
-use borrow.Author.Rules.{rules}
-use Rattle.linked.proofs.Going.{going_start, going_end, going_last}
-use Rattle.expressions.proofs.Facts.{seconds_go_on, no_seconds}
+use mathlib.Core.Path.{refl}
+use Rattle.spell.proofs.Spelling.{left_start}
+use Rattle.expressions.proofs.Facts.{seconds_more, seconds_end}
 use Rattle.expressions.proofs.put_facts_with.Goals as goal
 
-pub loop-j-init : goal.loop-j-init
-loop-j-init c = going_start (search rules)
+pub loop-second-init : goal.loop-second-init
+loop-second-init c = left_start c.args.w.now.near refl
 
-pub shape_of-text-then-j-sources : goal.shape_of-text-then-j-sources
-shape_of-text-then-j-sources c = c.loop-j.invariant.same
-
-pub returns-then-j-sources : goal.returns-then-j-sources
-returns-then-j-sources c = going_end c.loop-j.invariant (no_seconds _ _ _ _) c.if-j-sources.true
-
-pub loop-j-preserved : goal.loop-j-preserved
-loop-j-preserved c = seconds_go_on _ _ _ _ c.loop-j.invariant c.if-j-sources.false (search rules) c.put_fact-at.ensures
-
-pub shape_of-text : goal.shape_of-text
-shape_of-text c = c.loop-j.invariant.same
+pub loop-second-preserved : goal.loop-second-preserved
+loop-second-preserved c = seconds_more _ _ _ _ _ c.loop-second.invariant c.loop-second-test.true c.put_fact.ensures
 
 pub returns : goal.returns
-returns c = going_last c.loop-j.invariant (no_seconds _ _ _ _) c.loop-j-test.false
+returns c = rw c.items-second-items.ensures at (seconds_end _ _ _ _ _ c.loop-second.invariant c.loop-second-test.false)

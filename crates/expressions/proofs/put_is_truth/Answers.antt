@@ -3,4 +3,4 @@ use Rattle.expressions.proofs.Beside.{is_truth_spelt}
 use Rattle.expressions.proofs.put_is_truth.Goals as goal
 
 pub returns : goal.returns
-returns c = λ case s. is_truth_spelt s _ _ _ _ c.put_facts_before-at.ensures c.put_truth_of-at.ensures c.put_facts_behind.ensures
+returns c = λ case s. is_truth_spelt s _ _ _ _ c.put_facts_before.ensures c.put_truth_of.ensures c.put_facts_behind.ensures

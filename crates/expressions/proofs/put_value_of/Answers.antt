@@ -3,4 +3,4 @@ use Rattle.expressions.proofs.Beside.{value_spelt}
 use Rattle.expressions.proofs.put_value_of.Goals as goal
 
 pub returns : goal.returns
-returns c = value_spelt _ _ c.put-at.ensures c.put_atom-at.ensures c.put-at-2.ensures c.put_expression-at.ensures c.put.ensures
+returns c = value_spelt _ _ c.put.ensures c.put_atom.ensures c.put-2.ensures c.put_expression.ensures c.put-3.ensures

@@ -1,9 +1,6 @@
--- `filler::first_late` meets its contract. The invariant: what the threads that have been looked at come to. Assumes nothing.
-use Rattle.filler.proofs.Lateness.{LookingBack}
+-- `filler::first_late` meets its contract. The invariant: no line is late in the threads before this one. Assumes nothing.
+use Rattle.filler.proofs.Lateness.{LookingOn}
 use Rattle.filler.proofs.first_late.Given as goal
 
 abbrev pub invariant-loop-t : goal.invariant-loop-t
-invariant-loop-t l = LookingBack l.case l.numbers l.t l.found
-
-abbrev pub decreases-loop-t : goal.decreases-loop-t
-decreases-loop-t l = l.t
+invariant-loop-t l = LookingOn l.case.bytes.now l.numbers l.t

@@ -5,7 +5,7 @@ use Rattle.filler.proofs.Lateness.{Looking}
 use Rattle.filler.proofs.late_in.Given as goal
 
 abbrev pub invariant-loop-at : goal.invariant-loop-at
-invariant-loop-at l = Looking l.case l.numbers l.k l.others l.before l.at
+invariant-loop-at l = Looking l.case.bytes.now l.numbers l.k l.before l.at
 
 abbrev pub decreases-loop-at : goal.decreases-loop-at
-decreases-loop-at l = length (lines_from l.case 0 l.at)
+decreases-loop-at l = length (lines_from l.case.bytes.now 0 l.at)

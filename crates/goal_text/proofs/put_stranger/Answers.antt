@@ -3,4 +3,4 @@ use Rattle.goal_text.proofs.Heads.{stranger_spelt}
 use Rattle.goal_text.proofs.put_stranger.Goals as goal
 
 pub returns : goal.returns
-returns c = λ case s q. stranger_spelt case _ _ _ _ (c.holder-own.ensures c.args.k) c.put-at.ensures (c.put_not_run-at.ensures case s) c.put-at-2.ensures (c.put_reads-at.ensures case s q) c.put.ensures
+returns c = λ case f. stranger_spelt case _ _ _ _ (c.holder-own.ensures c.args.k) c.put.ensures (c.put_not_run.ensures case f.shape) c.put-2.ensures (c.put_reads.ensures case f) c.put-3.ensures

@@ -3,4 +3,4 @@ use Rattle.goal_text.proofs.Heads.{zero_spelt}
 use Rattle.goal_text.proofs.put_zero.Goals as goal
 
 pub returns : goal.returns
-returns c = zero_spelt _ c.value_variable.ensures c.put-at.ensures c.put_equal-at.ensures c.put.ensures
+returns c = zero_spelt _ c.value_variable.ensures c.put.ensures c.put_equal.ensures c.put-2.ensures

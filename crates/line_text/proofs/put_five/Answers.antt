@@ -4,4 +4,4 @@ use Rattle.line_text.proofs.Lines.{demand_found}
 use Rattle.line_text.proofs.put_five.Goals as goal
 
 pub returns : goal.returns
-returns c = λ case s q found. or_not_run_spelt case _ _ c.put-at.ensures (c.put_not_run-at.ensures case s) c.put-at-2.ensures (demand_found case _ _ found _ _ (c.put_demand-at.ensures case s q)) c.put.ensures
+returns c = λ case f found. or_not_run_spelt case _ _ c.put.ensures (c.put_not_run.ensures case f.shape) c.put-2.ensures (demand_found case _ _ found _ _ (c.put_demand.ensures case f)) c.put-3.ensures

@@ -4,7 +4,7 @@ use Rattle.line_text.proofs.Lines.{line_plain, line_guarded}
 use Rattle.line_text.proofs.put_line.Goals as goal
 
 pub returns-then-l-eq0 : goal.returns-then-l-eq0
-returns-then-l-eq0 c = λ case s q. line_plain case _ _ _ _ _ _ c.if-l-eq0.true (c.put_in.ensures case s q)
+returns-then-l-eq0 c = λ case f. line_plain case _ _ _ _ _ _ c.if-l-eq0.true (c.put_in.ensures case f)
 
 pub returns : goal.returns
-returns c = λ case s q. line_guarded case _ _ _ _ _ _ c.if-l-eq0.false c.put-at.ensures (c.put_guard-at.ensures _ refl) c.put-at-2.ensures (c.put_in-at.ensures case s q) c.put-at-3.ensures (c.put_out-at.ensures case s q) c.put.ensures
+returns c = λ case f. line_guarded case _ _ _ _ _ _ c.if-l-eq0.false c.put.ensures (c.put_guard.ensures _ refl) c.put-2.ensures (c.put_in-2.ensures case f) c.put-3.ensures (c.put_out.ensures case f) c.put-4.ensures

@@ -4,7 +4,7 @@ use Rattle.line_text.proofs.Lines.{reads_plain, reads_guarded}
 use Rattle.line_text.proofs.put_reads.Goals as goal
 
 pub returns-then-guard-eq0 : goal.returns-then-guard-eq0
-returns-then-guard-eq0 c = λ case s q. reads_plain case _ _ _ _ _ s.globals (c.target_name-name.ensures c.args.k) c.if-guard-eq0.true (c.put_name.ensures case s q)
+returns-then-guard-eq0 c = λ case f. reads_plain case _ _ _ _ _ f.shape.globals (c.target_name-name.ensures c.args.k) c.if-guard-eq0.true (c.put_name.ensures case f)
 
 pub returns : goal.returns
-returns c = λ case s q. reads_guarded case _ _ _ _ _ s.globals (c.target_name-name.ensures c.args.k) c.if-guard-eq0.false c.put-at.ensures (c.put_guard-at.ensures _ refl) c.put-at-2.ensures (c.put_name-at.ensures case s q) c.put.ensures
+returns c = λ case f. reads_guarded case _ _ _ _ _ f.shape.globals (c.target_name-name.ensures c.args.k) c.if-guard-eq0.false c.put.ensures (c.put_guard.ensures _ refl) c.put-2.ensures (c.put_name-2.ensures case f) c.put-3.ensures

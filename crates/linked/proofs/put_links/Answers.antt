@@ -1,23 +1,14 @@
 -- `put_links` puts one link after the other. Assumes nothing.
-use borrow.Author.Rules.{rules}
-use Rattle.linked.proofs.Going.{going_start, going_end, going_last}
-use Rattle.linked.proofs.Links.{links_go_on, no_links}
+use mathlib.Core.Path.{refl}
+use Rattle.spell.proofs.Spelling.{left_start}
+use Rattle.linked.proofs.Links.{links_more, links_end}
 use Rattle.linked.proofs.put_links.Goals as goal
 
-pub loop-j-init : goal.loop-j-init
-loop-j-init c = going_start (search rules)
+pub loop-source-init : goal.loop-source-init
+loop-source-init c = left_start c.args.w.now.near refl
 
-pub shape_of-text-then-j-sources : goal.shape_of-text-then-j-sources
-shape_of-text-then-j-sources c = c.loop-j.invariant.same
-
-pub returns-then-j-sources : goal.returns-then-j-sources
-returns-then-j-sources c = going_end c.loop-j.invariant (no_links _ _) c.if-j-sources.true
-
-pub loop-j-preserved : goal.loop-j-preserved
-loop-j-preserved c = links_go_on _ _ c.loop-j.invariant c.if-j-sources.false (search rules) c.put_link-at.ensures
-
-pub shape_of-text : goal.shape_of-text
-shape_of-text c = c.loop-j.invariant.same
+pub loop-source-preserved : goal.loop-source-preserved
+loop-source-preserved c = links_more _ _ _ c.loop-source.invariant c.loop-source-test.true c.put_link.ensures
 
 pub returns : goal.returns
-returns c = going_last c.loop-j.invariant (no_links _ _) c.loop-j-test.false
+returns c = rw c.items-source-items.ensures at (links_end _ _ _ c.loop-source.invariant c.loop-source-test.false)

@@ -6,7 +6,7 @@ pub loop-k-init : goal.loop-k-init
 loop-k-init c = search walking_starts
 
 pub returns-then-reached-k-ne0 : goal.returns-then-reached-k-ne0
-returns-then-reached-k-ne0 c = came_twice c.loop-k.invariant (omega arith) c.loop-k-test.true c.if-reached-k-ne0.true
+returns-then-reached-k-ne0 c = came_twice c.loop-k.invariant c.loop-k-test.true c.if-reached-k-ne0.true
 
 pub overflow_add-n : goal.overflow_add-n
 overflow_add-n c = omega (arith, few_passed c.loop-k.invariant)

@@ -7,14 +7,14 @@ use Rattle.listing_text.proofs.listing_text.Goals as goal
 pub fits-requires : goal.fits-requires
 fits-requires c = let rows = rows_fit _ _ refl _ c.encode-answer.ensures.value in search rules
 
-pub write_text-bytes-requires : goal.write_text-bytes-requires
-write_text-bytes-requires c = let rows = rows_fit _ _ refl _ c.encode-answer.ensures.value in search rules
+pub write_text-requires : goal.write_text-requires
+write_text-requires c = let rows = rows_fit _ _ refl _ c.encode-answer.ensures.value in search rules
 
 pub returns-then-fits : goal.returns-then-fits
 returns-then-fits c =
     let both =
     long_enough _ _ _ (answer_text _ _ refl _ _ c.encode-answer.ensures.value c.encode-answer.ensures.table_after) _ c.fits.ensures c.if-fits.true
-    c.write_text-bytes.ensures
+    c.write_text.ensures
     in record { value = both.0; text_after = both.1 }
 
 pub returns : goal.returns

@@ -5,7 +5,7 @@ use Rattle.order_check.proofs.ThreadOrder.{ThreadOrder}
 use Rattle.order_check.proofs.thread_order.Given as goal
 
 abbrev pub invariant-loop-k : goal.invariant-loop-k
-invariant-loop-k l = ThreadOrder l.case l.assignment l.t l.start l.at l.before l.k
+invariant-loop-k l = ThreadOrder l.case.bytes.now l.assignment l.t l.start l.at l.before l.k
 
 abbrev pub decreases-loop-k : goal.decreases-loop-k
-decreases-loop-k l = length (lines_from l.case l.t l.k)
+decreases-loop-k l = length (lines_from l.case.bytes.now l.t l.k)

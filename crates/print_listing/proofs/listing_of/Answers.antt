@@ -3,7 +3,7 @@ use Rattle.listing_text.proofs.Bridge.{no_refusal, whole_text}
 use Rattle.print_listing.proofs.listing_of.Goals as goal
 
 pub returns-in_default : goal.returns-in_default
-returns-in_default c = absurd (no_refusal _ _ _ c.listing_text.ensures.value c.requires _ _ c.in_default.is)
+returns-in_default c = absurd (no_refusal _ _ _ c.listing_text.ensures.value c.requires _ c.in_default.is)
 
 pub returns : goal.returns
-returns c = whole_text _ _ _ _ _ c.listing_text.ensures.value c.requires c.in-Text.is c.listing_text.ensures.text_after
+returns c = whole_text _ _ _ _ _ c.listing_text.ensures.value c.requires c.in-Ok.is c.listing_text.ensures.text_after

@@ -7,8 +7,8 @@ use Rattle.print_listing.proofs.print_listing.Goals as goal
 
 pub slice_bounds-text-end : goal.slice_bounds-text-end
 slice_bounds-text-end g c =
-    omega (arith, c.listing_of-count.ensures.size, c.listing_of-count.auto.text, text_fits (take c.read_case-input.result.bytes c.read_case-input.new.buffer))
+    omega (arith, c.listing_of-count.ensures.size, c.listing_of-count.auto.text, text_fits (take c.in-Ok.bytes c.read_case.new.buffer))
 
 pub slice_bounds-write_all-end-2 : goal.slice_bounds-write_all-end-2
 slice_bounds-write_all-end-2 g c =
-    sym (length-take-le _ _ (omega (arith, c.listing_of-count.ensures.size, c.listing_of-count.auto.text, text_fits (take c.read_case-input.result.bytes c.read_case-input.new.buffer))))
+    sym (length-take-le _ _ (omega (arith, c.listing_of-count.ensures.size, c.listing_of-count.auto.text, text_fits (take c.in-Ok.bytes c.read_case.new.buffer))))

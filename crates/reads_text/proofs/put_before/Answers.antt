@@ -3,4 +3,4 @@ use Rattle.reads_text.proofs.Blocks.{before_spelt}
 use Rattle.reads_text.proofs.put_before.Goals as goal
 
 pub returns : goal.returns
-returns c = λ case s q. before_spelt case _ _ _ _ _ (c.put_blocks-heads.ensures case s q) c.put-at.ensures c.put_closing.ensures
+returns c = λ case f. before_spelt case _ _ _ _ _ (c.put_blocks-many.ensures case f) c.put.ensures c.put_closing.ensures

@@ -1,31 +1,25 @@
--- `run::first_stray_left` meets its contract. The invariants: the threads that are left decide; what the threads that have been looked at
--- come to. Assumes nothing.
-use native.Mathlib.Omega.{arith}
-use Rattle.run.proofs.Unrun.{all_start, all_more, all_end}
-use Rattle.run.proofs.Looks.{back_start, back_ready, back_more, back_end}
+-- `run::first_stray_left` meets its contract. The invariants: the threads that are left decide; no thread before this one strays.
+-- Assumes nothing.
+use lib.Seq.{get_or-take}
+use Rattle.run.specs.RunState.{none}
+use Rattle.run.proofs.Unrun.{all_more, all_end}
+use Rattle.run.proofs.Looks.{on_more, on_found, on_end}
 use borrow.Author.Rules.{rules}
 use Rattle.run.proofs.first_stray_left.Goals as goal
 
-pub loop-u-init : goal.loop-u-init
-loop-u-init c = all_start _
+pub loop-thread-preserved : goal.loop-thread-preserved
+loop-thread-preserved c =
+    all_more _ c.loop-thread.invariant (search rules) (search rules) (get_or-take c.threads-count.result c.args.threads c.loop-thread.thread-index none (search rules)) c.put_unrun.ensures
 
-pub put_unrun-requires : goal.put_unrun-requires
-put_unrun-requires c = record { accepted = c.requires.accepted; within = c.requires.within _ (omega (arith, c.threads-count.ensures)) }
+pub returns-in-Some : goal.returns-in-Some
+returns-in-Some c =
+    let same = get_or-take c.threads-count.result c.args.threads c.loop-thread-2.thread-index none (search rules) in
+    record { found = on_found c.loop-thread-2.invariant (search rules) same c.stray_left.ensures c.in-Some.is; put = all_end _ c.loop-thread.invariant (search rules) }
 
-pub loop-u-preserved : goal.loop-u-preserved
-loop-u-preserved c = all_more _ c.loop-u.invariant (omega (arith, c.threads-count.ensures)) (search rules) c.put_unrun.ensures
-
-pub loop-t-init : goal.loop-t-init
-loop-t-init c = back_start c.requires c.threads-count.ensures
-
-pub stray_left-found-requires : goal.stray_left-found-requires
-stray_left-found-requires c = back_ready c.requires c.loop-t.invariant c.loop-t-test.true
-
-pub loop-t-preserved : goal.loop-t-preserved
-loop-t-preserved c = back_more c.requires c.loop-t.invariant c.loop-t-test.true c.stray_left-found.ensures
-
-pub shape_of-trace : goal.shape_of-trace
-shape_of-trace c = c.loop-u.invariant.size
+pub loop-thread-2-preserved : goal.loop-thread-2-preserved
+loop-thread-2-preserved c =
+    let same = get_or-take c.threads-count.result c.args.threads c.loop-thread-2.thread-index none (search rules) in
+    on_more c.loop-thread-2.invariant (search rules) same c.stray_left.ensures c.in_default.is
 
 pub returns : goal.returns
-returns c = record { found = back_end c.requires c.loop-t.invariant c.loop-t-test.false; put = all_end _ c.loop-u.invariant (omega (arith, c.threads-count.ensures)) }
+returns c = record { found = on_end c.loop-thread-2.invariant (search rules); put = all_end _ c.loop-thread.invariant (search rules) }

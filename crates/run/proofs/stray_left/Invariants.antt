@@ -5,7 +5,7 @@ use Rattle.run.proofs.Looks.{Looking}
 use Rattle.run.proofs.stray_left.Given as goal
 
 abbrev pub invariant-loop-at : goal.invariant-loop-at
-invariant-loop-at l = Looking l.case l.given l.k l.others l.at
+invariant-loop-at l = Looking l.case.bytes.now l.given l.k l.at
 
 abbrev pub decreases-loop-at : goal.decreases-loop-at
-decreases-loop-at l = length (lines_from l.case 0 l.at)
+decreases-loop-at l = length (lines_from l.case.bytes.now 0 l.at)

@@ -6,7 +6,7 @@ use Rattle.schedule_check.proofs.InputLoops.{Putting}
 use Rattle.schedule_check.proofs.put_thread.Given as goal
 
 abbrev pub invariant-loop-k : goal.invariant-loop-k
-invariant-loop-k l = Putting l.case l.schedule l.t (inputs l.initial.given l.start) l.k (inputs l.given l.used) l.lines
+invariant-loop-k l = Putting l.case.bytes.now l.schedule l.t (inputs l.initial.given l.start) l.k (inputs l.given l.used) l.lines
 
 abbrev pub decreases-loop-k : goal.decreases-loop-k
-decreases-loop-k l = length (lines_from l.case l.t l.k)
+decreases-loop-k l = length (lines_from l.case.bytes.now l.t l.k)

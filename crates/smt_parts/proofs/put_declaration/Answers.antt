@@ -3,4 +3,4 @@ use Rattle.smt_parts.proofs.Declarations.{declaration_spelt}
 use Rattle.smt_parts.proofs.put_declaration.Goals as goal
 
 pub returns : goal.returns
-returns c = declaration_spelt _ c.put-at.ensures c.put_variable-at.ensures c.put.ensures
+returns c = rw c.from.ensures at (declaration_spelt c.from.result c.put.ensures c.put_variable.ensures c.put-2.ensures)

@@ -3,4 +3,4 @@ use Rattle.smt_parts.proofs.Order.{own_spelt}
 use Rattle.smt_parts.proofs.put_own.Goals as goal
 
 pub returns : goal.returns
-returns c = own_spelt _ _ _ c.block_variable.ensures c.put-at.ensures c.put_two-at.ensures c.put-at-2.ensures c.put_constant-at.ensures c.put.ensures
+returns c = own_spelt _ _ _ c.block_variable.ensures c.put.ensures c.put_two.ensures c.put-2.ensures c.put_constant.ensures c.put-3.ensures

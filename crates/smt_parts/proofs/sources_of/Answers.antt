@@ -7,7 +7,7 @@ pub loop-k-init : goal.loop-k-init
 loop-k-init c = sourcing_start _
 
 pub loop-k-preserved : goal.loop-k-preserved
-loop-k-preserved c = sourcing_more c.loop-k.invariant c.requires (search rules) c.kind_of.ensures c.with_source-sources.ensures
+loop-k-preserved c = sourcing_more c.loop-k.invariant c.args.case.now.accepted (search rules) c.kind_of.ensures c.with_source-sources.ensures
 
 pub returns : goal.returns
 returns c = sourcing_end c.loop-k.invariant (search rules)

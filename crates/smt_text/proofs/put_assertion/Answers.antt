@@ -3,4 +3,4 @@ use Rattle.smt_text.proofs.Assertions.{assertion_spelt}
 use Rattle.smt_text.proofs.put_assertion.Goals as goal
 
 pub returns : goal.returns
-returns c = assertion_spelt _ c.put-place.ensures c.put_row-place.ensures c.put.ensures
+returns c = assertion_spelt _ c.put.ensures c.put_row.ensures c.put-2.ensures

@@ -1,48 +1,57 @@
 -- `turn::effect_in` meets its contract: an arm for each kind. Assumes nothing.
-use mathlib.Core.Path.{refl, ◌∙◌, ap}
+use mathlib.Core.Path.{refl, sym, ap, ◌∙◌}
 use Prim.Native.Nat.{ℕ}
+use mathlib.Core.Bool.{false}
 use Rattle.model.specs.Word.{bit, nonzero}
-use Rattle.model.specs.CaseFile.{compute, store, load, input, assert, assume, lock, unlock}
+use Rattle.model.specs.declared.Kind.{Kind}
+use Rattle.model.specs.declared.Kind.TheVariants.{Compute, Store, Load, Input, Assert, Assume, Lock, Unlock}
 use Rattle.model.specs.Line.{name_of_a, has_expression, name_of_target, guarded_in_value, stops, breaks}
-use Rattle.line.proofs.KindNumbers.{kind_1, kind_2, kind_3, kind_4, kind_5, kind_6, kind_7, unlock_other, breaks_kind}
-use Rattle.line.proofs.Expressions.{reads_a, reads_target}
-use Rattle.turn.proofs.LineKinds.{in_does, stops_assume, stops_lock}
+use Rattle.model.specs.Machine.{look}
+use Rattle.line.proofs.Breaking.{breaks_kind}
+use Rattle.line.specs.SeenReads.{memory_in}
+use Rattle.turn.proofs.LineKinds.{in_writes, in_ends, stops_assume, passed_assume, stops_lock}
 use Rattle.turn.proofs.effect_in.Goals as goal
 
-pub returns-in-1 : goal.returns-in-1
+pub returns-in-Compute : goal.returns-in-Compute
 unfolding stops breaks guarded_in_value name_of_target
-returns-in-1 c = λ k on. rw c.put.ensures (in_does _ _ _ _ on compute (kind_1 _ c.in-1.is) refl refl refl c.local_name.ensures (c.expression_of.ensures _ _ _ _ _ c.requires.few.items (ap has_expression (kind_1 _ c.in-1.is))))
+returns-in-Compute c = λ k on. c.put.ensures
+    ∙ in_writes _ _ _ on Compute c.in-Compute.is _ _ false refl c.local_name.ensures (c.expression_of.ensures _ _ _ _ _ c.args.seen.now.counts.few_items (ap has_expression c.in-Compute.is)) refl
 
-pub returns-in-2 : goal.returns-in-2
+pub returns-in-Store : goal.returns-in-Store
 unfolding stops breaks guarded_in_value name_of_target
-returns-in-2 c = λ k on. rw c.put-in-2.ensures (in_does _ _ _ _ on store (kind_2 _ c.in-2.is) refl refl refl refl (c.expression_of-in-2.ensures _ _ _ _ _ c.requires.few.items (ap has_expression (kind_2 _ c.in-2.is))))
+returns-in-Store c = λ k on. c.put-in-Store.ensures
+    ∙ in_writes _ _ _ on Store c.in-Store.is _ _ false refl refl (c.expression_of-in-Store.ensures _ _ _ _ _ c.args.seen.now.counts.few_items (ap has_expression c.in-Store.is)) refl
 
-pub returns-in-3 : goal.returns-in-3
+pub returns-in-Load : goal.returns-in-Load
 unfolding stops breaks guarded_in_value name_of_target name_of_a
-returns-in-3 c = λ k on. rw c.put-in-3.ensures (in_does _ _ _ _ on load (kind_3 _ c.in-3.is) refl refl refl c.local_name-in-3.ensures (reads_a c.args.locals.now c.args.items.now c.args.counts.globals c.args.counts.items _ load (kind_3 _ c.in-3.is) _ _ (c.item_at.ensures _)))
+returns-in-Load c = λ k on. c.put-in-Load.ensures
+    ∙ in_writes _ _ _ on Load c.in-Load.is _ _ false refl c.local_name-in-Load.ensures (c.item.ensures ∙ ap (λ (x : Kind). look (memory_in c.args.seen.now) (name_of_a x c.args.l.a)) (sym c.in-Load.is)) refl
 
-pub returns-in-4 : goal.returns-in-4
+pub returns-in-Input : goal.returns-in-Input
 unfolding stops breaks guarded_in_value name_of_target
-returns-in-4 c = λ k on. rw c.put-in-4.ensures (in_does _ _ _ _ on input (kind_4 _ c.in-4.is) refl refl refl c.local_name-in-4.ensures refl)
+returns-in-Input c = λ k on. c.put-in-Input.ensures ∙ in_writes _ _ _ on Input c.in-Input.is _ _ false refl c.local_name-in-Input.ensures refl refl
 
-pub returns-in-5 : goal.returns-in-5
+pub returns-in-Assert : goal.returns-in-Assert
 unfolding stops guarded_in_value name_of_target
-returns-in-5 c =
-    let kind = kind_5 _ c.in-5.is in
-    λ k on. in_does _ _ _ _ on assert kind refl refl (breaks_kind _ _ assert kind _ _ (c.breaks.ensures c.args.given k c.args.locals.now on)) refl (c.bit_of-value.ensures ∙ ap (λ (x : ℕ). bit (nonzero x)) (c.expression_of-in-5.ensures _ _ _ _ _ c.requires.few.items (ap has_expression kind)))
+returns-in-Assert c = λ k on.
+    in_writes _ _ _ on Assert c.in-Assert.is _ _ _ refl refl
+    (c.bit_of-value.ensures ∙ ap (λ (x : ℕ). bit (nonzero x)) (c.expression_of-in-Assert.ensures _ _ _ _ _ c.args.seen.now.counts.few_items (ap has_expression c.in-Assert.is)))
+    (breaks_kind _ _ Assert c.in-Assert.is _ _ (c.breaks.ensures c.args.given k on))
 
-pub returns-in-6 : goal.returns-in-6
+pub returns-in-Assume : goal.returns-in-Assume
+unfolding breaks name_of_target
+returns-in-Assume c = λ k on.
+    let value = c.expression_of-in-Assume.ensures c.args.seen.now.counts.globals c.args.seen.now.counts.items c.args.given c.args.seen.now.items.now k c.args.seen.now.counts.few_items (ap has_expression c.in-Assume.is) in
+    c.put_unless.ensures ∙ in_ends _ _ _ on Assume c.in-Assume.is _ _ _ (stops_assume _ _ on _ value) refl (passed_assume _ _ on _ value) refl
+
+pub returns-in-Lock : goal.returns-in-Lock
 unfolding breaks guarded_in_value name_of_target
-returns-in-6 c = λ k on. in_does _ _ _ _ on assume (kind_6 _ c.in-6.is) refl (stops_assume _ _ on _ (c.expression_of-x.ensures _ _ _ _ _ c.requires.few.items (ap has_expression (kind_6 _ c.in-6.is)))) refl refl (c.bit_of.ensures ∙ ap (λ (x : ℕ). bit (nonzero x)) (c.expression_of-x.ensures _ _ _ _ _ c.requires.few.items (ap has_expression (kind_6 _ c.in-6.is))))
+returns-in-Lock c = λ k on. c.put_unless-in-Lock.ensures
+    ∙ in_ends _ _ _ on Lock c.in-Lock.is _ _ _
+    (stops_lock _ _ on _ (c.item-taken.ensures ∙ ap (λ (x : Kind). look (memory_in c.args.seen.now) (name_of_target c.args.seen.now.counts.globals x c.args.l.target)) (sym c.in-Lock.is)))
+    refl (λ _. c.holder.ensures k) refl
 
-pub returns-in-7 : goal.returns-in-7
-unfolding breaks guarded_in_value name_of_target
-returns-in-7 c =
-    let kind = kind_7 _ c.in-7.is in
-    λ k on. in_does _ _ _ _ on lock kind refl (stops_lock _ _ on _ (reads_target c.args.locals.now c.args.items.now c.args.counts.globals c.args.counts.items _ lock kind _ _ (c.item_at-in-7.ensures _))) refl refl (c.holder.ensures k)
-
-pub returns-in_default : goal.returns-in_default
+pub returns-in-Unlock : goal.returns-in-Unlock
 unfolding stops guarded_in_value name_of_target
-returns-in_default c =
-    let kind = unlock_other _ c.in_default.in_default-own.rest in
-    λ k on. rw c.free.ensures (in_does _ _ _ _ on unlock kind refl refl (breaks_kind _ _ unlock kind _ _ (c.breaks-stranger.ensures c.args.given k c.args.locals.now on)) refl refl)
+returns-in-Unlock c = λ k on.
+    in_writes _ _ _ on Unlock c.in-Unlock.is _ _ _ refl refl refl (breaks_kind _ _ Unlock c.in-Unlock.is _ _ (c.breaks-in-Unlock.ensures c.args.given k on))

@@ -3,7 +3,7 @@ use mathlib.Core.Path.{sym, ◌∙◌}
 use Rattle.turn.proofs.effect_of.Goals as goal
 
 pub returns-then-guarded : goal.returns-then-guarded
-returns-then-guarded c = λ k. c.effect_in.ensures k (sym (c.guarded.ensures _ _ _ _ k c.requires.few.items) ∙ c.if-guarded.true)
+returns-then-guarded c = λ k. c.effect_in.ensures k (sym (c.guarded.ensures _ _ _ _ k c.args.seen.now.counts.few_items) ∙ c.if-guarded.true)
 
 pub returns : goal.returns
-returns c = λ k. c.effect_out.ensures c.args.counts c.args.locals.now c.args.items.now k (sym (c.guarded.ensures _ c.args.counts.items _ _ k c.requires.few.items) ∙ c.if-guarded.false)
+returns c = λ k. c.effect_out.ensures c.args.seen.now k (sym (c.guarded.ensures _ c.args.seen.now.counts.items _ _ k c.args.seen.now.counts.few_items) ∙ c.if-guarded.false)

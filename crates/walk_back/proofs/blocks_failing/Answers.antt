@@ -1,20 +1,20 @@
 -- `walk_back::blocks_failing` meets its contract. Assumes nothing.
-use Rattle.walk_back.proofs.Blocks.{blocks_start, blocks_end, blocks_ready, blocks_found, blocks_more}
+use Rattle.std.proofs.lemmas.Result.{err_from_is_err_and}
+use Rattle.walk_back.proofs.Blocks.{blocks_end, blocks_ready, blocks_found, blocks_more}
 use Rattle.walk_back.proofs.blocks_failing.Goals as goal
 
-pub loop-i-init : goal.loop-i-init
-loop-i-init c = blocks_start c.requires _ c.switches-last.ensures c.start_of_block-before.ensures
+pub block_failing-requires : goal.block_failing-requires
+block_failing-requires c =
+    blocks_ready c.requires _ c.switches-block-end.ensures c.loop-block.invariant c.loop-block-test.true c.start_of_block-after.ensures
 
-pub block_failing-found-requires : goal.block_failing-found-requires
-block_failing-found-requires c = blocks_ready c.requires _ c.switches-last.ensures c.loop-i.invariant c.loop-i-test.true c.start_of_block-after.ensures
+pub returns-in_err-next : goal.returns-in_err-next
+returns-in_err-next c =
+    let p = err_from_is_err_and c.from_residual.result c.from_residual.ensures.1 in
+    rw (p.1, p.2) (blocks_found c.requires _ c.switches-block-end.ensures c.loop-block.invariant c.loop-block-test.true c.in_err-next.ensures)
 
-pub returns-then-found-ne0 : goal.returns-then-found-ne0
-returns-then-found-ne0 c =
-    blocks_found c.requires _ c.switches-last.ensures c.loop-i.invariant c.loop-i-test.true c.block_failing-found.ensures c.if-found-ne0.true
-
-pub loop-i-preserved : goal.loop-i-preserved
-loop-i-preserved c =
-    blocks_more c.requires _ c.switches-last.ensures c.loop-i.invariant c.loop-i-test.true c.block_failing-found.ensures c.if-found-ne0.false c.start_of_block-after.ensures
+pub loop-block-preserved : goal.loop-block-preserved
+loop-block-preserved c =
+    blocks_more c.requires _ c.switches-block-end.ensures c.loop-block.invariant c.loop-block-test.true c.start_of_block-after.ensures c.in_ok-next.ensures
 
 pub returns : goal.returns
-returns c = blocks_end c.requires _ c.switches-last.ensures c.loop-i.invariant c.loop-i-test.false
+returns c = blocks_end c.requires _ c.switches-block-end.ensures c.loop-block.invariant c.loop-block-test.false

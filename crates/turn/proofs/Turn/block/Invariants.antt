@@ -1,9 +1,7 @@
 -- `turn::Turn::block` meets its contract. The invariant: the steps that are left decide. Assumes nothing.
+use Prim.Native.Nat.{◌-◌}
 use Rattle.turn.proofs.Blocks.{Stepping}
 use Rattle.turn.proofs.Turn.block.Given as goal
 
-abbrev pub invariant-loop-left : goal.invariant-loop-left
-invariant-loop-left l = Stepping l.case l.given l.t l.i l.steps l.initial.self l.initial.trace l.left l.self l.trace
-
-abbrev pub decreases-loop-left : goal.decreases-loop-left
-decreases-loop-left l = l.left
+abbrev pub invariant-loop : goal.invariant-loop
+invariant-loop l = Stepping l.case.bytes.now l.given l.t l.i l.steps l.initial.self l.initial.trace (l.steps - l.counter) l.self l.trace

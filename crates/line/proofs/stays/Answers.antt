@@ -1,8 +1,0 @@
--- `line::stays` meets its contract. Assumes nothing.
-use Rattle.line.proofs.stays.Goals as goal
-
-pub returns-then-first : goal.returns-then-first
-returns-then-first c = rw c.if-first.true
-
-pub returns : goal.returns
-returns c = rw (c.if-first.false, c.visible.ensures)
