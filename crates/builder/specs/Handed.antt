@@ -8,6 +8,7 @@ use Rattle.case_file.specs.declared.Record.{Record}
 abbrev pub record_handed : List ℕ → Record
 record_handed fields = record {
   thread = 0;
+  kind_number = get_or fields 1 0;
   kind = kind_of (get_or fields 1 0);
   guard = get_or fields 2 0;
   target = get_or fields 3 0;

@@ -29,7 +29,7 @@ pub fn take_line(
     Refusal::Counts.unless(counts_ok(globals, mutexes))?;
     Refusal::Links.unless(number_ok(number))?;
     let l = record_of(fields);
-    Refusal::Fields(number).unless(fields_ok(fields[1], l, globals, mutexes))?;
+    Refusal::Fields(number).unless(fields_ok(l, globals, mutexes))?;
     Ok(copies::take_line(held, globals as usize, l, number))
 }
 
@@ -54,6 +54,7 @@ fn record_of(fields: &[u16; FIELDS]) -> Record
 {
     Record {
         thread: 0,
+        kind_number: fields[1],
         kind: Kind::from(fields[1]),
         guard: fields[2],
         target: fields[3],

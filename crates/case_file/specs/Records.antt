@@ -9,6 +9,7 @@ use Rattle.case_file.specs.declared.Link.{Link}
 abbrev pub record_of : List ℕ → ℕ → ℕ → Record
 record_of bytes t k = record {
   thread = t;
+  kind_number = record_field bytes k 1;
   kind = kind_of (record_field bytes k 1);
   guard = record_field bytes k 2;
   target = record_field bytes k 3;

@@ -1,12 +1,11 @@
 // Reading a case: its header, its records, and how many variables it has.
 #![tactic(auto)]
 
-ghost use Rattle.std.specs.Prelude.{Ok, ◌≡◌, ◌+◌, ◌-◌, ◌*◌, ◌<◌, ◌≤◌, leb, length};
+ghost use Rattle.std.specs.Prelude.{◌≡◌, ◌+◌, ◌-◌, ◌*◌, ◌<◌, ◌≤◌, leb, length};
 ghost use Rattle.model.specs.Limits.{most_threads, most_switches, most_globals, most_items, most_variables, header_bytes};
 ghost use Rattle.model.specs.CaseFile.{field, records, thread_count, switch_count, global_count, mutex_count, first_record, initial_value, next_record, record_field, kind_of, case_of, item_count};
 ghost use Rattle.model.specs.Lists.{all_from};
 ghost use Rattle.model.specs.Assignment.{variables};
-ghost use Rattle.model.specs.Accept.{verdict};
 ghost use Rattle.laws.specs.Accepted.{Accepted};
 ghost use Rattle.laws.specs.Bounded.{Bounded};
 ghost use Rattle.case_file.specs.FirstItems.{first_items};
@@ -20,18 +19,19 @@ pub const FIRSTS: usize = 4;
 
 pub const INITIALS: usize = 8;
 
-// A case that the calls take: no refusal from 1 to 9 meets its bytes, and what follows from that.
+// An accepted case: what checks 1 to 9 give of its bytes.
 #[derive(Clone, Copy)]
 pub struct Case<'a> {
     pub bytes: &'a [u8],
-    pub ghost taken: { verdict bytes.now ≡ Ok tt },
     pub ghost accepted: { Accepted bytes.now },
 }
 
-// A record as a line of a thread: the thread, and the record's fields but for its next number.
+// A record as a line of a thread: the thread, and the record's fields but for its next number; of its kind the number, and what kind that
+// is.
 #[derive(Clone, Copy)]
 pub struct Record {
     pub thread: u16,
+    pub kind_number: u16,
     pub kind: Kind,
     pub guard: u16,
     pub target: u16,
@@ -162,6 +162,7 @@ pub fn record_at(case: &[u8], t: u16, k: usize) -> Record
 {
     Record {
         thread: t,
+        kind_number: kind_number(case, k),
         kind: kind_of(case, k),
         guard: field_of(case, k, 2),
         target: field_of(case, k, 3),

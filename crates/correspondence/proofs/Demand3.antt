@@ -32,6 +32,7 @@ use Rattle.model.specs.Fill.{fill}
 use Rattle.laws.specs.AllHold.{AllHold}
 use Rattle.correspondence.specs.ReadBack.{rows_of}
 use Rattle.correspondence.specs.Agreement.{broken_in}
+use Rattle.correspondence.specs.Numbered.{RefusalsNumbered}
 use Rattle.correspondence.specs.Demand3.{table_room, schedule_room, item_room, assignment_room, written_rows, Yes, DecodedAs, FilledAs, counted, AnsweredViolated, ViolatingRun, MeetsWithoutEights, Demand3, ForEveryAcceptedCase}
 use Rattle.correspondence.proofs.KindByKind.{steps_as_said_lem}
 use Rattle.correspondence.proofs.WellFormed.{well_formed}
@@ -61,6 +62,29 @@ written_whole result slice h = ap (λ (k : ℕ). result ++ drop k slice) h ∙ a
 -- Record k alone is asked about.
 abbrev is_record : ℕ → Line → Bool
 is_record k l = eqb l.number k
+
+-- ---- The numbers and places.
+
+pub refusals_numbered : RefusalsNumbered
+refusals_numbered = record {
+  size = (refl, refl);
+  threads = (refl, refl);
+  switches = (refl, refl);
+  counts = (refl, refl);
+  absent = (refl, refl);
+  links = (refl, refl);
+  unreached = (refl, refl);
+  lines = (refl, refl);
+  fields = λ k. (refl, refl);
+  short = (refl, refl);
+  assignment = (refl, refl);
+  schedule = (refl, refl);
+  lengths = (refl, refl);
+  stray = λ k. (refl, refl);
+  fails = λ k. (refl, refl);
+  no_violation = (refl, refl);
+  late = λ k. (refl, refl);
+}
 
 -- A schedule whose run finishes and violates, as the trace has it.
 record Breaking (case : Case) (schedule : List ℕ) : Type 0 where
@@ -457,6 +481,7 @@ module _ (bytes : List ℕ) (small : AllBelow 256 bytes) (accepted : verdict byt
     short_schedule = λ xs told. decoded_short bytes accepted xs (passes_of_meets bytes xs told.1);
     short_assignment = filled_short bytes accepted;
     short_items = replayed_short bytes accepted;
+    numbered = refusals_numbered;
   }
 
 pub demand_3 : ForEveryAcceptedCase

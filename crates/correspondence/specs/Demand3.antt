@@ -19,6 +19,7 @@ use Rattle.model.specs.declared.Replayed.TheVariants as replayeds
 use Rattle.laws.specs.AllHold.{AllHold}
 use Rattle.correspondence.specs.ReadBack.{rows_of, FirstFails}
 use Rattle.correspondence.specs.KindByKind.{StepsAsSaid}
+use Rattle.correspondence.specs.Numbered.{RefusalsNumbered}
 use Rattle.model.specs.Fill.{fill}
 use Rattle.model.specs.declared.Refusal.{Refusal}
 use Rattle.model.specs.declared.Refusal.TheVariants as refusals
@@ -193,6 +194,8 @@ pub record Demand3 (bytes : List ℕ) : Type 0 where
   pub short_schedule : (xs : List ℕ) → Yes bytes xs → (room : ℕ) → room < schedule_room bytes → decoded bytes xs room ≡ Err refusals.Short
   pub short_assignment : (schedule : List ℕ) (room : ℕ) → room < assignment_room bytes → filled bytes schedule room ≡ Err refusals.Short
   pub short_items : (schedule : List ℕ) (room : ℕ) → room < item_room bytes → replayed bytes schedule room ≡ Err refusals.Short
+  -- ---- The refusals that are named here have the document's numbers and places.
+  pub numbered : RefusalsNumbered
 
 -- Demand 3: for every list of bytes that no refusal from 1 to 9 meets.
 abbrev pub ForEveryAcceptedCase : Type 0

@@ -4,4 +4,5 @@ pub mod Agreement
 pub mod Traced
 pub mod KindByKind
 pub mod ReadBack
+pub mod Numbered
 pub mod Demand3

@@ -1,7 +1,8 @@
 // The decoder: the schedule of an assignment that meets the constraints.
 #![tactic(auto)]
 
-ghost use Rattle.std.specs.Prelude.{◌≡◌, length};
+ghost use Rattle.std.specs.Prelude.{Ok, ◌≡◌, length};
+ghost use Rattle.model.specs.Accept.{verdict};
 ghost use Rattle.model.specs.Answers.{decoded, decoded_into};
 ghost use Rattle.decoder.specs.Decoding.{Answered};
 
@@ -28,6 +29,7 @@ fn decode_accepted(
     assignment: &[u16],
     schedule: &mut [u16],
 ) -> Result<u16, Refusal>
+    requires { verdict case.now.bytes.now ≡ Ok tt }
     ensures { Answered case.now.bytes.now assignment.now schedule.old schedule.new result }
 {
     let size = schedule_size(case);

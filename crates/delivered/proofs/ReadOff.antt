@@ -26,30 +26,8 @@ use Rattle.model.specs.declared.CopyNumbers.{CopyNumbers}
 use Rattle.script.specs.Text.{spelled_numbers}
 use Rattle.script.specs.declared.TextNumbers.{TextNumbers}
 use Rattle.correspondence.specs.Demand3.{Demand3}
-use Rattle.delivered.specs.ReadOff.{RefusedWith, RefusalsNumbered, AnswersToldApart, SomeYes, SomeViolated}
-
--- ---- The numbers and places.
-
-refusals_numbered : RefusalsNumbered
-refusals_numbered = record {
-  size = (refl, refl);
-  threads = (refl, refl);
-  switches = (refl, refl);
-  counts = (refl, refl);
-  absent = (refl, refl);
-  links = (refl, refl);
-  unreached = (refl, refl);
-  lines = (refl, refl);
-  fields = λ k. (refl, refl);
-  short = (refl, refl);
-  assignment = (refl, refl);
-  schedule = (refl, refl);
-  lengths = (refl, refl);
-  stray = λ k. (refl, refl);
-  fails = λ k. (refl, refl);
-  no_violation = (refl, refl);
-  late = λ k. (refl, refl);
-}
+use Rattle.correspondence.proofs.Demand3.{refusals_numbered}
+use Rattle.delivered.specs.ReadOff.{RefusedWith, AnswersToldApart, SomeYes, SomeViolated}
 
 -- ---- A refusal had back from its number and place.
 

@@ -4,7 +4,6 @@
 use Rattle.std.specs.Prelude.{◌≡◌, ◌↔◌, ◌≢◌, ℕ, ◌≤◌, List, Result, Ok, Err}
 use Rattle.model.specs.Word.{word_size, AllBelow}
 use Rattle.model.specs.declared.Refusal.{Refusal}
-use Rattle.model.specs.declared.Refusal.TheVariants.{Size, Threads, Switches, Counts, Absent, Links, Unreached, Lines, Fields, Short, Assignment, Schedule, Lengths, Stray, Fails, NoViolation, Late}
 use Rattle.model.specs.Refusals.{Verdict, refusal_number, refusal_place}
 use Rattle.model.specs.Answers.{refused_numbers, answer_numbers, verdict_numbers, encoded_numbers, checked_numbers, decoded_numbers, replayed_numbers, filled_numbers, checked, replayed}
 use Rattle.model.specs.Listing.{listed_numbers}
@@ -16,35 +15,13 @@ use Rattle.model.specs.declared.Replayed.TheVariants as replayeds
 use Rattle.model.specs.Taking.{taken_numbers}
 use Rattle.model.specs.declared.Copies.{Copies}
 use Rattle.script.specs.Text.{spelled_numbers}
+use Rattle.correspondence.specs.Numbered.{Numbered, RefusalsNumbered}
 use Rattle.correspondence.specs.Demand3.{item_room}
 
--- A refusal has this number and this place; an answer is such a refusal.
-abbrev pub Numbered : Refusal → ℕ → ℕ → Type 0
-Numbered e number place = (refusal_number e ≡ number) × (refusal_place e ≡ place)
-
+-- An answer is a refusal with this number and this place.
 abbrev pub RefusedWith : {A : Type 0} → ℕ → ℕ → Result A Refusal → Type 0
 RefusedWith number place (Ok answer) = ⊥
 RefusedWith number place (Err e) = Numbered e number place
-
--- The document's number of each refusal, 1 to 15, and Six's 16 and 17; "Each comes with a place, 0 unless stated".
-pub record RefusalsNumbered : Type 0 where
-  pub size : Numbered Size 1 0
-  pub threads : Numbered Threads 2 0
-  pub switches : Numbered Switches 3 0
-  pub counts : Numbered Counts 4 0
-  pub absent : Numbered Absent 5 0
-  pub links : Numbered Links 6 0
-  pub unreached : Numbered Unreached 7 0
-  pub lines : Numbered Lines 8 0
-  pub fields : (k : ℕ) → Numbered (Fields k) 9 k
-  pub short : Numbered Short 10 0
-  pub assignment : Numbered Assignment 11 0
-  pub schedule : Numbered Schedule 12 0
-  pub lengths : Numbered Lengths 13 0
-  pub stray : (k : ℕ) → Numbered (Stray k) 14 k
-  pub fails : (k : ℕ) → Numbered (Fails k) 15 k
-  pub no_violation : Numbered NoViolation 16 0
-  pub late : (k : ℕ) → Numbered (Late k) 17 k
 
 -- Each answer of each call has numbers of its own, and number and place are a refusal's own.
 pub record AnswersToldApart : Type 0 where

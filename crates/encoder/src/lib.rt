@@ -2,11 +2,12 @@
 // each thread's lines.
 #![tactic(auto)]
 
-ghost use Rattle.std.specs.Prelude.{◌≡◌, ◌+◌, ◌≤◌, ◌<◌, length};
+ghost use Rattle.std.specs.Prelude.{Ok, ◌≡◌, ◌+◌, ◌≤◌, ◌<◌, length};
 ghost use Rattle.model.specs.CaseFile.{thread_count, case_of};
 ghost use Rattle.model.specs.Lists.{written_over};
 ghost use Rattle.model.specs.Copies.{nothing_held};
 ghost use Rattle.model.specs.Table as model;
+ghost use Rattle.model.specs.Accept.{verdict};
 ghost use Rattle.model.specs.Answers.{encoded, encoded_into};
 ghost use Rattle.laws.specs.Accepted.{thread_lines};
 ghost use Rattle.laws.specs.Written.{Put};
@@ -43,6 +44,7 @@ pub fn encode(case: &[u8], table: &mut [u16]) -> Result<TableSize, Refusal>
 // The table of an accepted case where it fits; refusal 10 where it does not.
 #[tactic(auto, using(laws::proofs::Sizes::table_rows, laws::proofs::Sizes::six_a_row), unfolding(model::specs::Answers::on_case, model::specs::Answers::encoded, model::specs::Answers::encoded_into, crate::specs::Parts::table_numbers))]
 fn encode_accepted(case: &Case<'_>, table: &mut [u16]) -> Result<TableSize, Refusal>
+    requires { verdict case.now.bytes.now ≡ Ok tt }
     ensures { Answered case.now.bytes.now table.old table.new result }
 {
     let count = constraint_count(case);

@@ -1,10 +1,11 @@
 // The filler: the assignment of a schedule whose run violates.
 #![tactic(auto)]
 
-ghost use Rattle.std.specs.Prelude.{◌≡◌, ℕ, ◌≤◌, length};
+ghost use Rattle.std.specs.Prelude.{Ok, ◌≡◌, ℕ, ◌≤◌, length};
 ghost use Rattle.model.specs.Lists.{unless_0};
 ghost use Rattle.model.specs.CaseFile.{records, case_of};
 ghost use Rattle.model.specs.Fill.{late_in, first_late};
+ghost use Rattle.model.specs.Accept.{verdict};
 ghost use Rattle.model.specs.Answers.{filled, filled_into};
 ghost use Rattle.laws.specs.Accepted.{lines_from};
 ghost use Rattle.assignment.specs.Numbers.{record_block};
@@ -34,6 +35,7 @@ pub fn fill(case: &[u8], schedule: &[u16], assignment: &mut [u16]) -> Result<u16
 
 // The assignment of a schedule of an accepted case: refusals 10, 12 and 13 before the run.
 fn fill_accepted(case: &Case<'_>, schedule: &[u16], assignment: &mut [u16]) -> Result<u16, Refusal>
+    requires { verdict case.now.bytes.now ≡ Ok tt }
     ensures { Answered case.now.bytes.now schedule.now assignment.old assignment.new result }
 {
     let size = case.variables();

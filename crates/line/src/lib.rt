@@ -237,11 +237,11 @@ pub struct Seen<'a> {
 }
 
 impl Seen<'_> {
-    ghost use Rattle.line.specs.SeenReads.{memory_in, Breaks};
+    ghost use Rattle.line.specs.SeenReads.{Breaks};
 
     // The value of item g.
     pub fn item(&self, g: usize) -> u16
-        ensures { result ≡ look (memory_in self.now) (item_name g) }
+        ensures { (locals : List ℕ) → result ≡ look (memory locals self.now.items.now self.now.counts.items) (item_name g) }
     {
         if g < self.counts.items {
             self.items[g]
@@ -287,15 +287,16 @@ pub fn put_local(locals: &mut [u16; LOCALS], name: usize, value: u16)
     }
 }
 
-// A name gets a value, if it is an item's, in a case with these counts.
-pub fn put_item(items: &mut [u16; ITEMS], counts: Counts, name: usize, value: u16)
-    ensures { take counts.items items.new ≡ put_item true name value (take counts.items items.old) }
+// A name gets a value, if it is an item's, in a case with so many items.
+pub fn put_item(items: &mut [u16; ITEMS], count: usize, name: usize, value: u16)
+    requires { count ≤ most_items }
+    ensures { take count items.new ≡ put_item true name value (take count items.old) }
 {
     if name < LOCALS {
         return;
     }
     let g = name - LOCALS;
-    if g < counts.items {
+    if g < count {
         items[g] = value;
     }
 }

@@ -1,5 +1,5 @@
 -- The lines of an accepted case are its records, each as a line of its thread.
--- Assumes nothing. Met again in Noted and RowLines, in `Tabled::line`, and where the text of a line needs its thread.
+-- Assumes nothing. Met again in Noted and RowLines, in `line_of`, and where the text of a line needs its thread.
 use mathlib.Core.Path.{◌≡◌, refl, sym, ap, ◌∙◌}
 use Prim.Native.Nat.{ℕ, ◌≤◌, ◌<◌}
 use mathlib.Core.List.{List, [], ◌∷◌}

@@ -1,8 +1,9 @@
 -- The threads of a case's lines, the rows of a table, and what the rows of a case's table have of the case.
 -- Assumes nothing.
 use Rattle.std.specs.Prelude.{◌≡◌, ℕ, ◌+◌, ◌*◌, ◌≤◌, ◌<◌, List, [], ◌∷◌, get_or}
-use Rattle.model.specs.CaseFile.{Case, case_of, line_at}
+use Rattle.model.specs.CaseFile.{Case, records, case_of, line_at}
 use Rattle.model.specs.Table.{Row, row}
+use Rattle.laws.specs.Accepted.{Accepted}
 use Rattle.laws.specs.RecordNumber.{RecordNumber}
 use Rattle.linked.specs.Shape.{HasFrame}
 use Rattle.linked.specs.declared.Frame.{Frame}
@@ -11,6 +12,12 @@ use Rattle.walk_text.specs.Previous.{HasTable}
 -- `threads` has for each line of a case, by record number, its thread.
 abbrev pub HasThreads : Case → List ℕ → Type 0
 HasThreads case threads = (k : ℕ) → 0 < k → k ≤ case.R → get_or threads k 0 ≡ (line_at case k).thread
+
+-- Line k is there, and its thread is known.
+pub record LineThere (bytes threads : List ℕ) (k : ℕ) : Type 0 where
+  pub accepted : Accepted bytes
+  pub lines : HasThreads (case_of bytes) threads
+  pub number : RecordNumber (records bytes) k
 
 -- A case's frame, its table, so many rows in a slice, and its lines' threads.
 pub record CaseHanded (bytes : List ℕ) (frame : Frame) (xs : List ℕ) (count : ℕ) (threads : List ℕ) : Type 0 where

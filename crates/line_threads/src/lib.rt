@@ -9,7 +9,7 @@ ghost use Rattle.laws.specs.RecordNumber.{RecordNumber};
 ghost use Rattle.case_file.specs.Records.{as_line};
 ghost use Rattle.rows.specs.Rows.{as_row};
 ghost use Rattle.walk_text.specs.Previous.{HasTable};
-ghost use Rattle.line_threads.specs.Threads.{HasThreads, CaseHanded, row_at};
+ghost use Rattle.line_threads.specs.Threads.{HasThreads, LineThere, CaseHanded, row_at};
 
 use case_file::{Case, Record, record_at};
 use linked::Frame;
@@ -41,29 +41,44 @@ pub fn threads_of(table: &[u16], count: u16) -> [u16; RECORD_PLACES]
     note_rows(table, count, THREAD_ROW, THREAD)
 }
 
+// Row j of the table. Past the table's end there are zeros, as `at` has them: a pattern over `get(from..from + ROW)` would need an arm of its
+// own for them.
+pub fn row_at(table: &[u16], j: u16) -> Constraint
+    ensures { as_row result ≡ row_at table.now j }
+{
+    let from = ROW * j as usize;
+    Constraint {
+        kind: at(table, from),
+        one: at(table, from + 1),
+        two: at(table, from + 2),
+        three: at(table, from + 3),
+        four: at(table, from + 4),
+        five: at(table, from + 5),
+    }
+}
+
+// The record of line k, by the thread that it is in.
+pub fn line_of(case: &[u8], threads: &[u16], k: u16) -> Record
+    requires { LineThere case.now threads.now k }
+    ensures { as_line result k ≡ line_at (case_of case.now) k }
+{
+    let line = k as usize;
+    record_at(case, at(threads, line), line)
+}
+
 impl Tabled<'_> {
-    // Row j of the table. Past the table's end there are zeros, as `at` has them: a pattern over `get(from..from + ROW)` would need an arm
-    // of its own for them.
+    // Row j of its table.
     pub fn row(&self, j: u16) -> Constraint
         ensures { as_row result ≡ row_at self.now.table.now j }
     {
-        let from = ROW * j as usize;
-        Constraint {
-            kind: at(self.table, from),
-            one: at(self.table, from + 1),
-            two: at(self.table, from + 2),
-            three: at(self.table, from + 3),
-            four: at(self.table, from + 4),
-            five: at(self.table, from + 5),
-        }
+        row_at(self.table, j)
     }
 
-    // The record of line k, by the thread that it is in.
+    // The record of its line k.
     pub fn line(&self, k: u16) -> Record
         requires { RecordNumber (records self.now.case.bytes.now) k }
         ensures { as_line result k ≡ line_at (case_of self.now.case.bytes.now) k }
     {
-        let line = k as usize;
-        record_at(self.case.bytes, at(self.threads, line), line)
+        line_of(self.case.bytes, self.threads, k)
     }
 }

@@ -1,8 +1,9 @@
 // The replayer: what a schedule of a case comes to.
 #![tactic(auto)]
 
-ghost use Rattle.std.specs.Prelude.{◌≡◌, length, take};
+ghost use Rattle.std.specs.Prelude.{Ok, ◌≡◌, length, take};
 ghost use Rattle.model.specs.Lists.{written_over};
+ghost use Rattle.model.specs.Accept.{verdict};
 ghost use Rattle.model.specs.Answers.{replayed, replayed_into};
 ghost use Rattle.replayer.specs.Promises.{Ran, Answered};
 ghost use Rattle.replayer.specs.Ready.{ItemsFit, BlocksReady};
@@ -43,6 +44,7 @@ fn replay_accepted(
     schedule: &[u16],
     items: &mut [u16],
 ) -> Result<Replayed, Refusal>
+    requires { verdict case.now.bytes.now ≡ Ok tt }
     ensures { Answered case.now.bytes.now schedule.now items.old items.new result }
 {
     let blocks = case_file::switches(case.bytes) as usize + 1;

@@ -8,7 +8,7 @@ ghost use Rattle.case_file.specs.Records.{as_line};
 ghost use Rattle.laws.specs.Sized.{Sized};
 ghost use Rattle.rules.specs.RuleReady.{RuleReady};
 
-use case_file::{Record, globals, kind_number, mutexes, record_at, records};
+use case_file::{Record, globals, mutexes, record_at, records};
 use model::Kind;
 
 // A local is below this, and this as an operand is the constant.
@@ -45,6 +45,7 @@ fn no_expression(l: Record) -> bool
 }
 
 // Whether a record keeps its kind's rule.
+#[inline(always)]
 #[tactic(auto, unfolding(model::specs::Accept::kind_rule))]
 fn kind_rule_ok(l: Record, globals: u16, mutexes: u16) -> bool
     ensures { (k : ℕ) → result ≡ kind_rule l.kind globals mutexes (as_line l k) }
@@ -59,12 +60,13 @@ fn kind_rule_ok(l: Record, globals: u16, mutexes: u16) -> bool
     }
 }
 
-// Whether a record keeps the rules of its fields, in a case with so many globals and mutexes, its kind having this number. The record's own
-// number makes no difference.
-pub fn fields_ok(kind: u16, l: Record, globals: u16, mutexes: u16) -> bool
-    ensures { (k : ℕ) → result ≡ fields_ok kind globals mutexes (as_line l k) }
+// Whether a record keeps the rules of its fields, in a case with so many globals and mutexes. Its number makes no difference.
+// In line, and so is what it asks of a kind: it has two callers, and as calls they would take accept half as many instructions again.
+#[inline(always)]
+pub fn fields_ok(l: Record, globals: u16, mutexes: u16) -> bool
+    ensures { (k : ℕ) → result ≡ fields_ok l.kind_number globals mutexes (as_line l k) }
 {
-    (1..=model::HIGHEST_KIND).contains(&kind)
+    (1..=model::HIGHEST_KIND).contains(&l.kind_number)
         && l.guard <= model::HIGHEST_GUARD
         && kind_rule_ok(l, globals, mutexes)
 }
@@ -74,9 +76,8 @@ fn rule_ok(case: &[u8], k: usize, globals: u16, mutexes: u16) -> bool
     requires { RuleReady case.now k globals mutexes }
     ensures { result ≡ rule_ok case.now k }
 {
-    let kind = kind_number(case, k);
     let l = record_at(case, 0, k);
-    fields_ok(kind, l, globals, mutexes)
+    fields_ok(l, globals, mutexes)
 }
 
 // 9: the lowest record that breaks the rules, if one does.

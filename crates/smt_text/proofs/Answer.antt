@@ -51,6 +51,7 @@ table_handed bytes slice large er ex e =
     let taken = case_taken bytes (length slice) large er e in
     let told = table_fits bytes (length slice) large taken in
     record {
+      taken = taken;
       has = record { rows = cc; numbers = rw (ex ∙ table_written bytes slice large taken) (take-append_seam (numbers_of (table (case_of bytes))) _) };
       declared = cc;
     }

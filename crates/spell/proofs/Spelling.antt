@@ -52,7 +52,7 @@ spelt_nothing {out} {at} h = record { same = refl; place = sym (capped_below (at
     none : at + 0 ≡ at
     none = omega arith
 
-spelt_then : {xs ys d a x : List ℕ} {at place end : ℕ} → Spelt xs d at a place → Spelt ys a place x end → Spelt (xs ++ ys) d at x end
+pub spelt_then : {xs ys d a x : List ℕ} {at place end : ℕ} → Spelt xs d at a place → Spelt ys a place x end → Spelt (xs ++ ys) d at x end
 spelt_then {xs} {ys} {d} {a} {x} {at} {place} {end} first second = record {
   same = second.same ∙ first.same;
   place = second.place ∙ ap (λ (k : ℕ). capped (k + length ys)) first.place ∙ capped_add (at + length xs) (length ys) ∙ ap capped size;

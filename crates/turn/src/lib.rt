@@ -243,7 +243,7 @@ impl Turn {
                 } => {
                     trace_line(trace, at, i, &seen, l, value);
                     line::put_local(&mut self.locals, name, value);
-                    line::put_item(&mut self.items, counts, name, value);
+                    line::put_item(&mut self.items, counts.items, name, value);
                     self = self.step(case_file::next_of(case.bytes, at), k, breaks);
                 }
             }

@@ -226,7 +226,7 @@ fn thread_values(
         at += value_rows(l.kind) as u16;
         note_copy(previous, held, asked.name, k);
         line::put_local(&mut locals, asked.name, value);
-        line::put_item(&mut items, counts, asked.name, value);
+        line::put_item(&mut items, counts.items, asked.name, value);
         k = next_of(case.bytes, k as usize) as u16;
     }
     Ok(Walk { next: at, broken })

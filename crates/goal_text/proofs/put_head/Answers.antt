@@ -11,7 +11,7 @@ line-l-requires c = four_there c.args.tabled.now.case.accepted c.args.tabled.now
 pub put_part-requires : goal.put_part-requires
 put_part-requires c =
     let given = c.args.tabled.now in
-    let low = thread_low given.case.accepted (four_there given.case.accepted given.handed c.requires c.row-row.ensures c.if-row-eq4.true) _ c.line-l.ensures in
+    let low = thread_low given.case.accepted (four_there given.case.accepted given.handed c.requires c.row-row.ensures c.if-row-eq4.true) c.line-l.result c.line-l.ensures in
     search rules
 
 pub returns-then-row-eq4 : goal.returns-then-row-eq4

@@ -9,7 +9,7 @@ use borrow.Author.Rules.{rules}
 use Rattle.replayer.proofs.replay_accepted.Goals as goal
 
 pub returns-then-items-written : goal.returns-then-items-written
-returns-then-items-written c = answers_10 _ _ _ c.args.case.now.taken c.items-written.ensures.is c.if-items-written.true
+returns-then-items-written c = answers_10 _ _ _ c.requires c.items-written.ensures.is c.if-items-written.true
 
 pub refusal_of-requires : goal.refusal_of-requires
 refusal_of-requires c = let ok = c.args.case.now.accepted in search rules
@@ -17,7 +17,7 @@ refusal_of-requires c = let ok = c.args.case.now.accepted in search rules
 pub returns-in_err-refusal_of : goal.returns-in_err-refusal_of
 returns-in_err-refusal_of c =
     let p = err_from_is_err_and c.from_residual.result c.from_residual.ensures.1 in
-    rw (p.1, p.2) (answers_looked _ _ _ c.args.case.now.taken c.items-written.ensures.is c.if-items-written.false c.refusal_of.ensures c.in_err-refusal_of.was)
+    rw (p.1, p.2) (answers_looked _ _ _ c.requires c.items-written.ensures.is c.if-items-written.false c.refusal_of.ensures c.in_err-refusal_of.was)
 
 pub slice_bounds-lengths-end : goal.slice_bounds-lengths-end
 slice_bounds-lengths-end c = sym (length-take-le _ _ (enough_numbers _ _ _ _ c.refusal_of.ensures c.in_ok-refusal_of.was c.switches.ensures))
@@ -33,4 +33,4 @@ replay_blocks-requires c =
     }
 
 pub returns : goal.returns
-returns c = answers_run _ _ _ c.args.case.now.taken c.items-written.ensures.is c.if-items-written.false c.refusal_of.ensures c.switches.ensures c.in_ok-refusal_of.was c.replay_blocks.ensures
+returns c = answers_run _ _ _ c.requires c.items-written.ensures.is c.if-items-written.false c.refusal_of.ensures c.switches.ensures c.in_ok-refusal_of.was c.replay_blocks.ensures

@@ -9,7 +9,7 @@ line-l-requires c = line_numbered c.requires c.in-4.is (search rules)
 
 pub put_four-requires : goal.put_four-requires
 put_four-requires c =
-    let low = thread_low c.args.tabled.now.case.accepted (line_numbered c.requires c.in-4.is (search rules)) _ c.line-l.ensures in
+    let low = thread_low c.args.tabled.now.case.accepted (line_numbered c.requires c.in-4.is (search rules)) c.line-l.result c.line-l.ensures in
     search rules
 
 pub line-l-requires-in-5 : goal.line-l-requires-in-5

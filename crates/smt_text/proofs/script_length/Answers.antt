@@ -3,4 +3,4 @@ use Rattle.smt_text.proofs.Answer.{size_spelt}
 use Rattle.smt_text.proofs.script_length.Goals as goal
 
 pub returns : goal.returns
-returns c = size_spelt _ c.args.case.now.taken c.write_script.ensures.spelt
+returns c = size_spelt _ c.requires.taken c.write_script.ensures.spelt

@@ -12,8 +12,7 @@ returns-in_err-size c =
 
 pub invariant_of-script_length : goal.invariant_of-script_length
 invariant_of-script_length c =
-    let taken = case_taken _ _ refl c.encode.ensures.value c.in_ok-size.was in
-    record { taken = taken; accepted = accepted_of _ taken }
+    record { accepted = accepted_of _ (case_taken _ _ refl c.encode.ensures.value c.in_ok-size.was) }
 
 pub script_length-requires : goal.script_length-requires
 script_length-requires c = table_handed _ _ refl c.encode.ensures.value c.encode.ensures.table_after c.in_ok-size.was

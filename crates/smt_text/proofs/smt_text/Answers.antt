@@ -16,8 +16,7 @@ returns-in_err-size-clause-text_after c =
 
 pub invariant_of-put_script : goal.invariant_of-put_script
 invariant_of-put_script c =
-    let taken = case_taken _ _ refl c.encode.ensures.value c.in_ok-size.was in
-    record { taken = taken; accepted = accepted_of _ taken }
+    record { accepted = accepted_of _ (case_taken _ _ refl c.encode.ensures.value c.in_ok-size.was) }
 
 pub put_script-requires : goal.put_script-requires
 put_script-requires c = table_handed _ _ refl c.encode.ensures.value c.encode.ensures.table_after c.in_ok-size.was

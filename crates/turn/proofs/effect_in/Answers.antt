@@ -25,7 +25,7 @@ returns-in-Store c = λ k on. c.put-in-Store.ensures
 pub returns-in-Load : goal.returns-in-Load
 unfolding stops breaks guarded_in_value name_of_target name_of_a
 returns-in-Load c = λ k on. c.put-in-Load.ensures
-    ∙ in_writes _ _ _ on Load c.in-Load.is _ _ false refl c.local_name-in-Load.ensures (c.item.ensures ∙ ap (λ (x : Kind). look (memory_in c.args.seen.now) (name_of_a x c.args.l.a)) (sym c.in-Load.is)) refl
+    ∙ in_writes _ _ _ on Load c.in-Load.is _ _ false refl c.local_name-in-Load.ensures (c.item.ensures _ ∙ ap (λ (x : Kind). look (memory_in c.args.seen.now) (name_of_a x c.args.l.a)) (sym c.in-Load.is)) refl
 
 pub returns-in-Input : goal.returns-in-Input
 unfolding stops breaks guarded_in_value name_of_target
@@ -36,7 +36,7 @@ unfolding stops guarded_in_value name_of_target
 returns-in-Assert c = λ k on.
     in_writes _ _ _ on Assert c.in-Assert.is _ _ _ refl refl
     (c.bit_of-value.ensures ∙ ap (λ (x : ℕ). bit (nonzero x)) (c.expression_of-in-Assert.ensures _ _ _ _ _ c.args.seen.now.counts.few_items (ap has_expression c.in-Assert.is)))
-    (breaks_kind _ _ Assert c.in-Assert.is _ _ (c.breaks.ensures c.args.given k on))
+    (breaks_kind _ _ Assert c.in-Assert.is _ _ (c.breaks.ensures c.args.given k c.args.seen.now.locals.now on))
 
 pub returns-in-Assume : goal.returns-in-Assume
 unfolding breaks name_of_target
@@ -48,10 +48,10 @@ pub returns-in-Lock : goal.returns-in-Lock
 unfolding breaks guarded_in_value name_of_target
 returns-in-Lock c = λ k on. c.put_unless-in-Lock.ensures
     ∙ in_ends _ _ _ on Lock c.in-Lock.is _ _ _
-    (stops_lock _ _ on _ (c.item-taken.ensures ∙ ap (λ (x : Kind). look (memory_in c.args.seen.now) (name_of_target c.args.seen.now.counts.globals x c.args.l.target)) (sym c.in-Lock.is)))
+    (stops_lock _ _ on _ (c.item-taken.ensures _ ∙ ap (λ (x : Kind). look (memory_in c.args.seen.now) (name_of_target c.args.seen.now.counts.globals x c.args.l.target)) (sym c.in-Lock.is)))
     refl (λ _. c.holder.ensures k) refl
 
 pub returns-in-Unlock : goal.returns-in-Unlock
 unfolding stops guarded_in_value name_of_target
 returns-in-Unlock c = λ k on.
-    in_writes _ _ _ on Unlock c.in-Unlock.is _ _ _ refl refl refl (breaks_kind _ _ Unlock c.in-Unlock.is _ _ (c.breaks-in-Unlock.ensures c.args.given k on))
+    in_writes _ _ _ on Unlock c.in-Unlock.is _ _ _ refl refl refl (breaks_kind _ _ Unlock c.in-Unlock.is _ _ (c.breaks-in-Unlock.ensures c.args.given k c.args.seen.now.locals.now on))

@@ -25,7 +25,7 @@ pub returns-in-Load : goal.returns-in-Load
 unfolding demand_met breaks guarded_in_value name_of_target name_of_a
 returns-in-Load c =
     let kind = c.in-Load.is in
-    λ k guard. rw c.four-in-Load.ensures (asks_in _ _ _ _ _ Load kind guard (rw kind c.item.ensures) refl refl c.local_name-in-Load.ensures)
+    λ k guard. rw c.four-in-Load.ensures (asks_in _ _ _ _ _ Load kind guard (rw kind (c.item.ensures c.args.seen.now.locals.now)) refl refl c.local_name-in-Load.ensures)
 
 pub returns-in-Input : goal.returns-in-Input
 unfolding demand_met breaks guarded_in_value name_of_target
@@ -35,7 +35,7 @@ pub returns-in-Assert : goal.returns-in-Assert
 unfolding demand_met guarded_in_value name_of_target
 returns-in-Assert c =
     let kind = c.in-Assert.is in
-    λ k guard. asks_in _ _ _ _ _ Assert kind guard (c.bit_of.ensures ∙ ap (λ (x : ℕ). bit (nonzero x)) (c.expression_of-in-Assert.ensures _ _ _ _ _ c.args.seen.now.counts.few_items (ap has_expression kind))) refl (breaks_kind _ _ Assert kind _ _ (c.breaks.ensures c.args.value k guard)) refl
+    λ k guard. asks_in _ _ _ _ _ Assert kind guard (c.bit_of.ensures ∙ ap (λ (x : ℕ). bit (nonzero x)) (c.expression_of-in-Assert.ensures _ _ _ _ _ c.args.seen.now.counts.few_items (ap has_expression kind))) refl (breaks_kind _ _ Assert kind _ _ (c.breaks.ensures c.args.value k c.args.seen.now.locals.now guard)) refl
 
 pub returns-in-Assume : goal.returns-in-Assume
 unfolding demand_met breaks guarded_in_value name_of_target
@@ -47,10 +47,10 @@ pub returns-in-Lock : goal.returns-in-Lock
 unfolding breaks guarded_in_value name_of_target
 returns-in-Lock c =
     let kind = c.in-Lock.is in
-    λ k guard. asks_in _ _ _ _ _ Lock kind guard (c.holder.ensures k) (lock_in _ _ _ guard _ (rw kind c.item-in-Lock.ensures)) refl refl
+    λ k guard. asks_in _ _ _ _ _ Lock kind guard (c.holder.ensures k) (lock_in _ _ _ guard _ (rw kind (c.item-in-Lock.ensures c.args.seen.now.locals.now))) refl refl
 
 pub returns-in-Unlock : goal.returns-in-Unlock
 unfolding demand_met guarded_in_value name_of_target
 returns-in-Unlock c =
     let kind = c.in-Unlock.is in
-    λ k guard. asks_in _ _ _ _ _ Unlock kind guard refl refl (breaks_kind _ _ Unlock kind _ _ (c.breaks-stranger.ensures c.args.value k guard)) refl
+    λ k guard. asks_in _ _ _ _ _ Unlock kind guard refl refl (breaks_kind _ _ Unlock kind _ _ (c.breaks-stranger.ensures c.args.value k c.args.seen.now.locals.now guard)) refl

@@ -24,7 +24,7 @@ pub returns-in-Store : goal.returns-in-Store
 unfolding demand_met guarded_out_value name_of_target
 returns-in-Store c =
     let kind = c.in-Store.is in
-    λ k guard. rw c.four-in-Store.ensures (asks_out _ _ _ _ _ Store kind guard (rw kind c.item.ensures) refl refl refl)
+    λ k guard. rw c.four-in-Store.ensures (asks_out _ _ _ _ _ Store kind guard (rw kind (c.item.ensures c.args.seen.now.locals.now)) refl refl refl)
 
 pub returns-in-Assert : goal.returns-in-Assert
 unfolding demand_met guarded_out_value name_of_target
@@ -37,7 +37,7 @@ returns-in-Assume c = λ k guard. asks_out _ _ _ _ _ Assume c.in-Assume.is guard
 pub returns-in-Lock : goal.returns-in-Lock
 unfolding demand_met guarded_out_value name_of_target
 returns-in-Lock c =
-    let kept = c.item-in-Lock.ensures in
+    let kept = c.item-in-Lock.ensures c.args.seen.now.locals.now in
     λ k guard. rw c.four-in-Lock.ensures
     (elim c.in-Lock.is [
       | inl kind ↦ asks_out _ _ _ _ _ Lock kind guard (rw kind kept) (lock_out _ _ c.args.value guard) refl refl
