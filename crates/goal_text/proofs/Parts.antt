@@ -12,7 +12,7 @@ use Rattle.laws.proofs.Counting.{sum_from}
 use Rattle.laws.proofs.RecordSums.{lines_add_up, records_from, records_all, records_more, records_none}
 use Rattle.goal_text.specs.Goal.{has_part, parts_of}
 
-bit_at_most_one : (p : Bool) → bit p ≤ 1
+pub bit_at_most_one : (p : Bool) → bit p ≤ 1
 bit_at_most_one true = omega arith
 bit_at_most_one false = omega arith
 
